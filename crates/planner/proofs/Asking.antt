@@ -1,20 +1,18 @@
 -- The answer to a command that reads.
-use Rattle.std.proofs.Common.{◌≡◌, ℕ, zero, suc, Bool, true, false, List, [], ◌∷◌, length, map, Option, Some, None, is_some, refl, sym, ◌∙◌, ap, arith}
+use Rattle.std.proofs.Common.{◌≡◌, ℕ, zero, suc, Bool, true, false, List, [], ◌∷◌, length, map, Option, Some, None, is_some, refl, ◌∙◌, ap, arith}
 use Rattle.std.specs.Prelude.{slice_get, slice_set, option_and_then}
 use Rattle.std.specs.Option.{option_flatten, option_map_or}
-use Rattle.std.proofs.lemmas.Bool.{false≢true, leb-true}
+use Rattle.std.proofs.lemmas.Bool.{leb-true}
 use Rattle.std.proofs.lemmas.Option.{none-some}
 use Rattle.scql_base.specs.declared.words.Actor.{Actor}
 use Rattle.scql_base.specs.declared.words.Actor.TheVariants.{Public}
 use Rattle.scql_base.specs.declared.operation.Command.{Command}
 use Rattle.scql_base.specs.declared.operation.Operation.{Operation}
 use Rattle.scql_base.specs.declared.operation.Operation.TheVariants.{DeclareCursor, OpenCursor, Next, Fetch, FetchNext, GetResponse}
-use Rattle.scql_base.specs.declared.operation.OperationKind.{OperationKind}
-use Rattle.scql_base.specs.declared.operation.OperationKind.TheVariants as kind
-use Rattle.scql_model.specs.Machine.{Machine, Session, Reading, Chain, no_reading, session_of, open_channels, base, actor_of, actor}
+use Rattle.scql_model.specs.Machine.{Machine, Session, Reading, no_reading, session_of, open_channels, base, actor_of, actor}
 use Rattle.scql_model.specs.Sessions.{with_session, changing_session, command_chain, reading_of, reading_so, without_chain}
 use Rattle.scql_model.specs.Operations.{operations, comes_in_parts, kind_of, has_secrets}
-use Rattle.scql_model.specs.Form.{a_command, parts_of}
+use Rattle.scql_model.specs.Form.{a_command}
 use Rattle.scql_model.specs.Spelling.{IsTaken, octets_of, part_count, field_of, fits}
 use Rattle.scql_model.specs.ReadingCommands.{ReadingCommand, reading_command, Move}
 use Rattle.scql_model.specs.Moves.{move_of}
@@ -22,6 +20,7 @@ use Rattle.scql_model.specs.Step.{Answer, stepped, step}
 use Rattle.scql_model.proofs.CommandsAgain.{command-again}
 use Rattle.scql_model.proofs.PartsAgain.{part-one, parts_some, parts_least}
 use Rattle.scql_model.proofs.LinesFound.{HasLine-operations}
+use Rattle.scql_model.proofs.ReadFits.{no_parts}
 use Rattle.scql_model.proofs.ReadingSteps.{ended-actor, ended-reading, stepped-reading}
 use Rattle.scql_model.proofs.ChangingSessions.{changing_session-set}
 use Rattle.script.specs.Commands.{IsSendable}
@@ -38,13 +37,6 @@ open-there [] i x is = absurd (none-some x is)
 open-there (None ∷ xs) zero x is = absurd (none-some x is)
 open-there (Some y ∷ xs) zero x is = refl
 open-there (first ∷ xs) (suc i) x is = open-there xs i x is
-
--- what doesn't come in parts has none before it
-pub no-chain : (asked : OperationKind) (chain : Option Chain) → comes_in_parts asked ≡ false → parts_of asked chain ≡ []
-no-chain asked None alone = refl
-no-chain kind.Insert (Some chain) alone = absurd (false≢true (sym alone))
-no-chain kind.Update (Some chain) alone = absurd (false≢true (sym alone))
-no-chain asked (Some chain) alone = refl
 
 -- no reading command comes in parts
 no-part : (operation : Operation) (le : Option ℕ) (command : ReadingCommand) → reading_command operation le ≡ Some command → comes_in_parts (kind_of operation) ≡ false
@@ -82,7 +74,7 @@ unfolding step
 answer-whole m c s can alone taken there =
     answer-one m c (one-part c alone can.fitting)
     ∙ ap (stepped m) (command-again operations m.committed.limit c can.formed (HasLine-operations (kind_of c.operation)) taken
-    (open_channels m) (command_chain m) (open-there m.sessions c.channel s there) (no-chain (kind_of c.operation) (command_chain m c.channel) alone))
+    (open_channels m) (command_chain m) (open-there m.sessions c.channel s there) (no_parts (kind_of c.operation) (command_chain m c.channel) alone))
 
 -- the step of a reading command on an open channel
 answer-stepped : (m : Machine) (c : Command) (s : Session) (command : ReadingCommand) → IsSendable c → reading_command c.operation c.le ≡ Some command → session_of m c.channel ≡ Some s

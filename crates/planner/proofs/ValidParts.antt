@@ -24,11 +24,10 @@ use Rattle.scql_model.specs.ValidMachine.{IsValidMachine}
 use Rattle.scql_model.specs.WellFormed.{HasForm, FitsCard}
 use Rattle.scql_model.proofs.FormedCommands.{both, read-operation, has_channel, wants_le, is_sound, same_Ok, bound, not_refused, on_channel, no_part, line-passes, sound-operations, for_channel-form_of}
 use Rattle.scql_model.proofs.KeepsRows.{within_largest}
-use Rattle.scql_model.proofs.ReadFits.{command-fits}
+use Rattle.scql_model.proofs.ReadFits.{command-fits, no_parts}
 use Rattle.scql_model.proofs.TailsAgain.{IsLe, tail, tail-again, data-again}
 use Rattle.scql_model.proofs.ValidSteps.{IsValidAnswer, valid-stepped}
 use Rattle.planner.specs.Meaning.{answer_to}
-use Rattle.planner.proofs.Asking.{no-chain}
 use Rattle.planner.proofs.InTurn.{answer-holds}
 
 -- An Le is written as one of 1 to 256 is.
@@ -92,7 +91,7 @@ fields-read table cla ins p1 p2 field le channels chain limit c sound least few 
     go false channel line found number few is = record {
       form = command-form (has_secrets table) channel line.kind limit (parts_of line.kind (chain channel)) found c least number is;
       fits = command-fits (has_secrets table) channel line.kind limit (parts_of line.kind (chain channel)) found c least number few
-          (no-chain line.kind (chain channel)) is;
+          (no_parts line.kind (chain channel)) is;
     }
 
 -- A part of a command.

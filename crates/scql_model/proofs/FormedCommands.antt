@@ -231,7 +231,7 @@ tail-read (lc ∷ x ∷ rest) tail octets is = go (lc == 0) is
     go true is = absurd (none-some tail is)
     go false is = data-read lc (x ∷ rest) tail (λ i. octets (suc i)) is
 
--- a line of a table as the operations have it
+-- which operations take Le alone
 abbrev pub wants_le : OperationKind → Bool
 wants_le kind.Fetch = true
 wants_le kind.FetchNext = true
@@ -239,7 +239,7 @@ wants_le (kind.OpenChannel number) = number == 0
 wants_le kind.GetResponse = true
 wants_le asked = false
 
-wants_le-of : (asked : OperationKind) → WantsLe asked → wants_le asked ≡ true
+pub wants_le-of : (asked : OperationKind) → WantsLe asked → wants_le asked ≡ true
 wants_le-of asked is = go is.0 is.1 is.2
   where
     so : (k : OperationKind) → wants_le k ≡ true → k ≡ asked → wants_le asked ≡ true
@@ -252,6 +252,7 @@ wants_le-of asked is = go is.0 is.1 is.2
     go (suc (suc (suc zero))) lt same = so kind.GetResponse refl same
     go (suc (suc (suc (suc k)))) lt same = absurd (omega (arith, lt))
 
+-- a line of a table as the operations have it
 abbrev pub is_sound : Line → Bool
 is_sound l = has_channel l.kind && (not (wants_le l.kind) || is_le_alone l.takes)
 

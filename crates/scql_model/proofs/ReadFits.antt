@@ -24,7 +24,7 @@ use Rattle.scql_model.specs.Parameters.{Choice, conditions_in, choice_in, create
 use Rattle.scql_model.specs.WellFormed.{FitsCard}
 use Rattle.scql_model.specs.Refusals.{or_refused, provided}
 use Rattle.scql_model.specs.Machine.{Chain}
-use Rattle.scql_model.specs.Operations.{kind_of, goes_on, comes_in_parts, is_le_alone, has_secrets}
+use Rattle.scql_model.specs.Operations.{kind_of, comes_in_parts, is_le_alone, has_secrets}
 use Rattle.scql_model.specs.Form.{Tail, le_of, data_of, tail_of, takes_case, is_case_3, data_in, is_chained, channel_asked, line_on, taken_in, parts_of, a_command, part_in, command_in, form_of}
 use Rattle.scql_model.proofs.FieldLaws.{AreOctets}
 use Rattle.scql_model.proofs.FormedCommands.{both, passed, found, read-operation, has_channel, wants_le, is_sound, same_Ok, bound, not_refused, on_channel, no_part, line-passes}
@@ -163,15 +163,12 @@ taken-short takes is_part after tail octets is =
     bound (provided (takes_case takes read && (not is_part || is_case_3 read)) wrong_length) _ tail is (λ taken at_taken same.
     subst (λ (t : Tail). length (data_in t) ≤ 255) (same_Ok read tail same) (tail-short after read octets (not_refused (tail_of after) wrong_length read at))))
 
--- what doesn't come in parts has none
-goes_on-alone : (asked other : OperationKind) → comes_in_parts asked ≡ false → goes_on asked other ≡ false
-goes_on-alone kind.Insert other alone = absurd (false≢true (sym alone))
-goes_on-alone kind.Update other alone = absurd (false≢true (sym alone))
-goes_on-alone asked other alone = refl
-
-no_parts : (asked : OperationKind) (chain : Option Chain) → comes_in_parts asked ≡ false → parts_of asked chain ≡ []
+-- what doesn't come in parts has none before it
+pub no_parts : (asked : OperationKind) (chain : Option Chain) → comes_in_parts asked ≡ false → parts_of asked chain ≡ []
 no_parts asked None alone = refl
-no_parts asked (Some chain) alone = rw (goes_on-alone asked chain.operation alone) refl
+no_parts kind.Insert (Some chain) alone = absurd (false≢true (sym alone))
+no_parts kind.Update (Some chain) alone = absurd (false≢true (sym alone))
+no_parts asked (Some chain) alone = refl
 
 pub command-fits : (secrets : Bool) (channel : ℕ) (asked : OperationKind) (limit : ℕ) (parts : List (List ℕ)) (tail : Tail) (c : Command) → limit ≤ 1020 → has_channel asked ≡ true
     → length (data_in tail) ≤ 255 → (comes_in_parts asked ≡ false → parts ≡ []) → command_in secrets channel asked limit parts tail ≡ Ok (a_command c) → FitsCard limit c.operation

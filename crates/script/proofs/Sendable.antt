@@ -1,14 +1,13 @@
 -- Each command of a statement that is read can be sent.
-use Rattle.std.proofs.Common.{◌≡◌, ℕ, zero, suc, ◌≤◌, ◌<◌, nat_le, nat_lt, Bool, true, false, List, [], ◌∷◌, Option, Some, None, Ok, Err, IfSome, IfOk, if◌then◌else◌, get_or, refl, sym, ◌∙◌, subst, ◌==◌, lit≤, arith}
+use Rattle.std.proofs.Common.{◌≡◌, ℕ, ◌≤◌, nat_le, nat_lt, Bool, true, false, List, [], Option, Some, None, Ok, Err, IfSome, IfOk, if◌then◌else◌, refl, sym, ◌∙◌, ◌==◌, lit≤, arith}
 use Rattle.std.proofs.lemmas.Bool.{false≢true, le-leb, ne_eqb, not-false, or_parts}
 use Rattle.scql_base.specs.declared.operation.Operation.{Operation}
 use Rattle.scql_base.specs.declared.operation.Operation.TheVariants.{CreateTable, CreateView, CreateDictionary, CreateUser, DropTable, DropView, Grant, Revoke, Insert, DeleteUser, PresentUser, Verify, Begin, Commit, Rollback, DeclareCursor, OpenCursor, Next, Fetch, FetchNext, GetResponse, Update, Delete, OpenChannel, CloseChannel}
-use Rattle.scql_base.specs.declared.operation.OperationKind.{OperationKind}
-use Rattle.scql_base.specs.declared.operation.OperationKind.TheVariants as kind
 use Rattle.scql_base.specs.Row.{row_size}
-use Rattle.scql_model.specs.Operations.{WantsLe, is_for_channel, kind_of}
+use Rattle.scql_model.specs.Operations.{is_for_channel, kind_of}
 use Rattle.scql_model.specs.Spelling.{fits}
 use Rattle.scql_model.specs.WellFormed.{HasForm}
+use Rattle.scql_model.proofs.FormedCommands.{wants_le, wants_le-of}
 use Rattle.script.specs.declared.fault.ScriptFault.TheVariants.{TooLarge}
 use Rattle.script.specs.declared.statement.Statement.{Statement}
 use Rattle.script.specs.declared.statement.Statement.TheVariants.{Blank, Single, Select, UpdateRows, DeleteRows, OpenNumber, CloseNumber, UseNumber, Reset}
@@ -18,27 +17,6 @@ use Rattle.script.specs.Sizes.{has_long_row, is_operation_too_large, is_too_larg
 use Rattle.script.specs.Line.{is_nothing, judged, statement_of}
 use Rattle.script.specs.Commands.{asking, wanting, IsSendable, CanBeSent, CanAlwaysBeSent}
 use Rattle.script.proofs.FormedRules.{HasFields, IsFormed, whole-reads}
-
--- which operations take Le alone
-abbrev wants_le : OperationKind → Bool
-wants_le kind.Fetch = true
-wants_le kind.FetchNext = true
-wants_le (kind.OpenChannel number) = number == 0
-wants_le kind.GetResponse = true
-wants_le asked = false
-
-wants_le-of : (asked : OperationKind) → WantsLe asked → wants_le asked ≡ true
-wants_le-of asked is = go is.0 is.1 is.2
-  where
-    so : (k : OperationKind) → wants_le k ≡ true → k ≡ asked → wants_le asked ≡ true
-    so k wants same = subst (λ (k : OperationKind). wants_le k ≡ true) same wants
-
-    go : (k : ℕ) → k < 4 → get_or (kind.Fetch ∷ kind.FetchNext ∷ kind.OpenChannel 0 ∷ kind.GetResponse ∷ []) k asked ≡ asked → wants_le asked ≡ true
-    go zero lt same = so kind.Fetch refl same
-    go (suc zero) lt same = so kind.FetchNext refl same
-    go (suc (suc zero)) lt same = so (kind.OpenChannel 0) refl same
-    go (suc (suc (suc zero))) lt same = so kind.GetResponse refl same
-    go (suc (suc (suc (suc k)))) lt same = absurd (omega (arith, lt))
 
 pub asked-sent : (channel : ℕ) (operation : Operation) → channel ≤ 3 → is_for_channel channel (kind_of operation) ≡ true → wants_le (kind_of operation) ≡ false
     → HasForm operation → fits (asking channel operation) ≡ true → IsSendable (asking channel operation)
