@@ -1,16 +1,15 @@
 -- What a run owes that ended so, by what is told of the lines that were handed to its responder.
-use Rattle.std.proofs.Common.{◌≡◌, ◌⊎◌, inl, inr, ℕ, ◌<◌, ◌≤◌, Bool, true, false, List, [], ◌∷◌, ◌++◌, length, take, Option, Result, Ok, Err, refl, sym, ap, subst, ◌∙◌, arith, length-append}
+use Rattle.std.proofs.Common.{◌≡◌, inl, inr, ℕ, ◌<◌, ◌≤◌, Bool, true, false, List, [], ◌∷◌, ◌++◌, length, take, Option, Result, Ok, Err, refl, sym, ap, subst, ◌∙◌, arith, length-append}
 use Rattle.std.proofs.lemmas.Bool.{ne_eqb}
 use Rattle.std.proofs.Math.Seq.{take-append_seam}
 use Rattle.std.specs.Prelude.{map, OnOk, IfErr, IsErrOf}
 use Rattle.eeprom.specs.Chip.{Chip, Becomes}
-use Rattle.eeprom.specs.Output.{Prints}
 use Rattle.scql_model.specs.Heard.{IsLawful}
 use Rattle.scql_model.specs.Lines.{Language, line_effect, lines, run_text, state_after, taken_line}
 use Rattle.line_input.specs.declared.input.InputEnd.{InputEnd}
 use Rattle.line_input.specs.declared.input.InputEnd.TheVariants.{Ended, ReadFault, TooLong, Stopped}
-use Rattle.line_input.specs.Cutting.{open_end, taken_lines, is_empty_line}
-use Rattle.line_input.specs.Reading.{IsCutShort, IsRead, StopsIn, longest_input}
+use Rattle.line_input.specs.Cutting.{open_end, is_empty_line}
+use Rattle.line_input.specs.Reading.{IsCutShort, IsRead, longest_input}
 use Rattle.line_input.proofs.CutLines.{is_empty_line-taken_line, lines-line_feed, lines-open}
 use Rattle.line_run.specs.declared.line_stop.LineStop.{LineStop}
 use Rattle.line_run.specs.declared.line_stop.LineStop.TheVariants.{Eeprom, Outlet, Both, NoMemory}

@@ -1,6 +1,5 @@
 -- What is told of the lines that were handed on is what the run owes.
 use Rattle.line_run.proofs.Ending.{read-runs}
-use Rattle.line_run.proofs.run.run_lines.Given as given
 use Rattle.line_run.proofs.run.run_lines.Goals as goal
 
 pub returns-clause-runs : goal.returns-clause-runs
