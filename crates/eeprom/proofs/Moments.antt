@@ -1,7 +1,7 @@
--- The moments of writes: what a power loss may leave from one on.
+-- The moments of writes and of pieces of output: what a power loss may leave from one on.
 use Rattle.std.proofs.Common.{◌≡◌, ◌⊎◌, inl, inr, ℕ, zero, suc, ◌+◌, ◌≤◌, List, [], ◌∷◌, ◌++◌, length, drop, Option, Some, None, MatchOption, IfSome, sym, refl, ap, ◌∙◌, arith, subst}
 use Rattle.std.proofs.lemmas.Option.{same_Some}
-use Rattle.eeprom.specs.Chip.{Chip, Stretch, writing, MayLeave, LeftIn, LeftSince, MayBeLeftSince, Writes, Throughout}
+use Rattle.eeprom.specs.Chip.{Chip, Stretch, writing, giving, MayLeave, LeftIn, LeftSince, MayBeLeftSince, Writes, Gives, IsInPiece, Throughout}
 use Rattle.eeprom.specs.Image.{IsTorn}
 use Rattle.eeprom.proofs.Replayed.{overwrite-own}
 
@@ -115,6 +115,60 @@ write-throughout at octets old new P clocked w torn = record {
       subst (λ (g : ℕ). P g image) (sym mark) (torn was.0 image was.1 was.2);
 }
 
+-- a moment before a piece of output stays one
+gives-stays : (old new : Chip) → IfSome old.past (λ past. length past ≡ old.clock) → Gives old new → (t g : ℕ) (left : List ℕ) → t ≤ old.clock → MayBeLeftSince old t g left → MayBeLeftSince new t g left
+gives-stays old new clocked gives t g left since there = may-be-left new t g left (λ past told.
+    let from = gives.past past told in
+    let was = may-be-cases old t g left there from.0 from.1 in
+    let within : t ≤ length from.0 = omega (arith, since, rw (from.1) at clocked) in
+    elim (from.2) [
+      | inl more ↦
+          let stretch = giving more.0 old.still.mark new.still.mark in
+          let longer : LeftIn (drop t from.0 ++ stretch ∷ []) g left = left-in-longer (drop t from.0) stretch g left (elim was [
+            | inl now ↦ inr (omega (arith, now.1), omega (arith, now.1, gives.mark), same_Some left more.0 (sym now.0 ∙ more.1))
+            | inr before ↦ inl before
+          ]) in
+          inr (subst (λ (past : List Stretch). LeftIn (drop t past) g left) (sym more.2) (subst (λ (past : List Stretch). LeftIn past g left) (sym (drop-more t from.0 stretch within)) longer))
+      | inr none ↦ elim was [
+        | inl now ↦ inl (none.1 ∙ now.0, now.1 ∙ sym none.2)
+        | inr before ↦ inr (subst (λ (past : List Stretch). LeftIn (drop t past) g left) (sym none.0) before)
+      ]
+    ])
+
+-- while a piece of output goes out, the image stays
+pub gives-throughout : (old new : Chip) → IfSome old.past (λ past. length past ≡ old.clock) → Gives old new → Throughout old new (IsInPiece old new.still.mark)
+gives-throughout old new clocked gives = record {
+  later = gives.later;
+  only = λ t g left since there.
+      let case = left-cases new t g left there in
+      let told = gives.past case.0 case.1 in
+      let within : t ≤ length told.0 = omega (arith, since, rw (told.1) at clocked) in
+      elim case.2 [
+        | inl now ↦ inr (omega (arith, gives.mark, now.1), omega (arith, now.1), sym gives.image ∙ now.0)
+        | inr past ↦ elim (told.2) [
+          | inl more ↦
+              let longer : LeftIn (drop t told.0 ++ giving more.0 old.still.mark new.still.mark ∷ []) g left =
+              rw (drop-more t told.0 (giving more.0 old.still.mark new.still.mark) within) at (rw (more.2) at past) in
+              elim (left-in-more (drop t told.0) (giving more.0 old.still.mark new.still.mark) g left longer) [
+                | inl before ↦ inl (left-told old told.0 t g left told.1 before)
+                | inr during ↦ inr (during.0, during.1, more.1 ∙ ap Some (sym during.2))
+              ]
+          | inr none ↦ inl (left-told old told.0 t g left told.1 (rw (none.0) at past))
+        ]
+      ];
+  stays = gives-stays old new clocked gives;
+  now = λ image told. (gives.mark, omega arith, sym gives.image ∙ told);
+}
+
+-- nothing happens
+pub throughout-same : (chip : Chip) (P : ℕ → List ℕ → Type 0) → ((image : List ℕ) → chip.image ≡ Some image → P chip.still.mark image) → Throughout chip chip P
+throughout-same chip P now = record {
+  later = omega arith;
+  only = λ t g left since there. inl there;
+  stays = λ t g left since there. there;
+  now = now;
+}
+
 -- one run of calls, and then another
 pub throughout-then : (old mid new : Chip) (P : ℕ → List ℕ → Type 0) → Throughout old mid P → Throughout mid new P → Throughout old new P
 throughout-then old mid new P first second = record {
@@ -137,3 +191,8 @@ throughout-weaker old new P Q all weaker = record {
   stays = all.stays;
   now = λ image told. weaker new.still.mark image (all.now image told);
 }
+
+-- one run of calls, and then another, each with moments of its own
+pub throughout-both : (old mid new : Chip) (P Q R : ℕ → List ℕ → Type 0) → Throughout old mid P → Throughout mid new Q
+    → ((g : ℕ) (left : List ℕ) → P g left → R g left) → ((g : ℕ) (left : List ℕ) → Q g left → R g left) → Throughout old new R
+throughout-both old mid new P Q R first second of_first of_second = throughout-then old mid new R (throughout-weaker old mid P R first of_first) (throughout-weaker mid new Q R second of_second)

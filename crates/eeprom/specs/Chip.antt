@@ -85,6 +85,10 @@ pub record Gives (old new : Chip) : Type 0 where
   pub later : old.clock ≤ new.clock
   pub past : GoesOn (λ image. giving image old.still.mark new.still.mark) old new
 
+-- while a piece of output goes out, up to this mark: the image stays
+abbrev pub IsInPiece : Chip → ℕ → ℕ → List ℕ → Type 0
+IsInPiece old to g left = (old.still.mark ≤ g) × (g ≤ to) × (old.image ≡ Some left)
+
 -- from old on to new, each image that a power loss may leave has P; and each moment that was stays one
 pub record Throughout (old new : Chip) (P : ℕ → List ℕ → Type 0) : Type 0 where
   pub later : old.clock ≤ new.clock

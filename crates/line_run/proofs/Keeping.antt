@@ -1,13 +1,12 @@
 -- What a power loss leaves of a run, line by line, is what is kept of its lines.
 use Rattle.std.proofs.Common.{◌≡◌, inl, inr, ℕ, suc, ◌+◌, ◌-◌, ◌≤◌, List, [], ◌∷◌, ◌++◌, length, refl, sym, ap, subst, ◌∙◌, arith, append-nil, append_assoc, length-append}
 use Rattle.eeprom.specs.Chip.{Chip, Throughout}
-use Rattle.eeprom.proofs.Moments.{throughout-weaker}
+use Rattle.eeprom.proofs.Moments.{throughout-weaker, throughout-both}
 use Rattle.scql_model.specs.Heard.{IsKept, IsLawful}
 use Rattle.scql_model.specs.Lines.{Language, line_effect, line_step, line_text, run_text, state_after}
 use Rattle.scql_model.proofs.Hearing.{kept-after, kept-answered, kept-failing, kept-idle, kept-same}
 use Rattle.line_run.specs.declared.line_stop.LineStop.{LineStop}
 use Rattle.line_run.specs.declared.line_stop.LineStop.TheVariants.{Eeprom, Outlet, Both, NoMemory}
-use Rattle.line_run.specs.AnswersLaws.{throughout-both}
 use Rattle.line_run.specs.Extent.{AreKept, carried_out, stopped_in}
 use Rattle.line_run.specs.Moments.{IsAmong, IsInAnswered, IsInLine, IsInStopped, Passes}
 

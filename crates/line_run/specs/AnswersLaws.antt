@@ -1,17 +1,16 @@
 -- Lemmas, in specs/ since what hands lines to a responder cites them as its laws: no line leaves a responder as it is, and lines and then others are answered as all of them.
-use Rattle.std.proofs.Common.{◌≡◌, ◌⊎◌, inl, inr, ℕ, ◌+◌, ◌≤◌, List, [], ◌∷◌, ◌++◌, length, Option, Some, None, refl, sym, ap, subst, ◌∙◌, arith, append-nil, append_assoc, length-append}
+use Rattle.std.proofs.Common.{◌≡◌, inl, inr, ℕ, ◌+◌, List, [], ◌∷◌, ◌++◌, length, Option, Some, None, refl, sym, ap, subst, ◌∙◌, arith, append-nil, append_assoc, length-append}
 use Rattle.std.specs.Prelude.{IsSome, is_some, map}
-use Rattle.std.specs.List.{concat}
-use Rattle.eeprom.specs.Chip.{Chip, Throughout}
+use Rattle.eeprom.specs.Chip.{Chip}
 use Rattle.eeprom.specs.Output.{Prints}
-use Rattle.eeprom.proofs.Moments.{throughout-then, throughout-weaker}
+use Rattle.eeprom.proofs.Moments.{throughout-both, throughout-same, throughout-weaker}
 use Rattle.scql_model.specs.Heard.{committed_in}
-use Rattle.scql_model.specs.Lines.{Language, line_effect, line_step, line_text, run_text, state_after, taken_line, texts}
+use Rattle.scql_model.specs.Lines.{Language, line_effect, line_step, line_text, run_text, state_after, taken_line}
 use Rattle.scql_model.specs.Opens.{Opens}
 use Rattle.line_run.specs.Answering.{Answered, IsOver}
 use Rattle.line_run.specs.Answers.{AnswersLines, AreAnswered}
 use Rattle.line_run.specs.Causes.{Faults}
-use Rattle.line_run.specs.Moments.{IfGiven, IsAmong, IsBetween, IsInAnswered, IsWithinOne, Passes}
+use Rattle.line_run.specs.Moments.{IsAmong, IsInAnswered, Passes}
 
 -- Text that goes out.
 
@@ -28,21 +27,6 @@ Prints-then first second a b c p q = λ all told.
 pub told-before : (text : List ℕ) (before now : Option (List ℕ)) → Prints text before now → IsSome now → IsSome before
 told-before text before None prints told = absurd cc
 told-before text before (Some all) prints told = let was = prints all refl in ap is_some was.1
-
--- Moments.
-
-pub throughout-both : (old mid new : Chip) (P Q R : ℕ → List ℕ → Type 0) → Throughout old mid P → Throughout mid new Q
-    → ((g : ℕ) (left : List ℕ) → P g left → R g left) → ((g : ℕ) (left : List ℕ) → Q g left → R g left) → Throughout old new R
-throughout-both old mid new P Q R first second of_first of_second = throughout-then old mid new R (throughout-weaker old mid P R first of_first) (throughout-weaker mid new Q R second of_second)
-
--- nothing happens
-throughout-same : (chip : Chip) (P : ℕ → List ℕ → Type 0) → ((image : List ℕ) → chip.image ≡ Some image → P chip.still.mark image) → Throughout chip chip P
-throughout-same chip P here = record {
-  later = omega arith;
-  only = λ t g left since there. inl there;
-  stays = λ t g left since there. there;
-  now = here;
-}
 
 -- Lines and then others.
 
