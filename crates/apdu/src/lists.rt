@@ -1,10 +1,7 @@
 // The lists of a data field: names, conditions, changes and the values of a row.
 ghost use Rattle.std.specs.Prelude.{◌≡◌, ◌≤◌, length, option_map};
-ghost use Rattle.std.specs.List.{list_any};
-ghost use Rattle.std.specs.Str.{bytes_eq};
 ghost use Rattle.scql_base.specs.declared.operation.TheConstants.Command.{LONGEST_IN_PARTS};
 ghost use Rattle.scql_base.specs.declared.row.TheConstants.Row.{LARGEST};
-ghost use Rattle.scql_model.specs.Database as database;
 ghost use Rattle.apdu.specs.Fields as fields;
 
 use scql_base::{
@@ -21,7 +18,7 @@ pub(crate) fn columns_in(octets: &[u8]) -> Option<NameList>
         names.push(Name::read(string)?).ok()?;
         rest = after;
     }
-    if rest.is_empty() && names.len() != 0 && are_different(names.as_slice()) {
+    if rest.is_empty() && names.len() != 0 && names.are_different() {
         Some(names)
     } else {
         None
@@ -39,30 +36,11 @@ pub(crate) fn names_in(count: usize, octets: &[u8]) -> Option<(NameList, &[u8])>
         names.push(Name::read(string)?).ok()?;
         rest = after;
     }
-    if are_different(names.as_slice()) {
+    if names.are_different() {
         Some((names, rest))
     } else {
         None
     }
-}
-
-fn are_different(names: &[Name]) -> bool
-    ensures { result ≡ database.are_different names.now }
-{
-    let mut rest = names;
-    while let [name, others @ ..] = rest {
-        if is_among(name, others) {
-            return false;
-        }
-        rest = others;
-    }
-    true
-}
-
-fn is_among(name: &Name, names: &[Name]) -> bool
-    ensures { result ≡ list_any (bytes_eq name.now) names.now }
-{
-    names.iter().any(|other| name.octets() == other.octets())
 }
 
 // At most eight conditions, to the end.
@@ -124,7 +102,7 @@ pub(crate) fn changes_in(octets: &[u8]) -> Option<PackedChanges>
         prove!(pushed);
         rest = after;
     }
-    if rest.is_empty() && columns.len() != 0 && are_different(columns.as_slice()) {
+    if rest.is_empty() && columns.len() != 0 && columns.are_different() {
         Some(changes)
     } else {
         None

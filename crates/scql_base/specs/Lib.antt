@@ -1,5 +1,6 @@
 pub mod Changes
 pub mod Codes
+pub mod Different
 pub mod Lists
 pub mod Name
 pub mod Octets

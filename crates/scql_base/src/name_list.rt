@@ -1,5 +1,8 @@
 // Lists of names, as the columns of a table.
 ghost use Rattle.std.specs.Prelude.{◌≡◌, ◌<◌, ◌↔◌, [], ◌∷◌, ◌++◌, IsOk, IsSome, OnOk, OnErr, length, option_copied, slice_get};
+ghost use Rattle.std.specs.List.{list_any};
+ghost use Rattle.std.specs.Str.{bytes_eq};
+ghost use Rattle.scql_base.specs.Different as different;
 ghost use Rattle.scql_base.specs.Lists.{AreNames};
 ghost use Rattle.scql_base.specs.declared.name_list.TheConstants.NameList.{MOST};
 
@@ -62,6 +65,28 @@ impl NameList {
         self.held.as_slice()
     }
 
+    /// Whether a name is one of them.
+    pub fn contains(&self, name: &Name) -> bool
+        ensures { result ≡ list_any (bytes_eq name.now) self.now }
+    {
+        is_among(name, self.as_slice())
+    }
+
+    /// Whether no name is in the list twice.
+    pub fn are_different(&self) -> bool
+        ensures different { result ≡ different.are_different self.now }
+        ensures list { AreNames self.now }
+    {
+        let mut rest = self.as_slice();
+        while let [name, others @ ..] = rest {
+            if is_among(name, others) {
+                return false;
+            }
+            rest = others;
+        }
+        true
+    }
+
     /// Adds a name at the end. A full list stays as it is.
     pub fn push(&mut self, name: Name) -> Result<(), ListFull>
         ensures variant { IsOk result ↔ (length self.old < MOST) }
@@ -86,4 +111,10 @@ impl NameList {
         }
         NameList { held }
     }
+}
+
+fn is_among(name: &Name, names: &[Name]) -> bool
+    ensures { result ≡ list_any (bytes_eq name.now) names.now }
+{
+    names.iter().any(|other| name.octets() == other.octets())
 }

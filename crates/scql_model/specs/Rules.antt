@@ -7,6 +7,7 @@ use Rattle.eeprom.specs.Slots.{Rises}
 use Rattle.scql_base.specs.declared.records.TheConstants.Object.{LONGEST}
 use Rattle.scql_base.specs.declared.records.TheConstants.User.{ALL_TRIES}
 use Rattle.scql_base.specs.declared.name.TheConstants.Name.{OWNER, PUBLIC}
+pub use Rattle.scql_base.specs.Different.{are_apart_by, are_different}
 use Rattle.scql_base.specs.Row.{row_size}
 use Rattle.scql_base.specs.declared.words.Profile.{Profile}
 use Rattle.scql_base.specs.declared.words.Profile.TheVariants.{DbO, Dboo, Dbbu}
@@ -20,15 +21,6 @@ use Rattle.scql_base.specs.declared.records.RowRecord.{RowRecord}
 use Rattle.scql_model.specs.Objects.{columns_of, deepest, depth_of}
 pub use Rattle.scql_model.specs.Objects.{object_stamped}
 use Rattle.scql_model.specs.Records.{user_record, grant_record, row_record, object_spelling, object_fits}
-
--- no element is the same as a later one, by a test of two
-abbrev pub are_apart_by : {X : Type 0} → (X → X → Bool) → List X → Bool
-are_apart_by same [] = true
-are_apart_by same (x ∷ xs) = not (list_any (same x) xs) && are_apart_by same xs
-
--- whether texts are different
-abbrev pub are_different : List (List ℕ) → Bool
-are_different names = are_apart_by bytes_eq names
 
 -- whether each name is that of a column
 abbrev pub are_among : List (List ℕ) → List (List ℕ) → Bool
