@@ -1,5 +1,5 @@
 -- A plan under way on a link: what is left of its run, and how the link goes on with it.
-use Rattle.std.specs.Prelude.{◌≡◌, ℕ, suc, List, [], ◌∷◌, ◌++◌, length, Option, Some, None}
+use Rattle.std.specs.Prelude.{◌≡◌, ℕ, suc, List, [], ◌∷◌, ◌++◌, Option, Some, None}
 use Rattle.scql_model.specs.Database.{Database}
 use Rattle.scql_model.specs.Lives.{after_all}
 use Rattle.scql_model.specs.Machine.{Machine}
