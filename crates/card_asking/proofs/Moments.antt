@@ -1,7 +1,7 @@
 -- Moments that follow one another, and the databases that they have.
-use Rattle.std.proofs.Common.{◌≡◌, ℕ, List, [], ◌∷◌, ◌++◌, IfSome, ◌∙◌, subst, inl, inr, arith}
+use Rattle.std.proofs.Common.{◌≡◌, ℕ, List, [], ◌∷◌, ◌++◌, IfSome, ◌∙◌, subst, inl, inr}
 use Rattle.eeprom.specs.Chip.{Chip}
-use Rattle.eeprom.proofs.Moments.{throughout-then, throughout-weaker}
+use Rattle.eeprom.proofs.Moments.{throughout-same, throughout-then, throughout-weaker}
 use Rattle.scql_model.specs.Database.{Database}
 use Rattle.scql_model.specs.Opens.{Opens}
 use Rattle.card_link.specs.Link.{IsOneOf, LeavesOpen}
@@ -42,9 +42,4 @@ leaves-both chip P old mid new first second = throughout-then (chip old) (chip m
 -- before anything is done the image opens to the machine's database
 pub leaves-none : {L : Type 0} (chip : L → Chip) (mark : L → ℕ) (P : ℕ → Database → Type 0) (l : L) (db : Database) → mark l ≡ (chip l).still.mark → IfSome (chip l).image (λ image. Opens image db) → P (mark l) db
     → LeavesOpen P (chip l) (chip l)
-leaves-none chip mark P l db marks opens holds = record {
-  later = omega arith;
-  only = λ t g left before since. inl since;
-  stays = λ t g left before since. since;
-  now = λ image told. (db, rw told at opens, subst (λ (g : ℕ). P g db) marks holds);
-}
+leaves-none chip mark P l db marks opens holds = throughout-same (chip l) _ (λ image told. (db, rw told at opens, subst (λ (g : ℕ). P g db) marks holds))

@@ -1,5 +1,5 @@
 -- The writing of a chain: its start, a step, and its moments.
-use Rattle.std.proofs.Common.{◌≡◌, inl, ℕ, zero, suc, ◌+◌, ◌*◌, ◌-◌, ◌≤◌, Bool, List, [], length, slice_range, Option, Some, None, is_some, option_map, IfSome, sym, refl, ap, ◌∙◌, arith, subst, true≢false}
+use Rattle.std.proofs.Common.{◌≡◌, ℕ, zero, suc, ◌+◌, ◌*◌, ◌-◌, ◌≤◌, Bool, List, [], length, slice_range, Option, Some, None, is_some, option_map, IfSome, sym, refl, ap, ◌∙◌, arith, subst, true≢false}
 use Rattle.eeprom.specs.Chip.{Chip, Writes, Becomes, RisesBy}
 use Rattle.eeprom.specs.Image.{overwrite, IsTorn}
 use Rattle.eeprom.specs.StoreOf.{chain_of, cell_place}
@@ -7,6 +7,7 @@ use Rattle.cell_store.specs.Marks.{IsFreeRun, StaysMarked}
 use Rattle.cell_store.specs.Placed.{Keeping, IsPlaced, IsLaid, KeepsMarked}
 use Rattle.cell_store.specs.Runs.{run_first, run_octets, run_marked, run_linked}
 use Rattle.cell_store.proofs.Cells.{Keeping-torn, Keeping-then, Keeping-same}
+use Rattle.eeprom.proofs.Leaves.{leaves-same}
 use Rattle.eeprom.proofs.Moments.{write-throughout, throughout-then}
 use Rattle.eeprom.proofs.Overwrite.{map-some}
 use Rattle.cell_store.proofs.Runs.{placed-run}
@@ -37,15 +38,7 @@ placed-start n marks payload count first links image none = λ now told. (
 )
 
 pub keeps-start : (marks : List Bool) (n : ℕ) (chip : Chip) → KeepsMarked marks n chip chip
-keeps-start marks n chip = record {
-  still = refl;
-  moments = record {
-    later = omega arith;
-    only = λ t g left since there. inl there;
-    stays = λ t g left since there. there;
-    now = λ image told. (refl, image, told, Keeping-same marks n image);
-  };
-}
+keeps-start marks n chip = record { still = refl; moments = leaves-same _ chip chip refl (Keeping-same marks n) }
 
 pub is_some-map : {A B : Type 0} (f : A → B) (o : Option A) → is_some (option_map f o) ≡ is_some o
 is_some-map f None = refl

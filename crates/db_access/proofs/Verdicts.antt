@@ -7,6 +7,7 @@ use Rattle.std.proofs.lemmas.Bool.{cases_Bool, eq-eqb, le-ltb}
 use Rattle.eeprom.specs.Chip.{Chip, Still}
 use Rattle.eeprom.specs.Slots.{Rises, replaced}
 use Rattle.eeprom.proofs.Moments.{throughout-then, throughout-weaker}
+use Rattle.eeprom.proofs.Leaves.{Keeps-none}
 use Rattle.record_store.specs.Held.{Held}
 use Rattle.record_store.specs.declared.side.Side.{Side}
 use Rattle.record_store.specs.declared.side.Side.TheVariants.{Committed}
@@ -26,7 +27,7 @@ use Rattle.record_table.specs.Listed.{at_slot, listed, slots_of}
 use Rattle.record_table.specs.Making.{IsHeld}
 use Rattle.record_table.specs.declared.stop.Stop.{Stop}
 use Rattle.record_table.specs.declared.stop.Stop.TheVariants.{Refused, Fault}
-use Rattle.record_table.proofs.AtRest.{leaves-kept, Keeps-none}
+use Rattle.record_table.proofs.AtRest.{leaves-kept}
 use Rattle.db_access.specs.Verifying.{Verifies, octets_for_verdict, presenting, verdict}
 
 -- the user of a stamp that was found on a side is the database's

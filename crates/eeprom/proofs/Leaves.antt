@@ -1,12 +1,26 @@
 -- What a power loss may leave from one call on to another.
-use Rattle.std.proofs.Common.{◌≡◌, inl, inr, ℕ, List, length, Option, Some, IfSome, refl, ap, ◌∙◌, subst, arith}
-use Rattle.eeprom.specs.Chip.{Chip, Writes, Becomes, LeavesOf}
+use Rattle.std.proofs.Common.{◌≡◌, inl, inr, ℕ, List, length, Option, Some, IfSome, refl, sym, ap, ◌∙◌, subst, arith}
+use Rattle.eeprom.specs.Chip.{Chip, Writes, Becomes, LeavesOf, Keeps}
 use Rattle.eeprom.specs.Image.{IsTorn}
-use Rattle.eeprom.proofs.Moments.{write-throughout}
+use Rattle.eeprom.proofs.Moments.{throughout-same, write-throughout}
 
 -- what is told has what holds of it where it is told
 pub at-told : (P : List ℕ → Type 0) (image : Option (List ℕ)) (was : List ℕ) → image ≡ Some was → IfSome image P → P was
 at-told P image was told holds = subst (λ (image : Option (List ℕ)). IfSome image P) told holds
+
+-- nothing happens
+pub leaves-same : (P : List ℕ → List ℕ → Type 0) (old new : Chip) → new ≡ old → ((was : List ℕ) → P was was) → LeavesOf P old new
+leaves-same P old new same holds =
+    subst (λ (chip : Chip). LeavesOf P old chip) (sym same) (throughout-same old _ (λ image told. (refl, image, told, holds image)))
+
+pub Keeps-none : {A : Type 0} (look : List ℕ → A) (old new : Chip) → new ≡ old → Keeps look old new
+Keeps-none look old new same = subst (Keeps look old) (sym same) (record {
+  still = refl;
+  image = λ after told. (after, told, refl);
+  later = omega arith;
+  only = λ t g left since there. inl there;
+  stays = λ t g left since there. there;
+})
 
 -- a write, done or not
 pub write-leaves : (at : ℕ) (octets : List ℕ) (old new : Chip) → IfSome old.past (λ past. length past ≡ old.clock) → Writes at octets old new → LeavesOf (λ was left. IsTorn was at (length octets) left) old new

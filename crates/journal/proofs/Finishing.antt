@@ -1,5 +1,5 @@
 -- A redo and a commit, from the EEPROM before to the one behind.
-use Rattle.std.proofs.Common.{◌≡◌, inl, ℕ, ◌≤◌, false, List, [], ◌∷◌, length, Option, Some, None, option_map, IfSome, refl, sym, ap, ◌∙◌, subst, arith}
+use Rattle.std.proofs.Common.{◌≡◌, ℕ, ◌≤◌, false, List, [], ◌∷◌, length, Option, Some, None, option_map, IfSome, refl, sym, ap, ◌∙◌, subst, arith}
 use Rattle.std.proofs.lemmas.Option.{same_Some}
 use Rattle.eeprom.specs.Chip.{Chip, Writes, Becomes, LeavesOf}
 use Rattle.eeprom.specs.Frame.{HasRoom}
@@ -18,15 +18,6 @@ use Rattle.journal.proofs.Committing.{IsJournaled, IsOpened, journaled-torn, jou
 pub if-told : (P : List ℕ → Type 0) (image : Option (List ℕ)) → ((was : List ℕ) → image ≡ Some was → P was) → IfSome image P
 if-told P None holds = tt
 if-told P (Some was) holds = holds was refl
-
--- an EEPROM that is the same
-pub leaves-same : (P : List ℕ → List ℕ → Type 0) (old new : Chip) → new ≡ old → ((was : List ℕ) → P was was) → LeavesOf P old new
-leaves-same P old new same holds = subst (λ (chip : Chip). LeavesOf P old chip) (sym same) (record {
-  later = omega arith;
-  only = λ t g left since there. inl there;
-  stays = λ t g left since there. there;
-  now = λ image told. (refl, image, told, holds image);
-})
 
 pub long-enough : (n : ℕ) (chip : Chip) (was : List ℕ) → HasRoom n chip → IfSome chip.image (λ image. length image ≡ chip.still.size) → chip.image ≡ Some was → image_size n ≤ length was
 long-enough n chip was room sized told = omega (arith, at-told (λ image. length image ≡ chip.still.size) chip.image was told sized, room)

@@ -1,11 +1,11 @@
 -- The moments of a migration.
-use Rattle.std.proofs.Common.{◌≡◌, inl, ℕ, ◌≤◌, false, true, List, [], ◌∷◌, length, Option, Some, None, IfSome, option_map, sym, refl, ap, ◌∙◌, subst, arith}
+use Rattle.std.proofs.Common.{◌≡◌, ℕ, ◌≤◌, false, true, List, [], ◌∷◌, length, Option, Some, None, IfSome, option_map, sym, refl, ap, ◌∙◌, subst, arith}
 use Rattle.std.proofs.lemmas.Option.{same_Some}
 use Rattle.eeprom.specs.Chip.{Chip, Writes, Becomes, LeavesOf}
 use Rattle.eeprom.specs.Image.{overwrite, IsTorn}
 use Rattle.eeprom.proofs.Leaves.{at-told, write-leaves, leaves-weaker, leaves-then}
 use Rattle.migrate.specs.Migration.{has_even_version, IsMigrated, IsBetweenVersions}
-use Rattle.migrate.proofs.Versions.{IsLimited, limit-torn, limited, version-torn, migrated, between-none, migrated-none}
+use Rattle.migrate.proofs.Versions.{IsLimited, limit-torn, limited, version-torn, migrated, migrated-none}
 
 long-enough : (old : Chip) (was : List ℕ) → 11 ≤ old.still.size → IfSome old.image (λ image. length image ≡ old.still.size) → old.image ≡ Some was → 11 ≤ length was
 long-enough old was room sized told = let size = at-told (λ image. length image ≡ old.still.size) old.image was told sized in omega arith
@@ -49,15 +49,6 @@ version-there old mid new octets is there written after told =
       from.1,
       subst (λ (image : List ℕ). IsMigrated from.0 image) (sym (between.2 ∙ ap (λ (octets : List ℕ). overwrite between.0 5 octets) is)) (migrated from.0 between.0 from.2),
     )
-
--- nothing is written
-pub leaves-none : (old new : Chip) → new ≡ old → LeavesOf IsBetweenVersions old new
-leaves-none old new same = subst (λ (new : Chip). LeavesOf IsBetweenVersions old new) (sym same) (record {
-  later = omega arith;
-  only = λ t g left since there. inl there;
-  stays = λ t g left since there. there;
-  now = λ image told. (refl, image, told, between-none image);
-})
 
 pub migrated-already : (old new : Option (List ℕ)) → new ≡ old → IfSome old (λ image. has_even_version image ≡ false) → Becomes IsMigrated old new
 migrated-already old new same odd after told =

@@ -35,16 +35,6 @@ use Rattle.record_table.proofs.Steps.{some-told, told-image}
 pub opens-same : (was left : List ℕ) → store_of left ≡ store_of was → (db : Database) → Opens was db → Opens left db
 opens-same was left same db opens = record { store = opens.store; stored = same ∙ opens.stored; limit = opens.limit; holds = opens.holds; valid = opens.valid }
 
--- where nothing is written, all stays
-pub Keeps-none : {A : Type 0} (look : List ℕ → A) (old new : Chip) → new ≡ old → Keeps look old new
-Keeps-none look old new same = subst (Keeps look old) (sym same) (record {
-  still = refl;
-  image = λ after told. (after, told, refl);
-  later = omega arith;
-  only = λ t g left since there. inl there;
-  stays = λ t g left since there. there;
-})
-
 -- the records of a side in the image that is told
 pub contents-told : (store : Held) (side : Side) (chip : Chip) (slots : Slots) → slots_of store side chip ≡ Some slots → (image : List ℕ) → chip.image ≡ Some image → contents store side image ≡ Some slots
 contents-told store side chip slots told image is = rw is at told
