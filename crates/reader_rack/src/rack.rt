@@ -29,10 +29,10 @@ use eeprom::{Outlet, SinkFault};
 /// How many readers a rack has.
 const READERS: usize = 4;
 
-/// Up to four cards in readers of their own, and the outlet of what is printed. A line goes to the current reader.
+/// Up to four cards in readers of their own, and the outlet of what is printed. A line goes to the current reader. The links are of any kind, in boxes.
 #[derive(Drop)]
-pub struct Rack<O: Outlet> {
-    readers: [Reader<BoxedLink>; READERS],
+pub struct Rack<O: Outlet, L: CardLink = BoxedLink> {
+    readers: [Reader<L>; READERS],
     current: ReaderNumber,
     outlet: O,
 }
@@ -75,11 +75,13 @@ impl<O: Outlet> Rack<O> {
         self.readers[place].insert(BoxedLink::new(link));
         Ok(())
     }
+}
 
+impl<O: Outlet, L: CardLink> Rack<O, L> {
     /// Whether a reader holds a link that answers.
     pub fn live(&self, reader: u8) -> bool
         requires reader { IsReader reader }
-        ensures { result ≡ answers_at ⟦<BoxedLink as CardLink>⟧.is_live self.now.readers reader }
+        ensures { result ≡ answers_at L.is_live self.now.readers reader }
     {
         self.readers[usize::from(reader) - 1].live()
     }
@@ -101,10 +103,10 @@ impl<O: Outlet> Rack<O> {
     // Asks the current reader for what a line means.
     fn ask(&mut self, line: &[u8]) -> RackEnd
         requires short { length line.now ≤ longest_line }
-        ensures ends { (state : RackState) → IsRack ⟦<BoxedLink as CardLink>⟧.is_at ⟦<BoxedLink as CardLink>⟧.is_live self.old.readers self.old.current.number state
-            → EndsEffect (IsRack ⟦<BoxedLink as CardLink>⟧.is_at ⟦<BoxedLink as CardLink>⟧.is_live self.new.readers self.new.current.number) (λ fails. to_reader state state.current (asked (state.reader state.current) line.now fails)) result
+        ensures ends { (state : RackState) → IsRack L.is_at L.is_live self.old.readers self.old.current.number state
+            → EndsEffect (IsRack L.is_at L.is_live self.new.readers self.new.current.number) (λ fails. to_reader state state.current (asked (state.reader state.current) line.now fails)) result
             (O.given self.old.outlet) (O.given self.new.outlet) }
-        ensures asks { Asks ⟦<BoxedLink as CardLink>⟧.is_live ⟦<BoxedLink as CardLink>⟧.faults self.old.current.number result self.old.readers self.new.readers (O.sink_faults self.old.outlet) (O.sink_faults self.new.outlet) }
+        ensures asks { Asks L.is_live L.faults self.old.current.number result self.old.readers self.new.readers (O.sink_faults self.old.outlet) (O.sink_faults self.new.outlet) }
         ensures current { self.new.current ≡ self.old.current }
     {
         self.readers[usize::from(self.current.number) - 1].answer(&mut self.outlet, line)
@@ -113,12 +115,12 @@ impl<O: Outlet> Rack<O> {
     /// Reads a line of at most 1,000 octets, carries it out and prints what comes of it: the rack's own statement, or what it means to the current reader.
     pub fn line(&mut self, line: &[u8]) -> RackEnd
         requires short { length line.now ≤ longest_line }
-        ensures ends { (state : RackState) → IsRack ⟦<BoxedLink as CardLink>⟧.is_at ⟦<BoxedLink as CardLink>⟧.is_live self.old.readers self.old.current.number state
-            → EndsEffect (IsRack ⟦<BoxedLink as CardLink>⟧.is_at ⟦<BoxedLink as CardLink>⟧.is_live self.new.readers self.new.current.number) (rack_effect state (Some line.now)) result (O.given self.old.outlet) (O.given self.new.outlet) }
+        ensures ends { (state : RackState) → IsRack L.is_at L.is_live self.old.readers self.old.current.number state
+            → EndsEffect (IsRack L.is_at L.is_live self.new.readers self.new.current.number) (rack_effect state (Some line.now)) result (O.given self.old.outlet) (O.given self.new.outlet) }
         ensures asks { statements.rack_statement line.now ≡ None
-            → Asks ⟦<BoxedLink as CardLink>⟧.is_live ⟦<BoxedLink as CardLink>⟧.faults self.old.current.number result self.old.readers self.new.readers (O.sink_faults self.old.outlet) (O.sink_faults self.new.outlet) × (self.new.current ≡ self.old.current) }
+            → Asks L.is_live L.faults self.old.current.number result self.old.readers self.new.readers (O.sink_faults self.old.outlet) (O.sink_faults self.new.outlet) × (self.new.current ≡ self.old.current) }
         ensures states { IfSome (statements.rack_statement line.now) (λ statement.
-            States ⟦<BoxedLink as CardLink>⟧.faults statement result self.old.readers self.new.readers (O.sink_faults self.old.outlet) (O.sink_faults self.new.outlet)) }
+            States L.faults statement result self.old.readers self.new.readers (O.sink_faults self.old.outlet) (O.sink_faults self.new.outlet)) }
         ensures selects { IfSome (statements.rack_statement line.now) (λ statement. self.new.current.number ≡ selected statement self.old.current.number) }
     {
         match rack_statement(line) {
@@ -129,8 +131,8 @@ impl<O: Outlet> Rack<O> {
 
     /// Says of a line that is longer than a line may be that it is refused.
     pub fn refuse_long_line(&mut self) -> RackEnd
-        ensures ends { (state : RackState) → IsRack ⟦<BoxedLink as CardLink>⟧.is_at ⟦<BoxedLink as CardLink>⟧.is_live self.old.readers self.old.current.number state
-            → EndsEffect (IsRack ⟦<BoxedLink as CardLink>⟧.is_at ⟦<BoxedLink as CardLink>⟧.is_live self.new.readers self.new.current.number) (rack_effect state None) result (O.given self.old.outlet) (O.given self.new.outlet) }
+        ensures ends { (state : RackState) → IsRack L.is_at L.is_live self.old.readers self.old.current.number state
+            → EndsEffect (IsRack L.is_at L.is_live self.new.readers self.new.current.number) (rack_effect state None) result (O.given self.old.outlet) (O.given self.new.outlet) }
         ensures printed { IsPrintedBy result (O.sink_faults self.old.outlet) (O.sink_faults self.new.outlet) }
         ensures readers { (self.new.readers ≡ self.old.readers) × (self.new.current ≡ self.old.current) }
     {
@@ -142,19 +144,19 @@ impl<O: Outlet> Rack<O> {
         requires reader { IsReader reader }
         ensures held { result ≡ holds_at self.old.readers reader }
         ensures aside { IsSetAside reader self.old.readers self.new.readers }
-        ensures ejects { (state : RackState) → IsRack ⟦<BoxedLink as CardLink>⟧.is_at ⟦<BoxedLink as CardLink>⟧.is_live self.old.readers self.old.current.number state
-            → (result ≡ is_held (state.reader reader)) × IsRack ⟦<BoxedLink as CardLink>⟧.is_at ⟦<BoxedLink as CardLink>⟧.is_live self.new.readers self.new.current.number (with_reader state reader (ejected (state.reader reader)).next) }
+        ensures ejects { (state : RackState) → IsRack L.is_at L.is_live self.old.readers self.old.current.number state
+            → (result ≡ is_held (state.reader reader)) × IsRack L.is_at L.is_live self.new.readers self.new.current.number (with_reader state reader (ejected (state.reader reader)).next) }
         ensures others { OthersStay reader self.old.readers self.new.readers }
-        ensures counts { (number : ℕ) → count_at ⟦<BoxedLink as CardLink>⟧.faults self.new.readers number ≡ count_at ⟦<BoxedLink as CardLink>⟧.faults self.old.readers number }
+        ensures counts { (number : ℕ) → count_at L.faults self.new.readers number ≡ count_at L.faults self.old.readers number }
         ensures rest { (self.new.current ≡ self.old.current) × (self.new.outlet ≡ self.old.outlet) }
     {
         self.readers[usize::from(reader) - 1].eject()
     }
 
     /// Lends a reader's link, to be put back. Until then the reader holds none, and its terminal stays.
-    pub fn take(&mut self, reader: u8) -> BoxedLink
+    pub fn take(&mut self, reader: u8) -> L
         requires reader { IsReader reader }
-        requires live { IsTrue (answers_at ⟦<BoxedLink as CardLink>⟧.is_live self.old.readers reader) }
+        requires live { IsTrue (answers_at L.is_live self.old.readers reader) }
         ensures link { link_at self.old.readers reader ≡ Some result }
         ensures lent { reader_at self.new.readers reader ≡ option_map lending (reader_at self.old.readers reader) }
         ensures others { OthersStay reader self.old.readers self.new.readers }
@@ -164,7 +166,7 @@ impl<O: Outlet> Rack<O> {
     }
 
     /// Puts a link that was lent back into its reader, as it has become.
-    pub fn put_back(&mut self, reader: u8, link: BoxedLink)
+    pub fn put_back(&mut self, reader: u8, link: L)
         requires reader { IsReader reader }
         requires lent { holds_at self.old.readers reader ≡ false }
         ensures holds { reader_at self.new.readers reader ≡ option_map (with_link link) (reader_at self.old.readers reader) }
@@ -177,19 +179,19 @@ impl<O: Outlet> Rack<O> {
     /// Sends a command to a reader's card. The reader's terminal is told how it was answered.
     pub fn exchange(&mut self, reader: u8, command: &[u8], reply: &mut Reply) -> Outcome
         requires reader { IsReader reader }
-        requires live { IsTrue (answers_at ⟦<BoxedLink as CardLink>⟧.is_live self.old.readers reader) }
-        ensures reply { (state : RackState) (at : TerminalState) → IsRack ⟦<BoxedLink as CardLink>⟧.is_at ⟦<BoxedLink as CardLink>⟧.is_live self.old.readers self.old.current.number state → state.reader reader ≡ sits at → result ≡ Outcome.Replied
+        requires live { IsTrue (answers_at L.is_live self.old.readers reader) }
+        ensures reply { (state : RackState) (at : TerminalState) → IsRack L.is_at L.is_live self.old.readers self.old.current.number state → state.reader reader ≡ sits at → result ≡ Outcome.Replied
             → reply.new ≡ (step at.machine command.now).reply }
-        ensures step { (state : RackState) (at : TerminalState) → IsRack ⟦<BoxedLink as CardLink>⟧.is_at ⟦<BoxedLink as CardLink>⟧.is_live self.old.readers self.old.current.number state → state.reader reader ≡ sits at → result ≡ Outcome.Replied
-            → IsRack ⟦<BoxedLink as CardLink>⟧.is_at ⟦<BoxedLink as CardLink>⟧.is_live self.new.readers self.new.current.number (with_reader state reader (sits (terminal_at (step at.machine command.now).machine at.channel))) }
-        ensures replied { result ≡ Outcome.Replied → (answers_at ⟦<BoxedLink as CardLink>⟧.is_live self.new.readers reader ≡ true) × (count_at ⟦<BoxedLink as CardLink>⟧.faults self.new.readers reader ≡ count_at ⟦<BoxedLink as CardLink>⟧.faults self.old.readers reader) }
-        ensures mute { result ≡ Outcome.Mute → (reply.new ≡ said memory_failure) × (answers_at ⟦<BoxedLink as CardLink>⟧.is_live self.new.readers reader ≡ false) }
-        ensures cause { result ≡ Outcome.Mute → Rose (count_at ⟦<BoxedLink as CardLink>⟧.faults self.old.readers reader) (count_at ⟦<BoxedLink as CardLink>⟧.faults self.new.readers reader) }
-        ensures mutes { (state : RackState) → IsRack ⟦<BoxedLink as CardLink>⟧.is_at ⟦<BoxedLink as CardLink>⟧.is_live self.old.readers self.old.current.number state → result ≡ Outcome.Mute
-            → IsRack ⟦<BoxedLink as CardLink>⟧.is_at ⟦<BoxedLink as CardLink>⟧.is_live self.new.readers self.new.current.number (with_reader state reader mute) }
-        ensures never_falls { count_at ⟦<BoxedLink as CardLink>⟧.faults self.old.readers reader ≤ count_at ⟦<BoxedLink as CardLink>⟧.faults self.new.readers reader }
-        ensures moments { IfSome (link_at self.old.readers reader) (λ link. IfSome (link_at self.new.readers reader) (λ later. (m : Machine) → ⟦<BoxedLink as CardLink>⟧.is_at link m
-            → LeavesOpen (IsOneOf (⟦<BoxedLink as CardLink>⟧.mark link) (m.committed ∷ (step m command.now).commits)) (⟦<BoxedLink as CardLink>⟧.chip link) (⟦<BoxedLink as CardLink>⟧.chip later))) }
+        ensures step { (state : RackState) (at : TerminalState) → IsRack L.is_at L.is_live self.old.readers self.old.current.number state → state.reader reader ≡ sits at → result ≡ Outcome.Replied
+            → IsRack L.is_at L.is_live self.new.readers self.new.current.number (with_reader state reader (sits (terminal_at (step at.machine command.now).machine at.channel))) }
+        ensures replied { result ≡ Outcome.Replied → (answers_at L.is_live self.new.readers reader ≡ true) × (count_at L.faults self.new.readers reader ≡ count_at L.faults self.old.readers reader) }
+        ensures mute { result ≡ Outcome.Mute → (reply.new ≡ said memory_failure) × (answers_at L.is_live self.new.readers reader ≡ false) }
+        ensures cause { result ≡ Outcome.Mute → Rose (count_at L.faults self.old.readers reader) (count_at L.faults self.new.readers reader) }
+        ensures mutes { (state : RackState) → IsRack L.is_at L.is_live self.old.readers self.old.current.number state → result ≡ Outcome.Mute
+            → IsRack L.is_at L.is_live self.new.readers self.new.current.number (with_reader state reader mute) }
+        ensures never_falls { count_at L.faults self.old.readers reader ≤ count_at L.faults self.new.readers reader }
+        ensures moments { IfSome (link_at self.old.readers reader) (λ link. IfSome (link_at self.new.readers reader) (λ later. (m : Machine) → L.is_at link m
+            → LeavesOpen (IsOneOf (L.mark link) (m.committed ∷ (step m command.now).commits)) (L.chip link) (L.chip later))) }
         ensures others { OthersStay reader self.old.readers self.new.readers }
         ensures rest { (self.new.current ≡ self.old.current) × (self.new.outlet ≡ self.old.outlet) }
     {
@@ -199,13 +201,13 @@ impl<O: Outlet> Rack<O> {
     /// Resets a reader's card, and the reader's terminal with it.
     pub fn reset(&mut self, reader: u8)
         requires reader { IsReader reader }
-        requires live { IsTrue (answers_at ⟦<BoxedLink as CardLink>⟧.is_live self.old.readers reader) }
-        ensures step { (state : RackState) (at : TerminalState) → IsRack ⟦<BoxedLink as CardLink>⟧.is_at ⟦<BoxedLink as CardLink>⟧.is_live self.old.readers self.old.current.number state → state.reader reader ≡ sits at
-            → IsRack ⟦<BoxedLink as CardLink>⟧.is_at ⟦<BoxedLink as CardLink>⟧.is_live self.new.readers self.new.current.number (with_reader state reader (sits (terminal_at (machine.reset at.machine) 0))) }
-        ensures live { answers_at ⟦<BoxedLink as CardLink>⟧.is_live self.new.readers reader ≡ true }
-        ensures count { count_at ⟦<BoxedLink as CardLink>⟧.faults self.new.readers reader ≡ count_at ⟦<BoxedLink as CardLink>⟧.faults self.old.readers reader }
-        ensures moments { IfSome (link_at self.old.readers reader) (λ link. IfSome (link_at self.new.readers reader) (λ later. (m : Machine) → ⟦<BoxedLink as CardLink>⟧.is_at link m
-            → LeavesOpen (Holds (⟦<BoxedLink as CardLink>⟧.mark link) m.committed) (⟦<BoxedLink as CardLink>⟧.chip link) (⟦<BoxedLink as CardLink>⟧.chip later))) }
+        requires live { IsTrue (answers_at L.is_live self.old.readers reader) }
+        ensures step { (state : RackState) (at : TerminalState) → IsRack L.is_at L.is_live self.old.readers self.old.current.number state → state.reader reader ≡ sits at
+            → IsRack L.is_at L.is_live self.new.readers self.new.current.number (with_reader state reader (sits (terminal_at (machine.reset at.machine) 0))) }
+        ensures live { answers_at L.is_live self.new.readers reader ≡ true }
+        ensures count { count_at L.faults self.new.readers reader ≡ count_at L.faults self.old.readers reader }
+        ensures moments { IfSome (link_at self.old.readers reader) (λ link. IfSome (link_at self.new.readers reader) (λ later. (m : Machine) → L.is_at link m
+            → LeavesOpen (Holds (L.mark link) m.committed) (L.chip link) (L.chip later))) }
         ensures others { OthersStay reader self.old.readers self.new.readers }
         ensures rest { (self.new.current ≡ self.old.current) × (self.new.outlet ≡ self.old.outlet) }
     {
@@ -226,9 +228,9 @@ impl<O: Outlet> Rack<O> {
     // Carries out one of the rack's own statements.
     fn state(&mut self, statement: RackStatement) -> RackEnd
         requires reader { IsReader (names_reader statement) }
-        ensures ends { (state : RackState) → IsRack ⟦<BoxedLink as CardLink>⟧.is_at ⟦<BoxedLink as CardLink>⟧.is_live self.old.readers self.old.current.number state
-            → EndsEffect (IsRack ⟦<BoxedLink as CardLink>⟧.is_at ⟦<BoxedLink as CardLink>⟧.is_live self.new.readers self.new.current.number) (λ fails. stated state statement) result (O.given self.old.outlet) (O.given self.new.outlet) }
-        ensures states { States ⟦<BoxedLink as CardLink>⟧.faults statement result self.old.readers self.new.readers (O.sink_faults self.old.outlet) (O.sink_faults self.new.outlet) }
+        ensures ends { (state : RackState) → IsRack L.is_at L.is_live self.old.readers self.old.current.number state
+            → EndsEffect (IsRack L.is_at L.is_live self.new.readers self.new.current.number) (λ fails. stated state statement) result (O.given self.old.outlet) (O.given self.new.outlet) }
+        ensures states { States L.faults statement result self.old.readers self.new.readers (O.sink_faults self.old.outlet) (O.sink_faults self.new.outlet) }
         ensures selects { self.new.current.number ≡ selected statement self.old.current.number }
     {
         match statement {

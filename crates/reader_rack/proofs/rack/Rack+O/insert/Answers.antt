@@ -1,6 +1,6 @@
 use Rattle.std.proofs.Common.{◌-◌, ◌∙◌, arith}
 use Rattle.reader_rack.proofs.Placed.{insert-count, insert-rack}
-use Rattle.reader_rack.proofs.rack.Rack.insert.Goals as goal
+use Rattle.reader_rack.proofs.rack.Rack+O.insert.Goals as goal
 
 pub returns-clause-inserts : goal.returns-clause-inserts
 returns-clause-inserts g c = λ state m rack at. insert-rack _ _ c.args.self.now.readers c.args.self.now.current.number c.args.reader (c.from-place.result - 1) c.insert.new.self c.new.result (omega (arith, c.from-place.ensures, c.requires.reader.0)) (omega arith)
