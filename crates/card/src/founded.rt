@@ -1,7 +1,5 @@
 // What tables and views rest on: columns that are different, and for a view a base.
 ghost use Rattle.std.specs.Prelude.{◌≡◌, ◌==◌, ◌&&◌, Some, is_some, map, nat_lt, option_copied};
-ghost use Rattle.std.specs.List.{list_any};
-ghost use Rattle.std.specs.Str.{bytes_eq};
 ghost use Rattle.eeprom.specs.Slots.{Rises};
 ghost use Rattle.scql_base.specs.declared.condition.Condition as declared;
 ghost use Rattle.scql_model.specs.Objects as objects;
@@ -11,7 +9,7 @@ ghost use Rattle.card.specs.KeptRecords.{stamp_of, objects_in};
 
 use crate::kept_records::KeptRecords;
 use crate::validity::find_object;
-use scql_base::{Condition, Name, NameList, Object, ObjectKind};
+use scql_base::{Condition, NameList, Object, ObjectKind};
 
 /// How many views there are at most between a table and what rests on it.
 const DEEPEST: usize = 4;
@@ -22,22 +20,16 @@ pub(crate) fn is_founded(records: &KeptRecords, object: &Object) -> bool
     ensures { result ≡ rules.is_founded (objects_in records.now.items) object.now }
 {
     match &object.kind {
-        ObjectKind::Table { columns } => are_different(columns.as_slice()),
+        ObjectKind::Table { columns } => columns.are_different(),
         ObjectKind::View {
             base,
             columns,
             conditions,
         } => {
-            are_different(columns.as_slice())
+            columns.are_different()
                 && match find_object(records, *base) {
                     Some(base) => {
-                        rests_on(
-                            records,
-                            object,
-                            columns.as_slice(),
-                            conditions.as_slice(),
-                            &base,
-                        )
+                        rests_on(records, object, columns, conditions.as_slice(), &base)
                     }
                     None => false,
                 }
@@ -50,7 +42,7 @@ pub(crate) fn is_founded(records: &KeptRecords, object: &Object) -> bool
 fn rests_on(
     records: &KeptRecords,
     view: &Object,
-    columns: &[Name],
+    columns: &NameList,
     conditions: &[Condition],
     base: &Object,
 ) -> bool
@@ -67,7 +59,7 @@ fn rests_on(
     if !may_have_view(records, base.stamp) {
         return false;
     }
-    are_named_among(all.as_slice(), columns, conditions)
+    are_named_among(all, columns, conditions)
 }
 
 // Whether a base is older than a view, and has the same owner.
@@ -107,47 +99,27 @@ fn may_have_view(records: &KeptRecords, stamp: u32) -> bool
 }
 
 // Whether columns and the columns of conditions are among those of a base.
-fn are_named_among(all: &[Name], columns: &[Name], conditions: &[Condition]) -> bool
+fn are_named_among(all: &NameList, columns: &NameList, conditions: &[Condition]) -> bool
     ensures { result ≡ rules.are_named_among all.now columns.now conditions.now }
 {
     are_among(columns, all) && are_conditions_among(conditions, all)
 }
 
 // Whether each name is that of a column.
-fn are_among(names: &[Name], columns: &[Name]) -> bool
+fn are_among(names: &NameList, columns: &NameList) -> bool
     ensures { result ≡ rules.are_among names.now columns.now }
 {
-    names.iter().all(|name| is_among(name, columns))
+    names.as_slice().iter().all(|name| columns.contains(name))
 }
 
 // Whether each condition is on a column.
-fn are_conditions_among(conditions: &[Condition], columns: &[Name]) -> bool
+fn are_conditions_among(conditions: &[Condition], columns: &NameList) -> bool
     ensures { result ≡ rules.are_among (map (λ (c : declared.Condition). c.column) conditions.now) columns.now }
 {
     for condition in conditions {
-        if !is_among(&condition.column, columns) {
+        if !columns.contains(&condition.column) {
             return false;
         }
     }
     true
-}
-
-// Whether names are different. There are at most 15.
-fn are_different(names: &[Name]) -> bool
-    ensures { result ≡ rules.are_different names.now }
-{
-    let mut rest = names;
-    while let [name, others @ ..] = rest {
-        if is_among(name, others) {
-            return false;
-        }
-        rest = others;
-    }
-    true
-}
-
-fn is_among(name: &Name, names: &[Name]) -> bool
-    ensures { result ≡ list_any (bytes_eq name.now) names.now }
-{
-    names.iter().any(|other| name.octets() == other.octets())
 }
