@@ -5,6 +5,7 @@ use Rattle.std.proofs.lemmas.Bool.{false≢true}
 use Rattle.eeprom.specs.Chip.{Chip, Becomes, Keeps, RisesAtMost, RisesBy}
 use Rattle.eeprom.specs.StoreOf.{store_of}
 use Rattle.eeprom.specs.declared.EepromFault.{EepromFault}
+use Rattle.eeprom.proofs.Leaves.{Keeps-none}
 use Rattle.record_store.specs.Held.{Held, contents, IsOver}
 use Rattle.record_store.specs.Transaction.{begun_from, entries, Commits, IsCommitted}
 use Rattle.record_store.specs.declared.side.Side.TheVariants.{Committed}
@@ -15,7 +16,7 @@ use Rattle.scql_model.specs.Edits.{Edit, applied, octets_for}
 use Rattle.scql_model.specs.Opens.{Opens}
 use Rattle.record_table.specs.Making.{IsHeld, Makes}
 use Rattle.record_table.specs.AtRest.{IsAtRest, LeavesOneOf}
-use Rattle.record_table.proofs.AtRest.{Keeps-none, held-committed, held-same, leaves-committed, leaves-kept, slots-rolled_back}
+use Rattle.record_table.proofs.AtRest.{held-committed, held-same, leaves-committed, leaves-kept, slots-rolled_back}
 use Rattle.card.specs.Changing.{Concludes, Changes, new_of, octets_of, commits_of}
 use Rattle.card.proofs.Leaving.{rises-none}
 

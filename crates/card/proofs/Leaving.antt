@@ -2,7 +2,7 @@
 use Rattle.std.proofs.Common.{◌≡◌, ℕ, List, ◌∷◌, Some, refl, sym, subst, inl, arith}
 use Rattle.eeprom.specs.Chip.{Chip, Becomes, RisesAtMost}
 use Rattle.eeprom.specs.StoreOf.{front_size, image_size}
-use Rattle.eeprom.proofs.Moments.{throughout-weaker}
+use Rattle.eeprom.proofs.Moments.{throughout-same, throughout-weaker}
 use Rattle.eeprom.proofs.SameFrom.{drop-from}
 use Rattle.record_store.specs.Recovery.{KeepsStore}
 use Rattle.scql_model.specs.Database.{Database, IsValid}
@@ -25,9 +25,6 @@ rises-none most old new same = λ after told. (after, subst (λ (chip : Chip). c
 
 -- and so does the database
 pub unwritten_leaves : (card : Kept) (old new : Chip) (m : Machine) (more : List Database) → StandsOver card old → HoldsMachine card old m → IsValid m.committed → new ≡ old → LeavesOneOf (m.committed ∷ more) old new
-unwritten_leaves card old new m more ready held valid same = subst (λ (chip : Chip). LeavesOneOf (m.committed ∷ more) old chip) (sym same) (record {
-  later = omega arith;
-  only = λ t g left since there. inl there;
-  stays = λ t g left since there. there;
-  now = λ image told. (refl, inl (Opens-held card old m ready held valid image told));
-})
+unwritten_leaves card old new m more ready held valid same =
+    subst (λ (chip : Chip). LeavesOneOf (m.committed ∷ more) old chip) (sym same)
+    (throughout-same old _ (λ image told. (refl, inl (Opens-held card old m ready held valid image told))))

@@ -8,6 +8,7 @@ use Rattle.eeprom.specs.Frame.{HasRoom}
 use Rattle.eeprom.specs.declared.EepromFault.{EepromFault}
 use Rattle.eeprom.specs.Chip.{Chip, Still, Becomes, Keeps, RisesAtMost, RisesBy}
 use Rattle.eeprom.specs.StoreOf.{image_size, store_of}
+use Rattle.eeprom.proofs.Leaves.{Keeps-none}
 use Rattle.record_store.specs.Held.{Held, contents, IsOver, StandsFor}
 use Rattle.record_store.specs.Transaction.{begun_from, entries, Commits, IsCommitted}
 use Rattle.record_store.specs.declared.side.Side.{Side}
@@ -42,7 +43,7 @@ use Rattle.card.specs.Acting.{acting}
 use Rattle.card.specs.Changing.{Changes, ConcludesWithin, new_of}
 use Rattle.card.specs.Waiting.{keeps_waiting}
 use Rattle.card.specs.Sessions.{proved_user}
-use Rattle.record_table.proofs.AtRest.{held-same, leaves-committed, leaves-kept, opens-rest, over-begun, same-slots, slots-committed, Keeps-none}
+use Rattle.record_table.proofs.AtRest.{held-same, leaves-committed, leaves-kept, opens-rest, over-begun, same-slots, slots-committed}
 use Rattle.apdu_chain.proofs.CarriedOut.{base-own, changed-own, committed-base, outcome_with}
 use Rattle.card.proofs.FreeCommands.{own-open}
 use Rattle.card.proofs.Leaving.{rises-none}

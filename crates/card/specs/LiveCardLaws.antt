@@ -2,7 +2,7 @@
 use Rattle.std.proofs.Common.{◌≡◌, ◌≤◌, ◌∙◌, ℕ, Bool, true, false, List, length, drop, Option, Some, None, IfSome, IsTrue, refl, sym, subst, inl, inr, [], ◌∷◌, ap, arith}
 use Rattle.eeprom.specs.Chip.{Chip, Gives, Keeps, Still, Throughout}
 use Rattle.eeprom.specs.StoreOf.{image_size}
-use Rattle.eeprom.proofs.Moments.{throughout-then, throughout-weaker}
+use Rattle.eeprom.proofs.Moments.{throughout-then, throughout-weaker, gives-throughout, throughout-same}
 use Rattle.scql_model.specs.Machine.{Machine, Transaction}
 use Rattle.scql_model.specs.ValidMachine.{IsValidMachine, IsValidWork}
 use Rattle.scql_model.specs.Database.{IsValid, Database}
@@ -10,7 +10,7 @@ use Rattle.card_link.specs.Link.{Gives as LinkGives, Holds, IsOneOf, IsOver, Lea
 use Rattle.card.specs.Behind.{KeepsBehind}
 use Rattle.card.specs.Card.{Kept}
 use Rattle.card.specs.LiveCard.{Lasts, LastsOn, OnBench, IsReadyAt}
-use Rattle.card.specs.GivenMoments.{behind-same, behind-gives, behind-keeps, behind-on, gives-throughout, throughout-same}
+use Rattle.card.specs.GivenMoments.{behind-same, behind-gives, behind-keeps, behind-on}
 use Rattle.scql_model.specs.Opens.{Opens, OpensToOneOf}
 use Rattle.record_table.specs.AtRest.{LeavesOneOf}
 use Rattle.card.specs.CardLaws.{IsReady-given, IsAt-given, Opens-at}

@@ -1,12 +1,11 @@
 -- What a run of `check` says of a card.
 use Rattle.std.proofs.Common.{◌≡◌, ◌⊎◌, inl, inr, ℕ, true, List, Option, refl, sym, ap, subst}
 use Rattle.std.specs.Prelude.{IsSome}
-use Rattle.eeprom.specs.Chip.{Chip, Still, Gives, Throughout}
-use Rattle.eeprom.proofs.Moments.{throughout-weaker}
+use Rattle.eeprom.specs.Chip.{Chip, Still, Gives, Throughout, IsInPiece}
+use Rattle.eeprom.proofs.Moments.{throughout-weaker, throughout-same}
 use Rattle.record_store.specs.Recovery.{KeepsStore}
 use Rattle.scql_model.specs.Database.{Database}
 use Rattle.card.specs.Counting.{check_text}
-use Rattle.card.specs.GivenMoments.{IsInPiece, throughout-same}
 use Rattle.program.specs.declared.status.Status.{Status}
 use Rattle.program.specs.declared.status.Status.TheVariants.{Done, Eeprom, WriteFault, NoMemory}
 use Rattle.card_run.specs.Beginning.{IsOpenTo}

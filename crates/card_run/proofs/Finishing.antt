@@ -9,10 +9,10 @@ use Rattle.scql_model.specs.Lines.{Language, lines, run_text, state_after}
 use Rattle.scql_model.proofs.FreshCard.{IsValid-fresh}
 use Rattle.scql_model.specs.Opens.{Opens}
 use Rattle.eeprom.specs.StoreOf.{store_of, is_gate_open, number_at}
-use Rattle.eeprom.proofs.Leaves.{leaves-then, leaves-last}
+use Rattle.eeprom.proofs.Leaves.{Keeps-none, leaves-last, leaves-same, leaves-then}
 use Rattle.eeprom.proofs.Moments.{throughout-then}
 use Rattle.journal.specs.Journal.{KeepsDirectory}
-use Rattle.journal.proofs.Finishing.{leaves-same, keeps-none}
+use Rattle.journal.proofs.Finishing.{keeps-none}
 use Rattle.journal.proofs.Outside.{rest-then}
 use Rattle.record_store.specs.Recovery.{KeepsStore}
 use Rattle.record_store.proofs.Fronts.{Keeps-then}
@@ -231,7 +231,7 @@ outside-then was mid left first second =
 -- nothing happens, or more is done
 pub keeps_same : (chip : Chip) → KeepsStore chip chip
 keeps_same chip = record {
-  keeps = record { still = refl; image = λ now told. (now, told, refl); later = omega arith; only = λ t g left since there. inl there; stays = λ t g left since there. there };
+  keeps = Keeps-none _ chip chip refl;
   rest = leaves-same KeepsOutside chip chip refl (λ was. keeps-none (number_at was 6) was);
   closed = nothing chip.image;
 }

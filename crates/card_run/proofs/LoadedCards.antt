@@ -1,15 +1,14 @@
 -- What a run of `load` makes of a card, and says of it.
 use Rattle.std.proofs.Common.{◌≡◌, ◌⊎◌, inl, inr, ℕ, ◌+◌, ◌≤◌, Bool, true, false, List, [], length, Option, refl, sym, ap, subst, ◌∙◌, arith, cond, append-nil}
 use Rattle.std.specs.Prelude.{IsSome, IfSome}
-use Rattle.eeprom.specs.Chip.{Chip, Still, Throughout}
+use Rattle.eeprom.specs.Chip.{Chip, Still, Throughout, IsInPiece}
 use Rattle.eeprom.proofs.Leaves.{at-told}
-use Rattle.eeprom.proofs.Moments.{throughout-weaker}
+use Rattle.eeprom.proofs.Moments.{throughout-weaker, throughout-both}
 use Rattle.record_store.specs.Recovery.{KeepsStore}
 use Rattle.scql_model.specs.Database.{Database}
 use Rattle.scql_model.specs.Lines.{state_after}
 use Rattle.scql_model.specs.Machine.{start}
 use Rattle.scql_model.specs.Opens.{Opens}
-use Rattle.card.specs.GivenMoments.{IsInPiece}
 use Rattle.card.specs.LiveCardLaws.{opens-at}
 use Rattle.planner.specs.StatementLines.{TerminalState, statement_lines}
 use Rattle.terminal.specs.Holding.{terminal_at}
@@ -29,7 +28,6 @@ use Rattle.card_run.specs.Run.{AnswersAll, IsQuiet}
 use Rattle.eeprom.specs.Output.{Prints}
 use Rattle.card_run.proofs.Asking.{eeprom-rose, unopened}
 use Rattle.card_run.proofs.LongerRows.{open-told}
-use Rattle.line_run.specs.AnswersLaws.{throughout-both}
 
 -- The script was carried out, and its text went out, or the start of it.
 

@@ -6,7 +6,7 @@ use Rattle.std.proofs.lemmas.List.Sums.{sum_by-append}
 use Rattle.eeprom.specs.Chip.{Chip, Still}
 use Rattle.eeprom.specs.Fault.{Rose}
 use Rattle.eeprom.proofs.InOrder.{count_by-cons}
-use Rattle.eeprom.proofs.Moments.{throughout-weaker}
+use Rattle.eeprom.proofs.Moments.{throughout-weaker, throughout-same, throughout-both}
 use Rattle.scql_model.specs.Database.{Database}
 use Rattle.scql_model.specs.Heard.{after_commits, commits_of}
 use Rattle.scql_model.specs.Lines.{line_effect, line_step, state_after, taken_line}
@@ -14,7 +14,6 @@ use Rattle.scql_model.specs.Machine.{Machine}
 use Rattle.scql_model.specs.Opens.{Opens, OpensToOneOf}
 use Rattle.script.specs.Line.{statement_of}
 use Rattle.card_link.specs.Link.{IsOneOf, LeavesOpen}
-use Rattle.card.specs.GivenMoments.{throughout-same}
 use Rattle.card.specs.LiveCard.{IsReadyAt, LastsOn}
 use Rattle.card.specs.LiveCardLaws.{lasts-same, lasts-then}
 use Rattle.planner.specs.declared.closing.Closing.{Closing}
@@ -24,7 +23,6 @@ use Rattle.terminal.specs.Holding.{Knows, terminal_at}
 use Rattle.terminal.specs.Load.{change_line, closings, delete_line, filling_lines, is_refused, load_counts, load_script, number_of, select_line}
 use Rattle.terminal.specs.Quiet.{closing_in}
 use Rattle.card_run.specs.Loading.{CarriesOut, FailsAmong, IsIn, IsInLines, Loader, PassesLines, refused_in}
-use Rattle.line_run.specs.AnswersLaws.{throughout-both}
 use Rattle.card_run.proofs.Sittings.{one-opens}
 
 -- Lines and then others.

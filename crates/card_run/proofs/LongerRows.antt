@@ -2,10 +2,10 @@
 use Rattle.std.proofs.Common.{◌≡◌, ◌⊎◌, inl, inr, ℕ, ◌+◌, ◌<◌, ◌≤◌, ◌==◌, Bool, true, false, if◌then◌else◌, List, ◌∷◌, length, drop, slice_index, get_or, get_or-take, get_or-drop, Option, Some, None, option_map, refl, sym, ap, subst, ◌∙◌, arith}
 use Rattle.std.specs.Prelude.{IsSome, IfSome, codes}
 use Rattle.std.proofs.lemmas.Bool.{cases_Bool, false≢true}
-use Rattle.eeprom.specs.Chip.{Chip, Still, Becomes, Gives, LeavesOf, Throughout}
+use Rattle.eeprom.specs.Chip.{Chip, Still, Becomes, Gives, LeavesOf, Throughout, IsInPiece}
 use Rattle.eeprom.specs.StoreOf.{store_of, row_limit, is_gate_open, image_size}
 use Rattle.eeprom.proofs.SameFrom.{drop-from}
-use Rattle.eeprom.proofs.Moments.{throughout-weaker, throughout-then}
+use Rattle.eeprom.proofs.Moments.{throughout-weaker, throughout-then, throughout-same, throughout-both}
 use Rattle.eeprom.proofs.Leaves.{at-told}
 use Rattle.migrate.specs.Migration.{KeepsAllElse, IsMigrated, IsBetweenVersions, with_rows_up_to}
 use Rattle.record_store.specs.Recovery.{KeepsStore}
@@ -18,7 +18,6 @@ use Rattle.card.specs.Behind.{KeepsBehind, own_cells}
 use Rattle.card.specs.Card.{Kept, IsReady, IsAt, committed_slots}
 use Rattle.card.proofs.Leaving.{Opens-at}
 use Rattle.card.proofs.Starting.{opens-same}
-use Rattle.card.specs.GivenMoments.{IsInPiece, throughout-same}
 use Rattle.program.specs.declared.status.Status.{Status}
 use Rattle.program.specs.declared.status.Status.TheVariants.{Done, Eeprom, WriteFault, NoMemory}
 use Rattle.card_run.specs.Beginning.{IsOpenTo}
@@ -28,7 +27,6 @@ use Rattle.card_run.specs.Run.{IsQuiet, AnswersAll}
 use Rattle.card.specs.GivenMoments.{behind-then}
 use Rattle.card_run.proofs.Asking.{unopened}
 use Rattle.card_run.proofs.Finishing.{kept_open}
-use Rattle.line_run.specs.AnswersLaws.{throughout-both}
 
 -- the image that is told opens to the database
 opens-told : (chip : Chip) (db : Database) (image : List ℕ) → IsOpenTo chip db → chip.image ≡ Some image → Opens image db

@@ -1,12 +1,11 @@
 -- Moments of a line: it is carried out, and then a piece of its answer goes out.
 use Rattle.std.proofs.Common.{◌≡◌, inl, ℕ, ◌+◌, ◌≤◌, List, ◌∷◌, length, IfSome, Some, refl, ap, subst, arith}
-use Rattle.eeprom.specs.Chip.{Chip, Still, Gives, Throughout}
+use Rattle.eeprom.specs.Chip.{Chip, Still, Gives, Throughout, IsInPiece}
+use Rattle.eeprom.proofs.Moments.{gives-throughout, throughout-same, throughout-both}
 use Rattle.scql_model.specs.Lines.{Effect, Language}
 use Rattle.scql_model.specs.Heard.{committed_in}
 use Rattle.scql_model.specs.Opens.{Opens, OpensToOneOf}
 use Rattle.card.specs.Answering.{LeavesOneOf}
-use Rattle.card.specs.GivenMoments.{IsInPiece, gives-throughout, throughout-same}
-use Rattle.line_run.specs.AnswersLaws.{throughout-both}
 use Rattle.line_run.specs.Moments.{IsInLine, IsInAnswered, IsAnswered}
 
 -- A line was carried out, and then a piece of its answer went out.

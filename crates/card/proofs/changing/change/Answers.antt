@@ -13,13 +13,14 @@ use Rattle.scql_model.specs.WellFormed.{FitsCard}
 use Rattle.record_table.specs.Making.{IsHeld, Ends}
 use Rattle.record_table.specs.declared.stop.Stop.TheVariants.{Fault}
 use Rattle.std.specs.Prelude.{IfSome, IsErrOf, Ok}
+use Rattle.eeprom.proofs.Leaves.{Keeps-none}
 use Rattle.scql_base.specs.Words.{done}
 use Rattle.record_table.specs.AtRest.{IsAtRest}
 use Rattle.card.specs.Acting.{acting}
 use Rattle.card.specs.Changing.{Changes}
 use Rattle.row_index.specs.Index.{Index, Indexes, is_above}
 use Rattle.card.proofs.IndexedStore.{HoldsSome-changed, Indexes-begun, Indexes-ended, Indexes-held, last-held, rest-concluded}
-use Rattle.record_table.proofs.AtRest.{held-begun, held-before, slots-committed, slots-rolled_back, over-begun, opens-rest, committed-begun, behind-changed, Keeps-none}
+use Rattle.record_table.proofs.AtRest.{held-begun, held-before, slots-committed, slots-rolled_back, over-begun, opens-rest, committed-begun, behind-changed}
 use Rattle.card.proofs.ChangedStore.{rest-rolled_back, Changes-failed, Changes-refused, Changes-half_committed, Changes-committed}
 use Rattle.card.proofs.ChangingOperations.{IsActorOf-acting}
 use Rattle.card.proofs.changing.change.Goals.{After-commit-in-Ok, After-make, After-rollback-in-Err-Refused}

@@ -1,8 +1,8 @@
 -- What goes out behind a count writes nothing.
 use Rattle.std.proofs.Common.{List, ℕ, ◌≡◌, ap, subst}
 use Rattle.eeprom.specs.Chip.{Chip}
+use Rattle.eeprom.proofs.Moments.{gives-throughout}
 use Rattle.card.specs.Behind.{KeepsBehind}
-use Rattle.card.specs.GivenMoments.{gives-throughout}
 use Rattle.card_run.specs.Migrating.{WritesNothing}
 use Rattle.card_run.proofs.CheckedCards.{nothing-given}
 use Rattle.card_run.proofs.checking.run_check.Goals as goal

@@ -1,10 +1,11 @@
 -- A card that replied was carried out to the end; a mute one leaves what it had committed by then.
 use Rattle.std.proofs.Common.{◌≡◌, false, ℕ, List, [], ◌+◌, ◌≤◌, length, Option, Some, refl, ap, subst, ◌∙◌, arith, inl}
 use Rattle.eeprom.specs.Chip.{Chip, Still, Throughout}
+use Rattle.eeprom.proofs.Moments.{gives-throughout}
 use Rattle.scql_model.specs.Machine.{Machine}
 use Rattle.scql_model.specs.Opens.{Opens}
 use Rattle.card.specs.Card.{IsAt}
-use Rattle.card.specs.GivenMoments.{behind-keeps, gives-throughout}
+use Rattle.card.specs.GivenMoments.{behind-keeps}
 use Rattle.line_run.specs.Moments.{IsInLine, IsInAnswered}
 use Rattle.scql_model.specs.Step.{step}
 use Rattle.card.proofs.Leaving.{Opens-at}

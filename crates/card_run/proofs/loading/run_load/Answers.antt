@@ -1,13 +1,12 @@
 -- A load over a card that was opened.
 use Rattle.std.proofs.lemmas.Bool.{false≢true}
 use Rattle.std.proofs.Common.{◌≡◌, true, ◌+◌, ◌≤◌, ℕ, nat_lt, List, length, ap, sym, subst, ◌∙◌, refl, arith, rules}
-use Rattle.eeprom.specs.Chip.{Still, Throughout}
+use Rattle.eeprom.specs.Chip.{Still, Throughout, IsInPiece}
 use Rattle.eeprom.specs.Fault.{Rose}
 use Rattle.scql_model.specs.Database.{Database}
 use Rattle.scql_model.specs.Machine.{Machine, start}
 use Rattle.card.specs.Behind.{KeepsBehind}
 use Rattle.card.specs.Card.{IsAt}
-use Rattle.card.specs.GivenMoments.{IsInPiece, gives-throughout}
 use Rattle.card.specs.LiveCard.{IsReadyAt, OnBench}
 use Rattle.planner.specs.StatementLines.{TerminalState}
 use Rattle.terminal.specs.Holding.{terminal_at}
@@ -22,6 +21,7 @@ use Rattle.card_run.specs.Loading.{IsIn, IsLoaded, Loader, LoadsTo, script_effec
 use Rattle.line_run.specs.Moments.{IfGiven}
 use Rattle.card_run.specs.Progress.{Reached, ShowsLoad}
 use Rattle.eeprom.specs.Output.{Prints}
+use Rattle.eeprom.proofs.Moments.{gives-throughout}
 use Rattle.card_run.specs.Watching.{IsWhole, PassesLoad}
 use Rattle.card.specs.GivenMoments.{behind-on}
 use Rattle.card_run.proofs.Finishing.{same_faults}

@@ -4,11 +4,11 @@ use Rattle.eeprom.specs.Chip.{Chip, Still, Throughout}
 use Rattle.scql_model.specs.Database.{Database}
 use Rattle.scql_model.specs.Migrating.{migrate_text}
 use Rattle.card.specs.Behind.{KeepsBehind, own_cells}
-use Rattle.card.specs.GivenMoments.{gives-throughout}
 use Rattle.card_run.specs.Beginning.{IsOpenTo}
 use Rattle.line_run.specs.CutOff.{IsCutShort}
 use Rattle.card_run.specs.Migrating.{KeepsOthers, LeavesLongRows, IsInMigration, IsMigratedFrom}
 use Rattle.eeprom.specs.Output.{Prints}
+use Rattle.eeprom.proofs.Moments.{gives-throughout}
 use Rattle.card_run.proofs.LongerRows.{long-untold, long-told, others-untold, others-told, leaves-between, silent-moments, told-moments, migration-behind, told-behind, migrated-from, migrated-same, text-migrated, left-some}
 use Rattle.card_run.proofs.migration.run_migration.Goals as goal
 use Rattle.card_run.proofs.migration.run_migration.Goals.{After-give as Told}

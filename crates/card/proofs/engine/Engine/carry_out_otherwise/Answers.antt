@@ -4,6 +4,7 @@ use Rattle.std.specs.Prelude.{IfOk, OnOk}
 use Rattle.eeprom.specs.Chip.{Chip}
 use Rattle.eeprom.specs.StoreOf.{image_size}
 use Rattle.eeprom.specs.declared.EepromFault.{EepromFault}
+use Rattle.eeprom.proofs.Leaves.{Keeps-none}
 use Rattle.scql_base.specs.Words.{conditions_not_satisfied}
 use Rattle.scql_base.specs.declared.words.StatusWord.{StatusWord}
 use Rattle.scql_base.specs.declared.operation.Command.{Command}
@@ -20,7 +21,6 @@ use Rattle.card.specs.Answering.{HoldsAnswer, LeavesFirstOfTwo, Performs, replie
 use Rattle.card.specs.Card.{Kept, HoldsMachine, IsAt, StandsOver}
 use Rattle.card.specs.Waiting.{keeps_waiting}
 use Rattle.card.proofs.OtherCommands.{IsChange-others, IsNoneOfThose}
-use Rattle.record_table.proofs.AtRest.{Keeps-none}
 use Rattle.card.proofs.Performing.{Performs-unwritten}
 use Rattle.apdu_chain.proofs.CarriedOut.{carried_out-arm, carried_out-waits, octets-arm}
 use Rattle.card.proofs.FreeCommands.{any-none, carried_out-changes, octets-carried_out, waiting-at, waits-changes}

@@ -3,6 +3,7 @@ use Rattle.std.proofs.Common.{◌≡◌, ◌≤◌, ◌∙◌, ℕ, min, List, [
 use Rattle.std.specs.Prelude.{OnOk, option_and_then}
 use Rattle.eeprom.specs.Chip.{Keeps}
 use Rattle.eeprom.specs.StoreOf.{image_size}
+use Rattle.eeprom.proofs.Leaves.{Keeps-none}
 use Rattle.scql_base.specs.declared.words.StatusWord.{StatusWord}
 use Rattle.scql_base.specs.Words.{done}
 use Rattle.scql_model.specs.Bound.{octets_bound}
@@ -21,7 +22,6 @@ use Rattle.card.specs.Answering.{HoldsAnswer, LeavesFirstOfTwo, Performs}
 use Rattle.card.specs.Sessions.{sessions_of}
 use Rattle.card.proofs.ReadingCosts.{on-then, reads-taken, reads-untaken}
 use Rattle.card.proofs.TakenForms.{form-card, step-taken, IsAt-taken, bound-taken, open-taken}
-use Rattle.record_table.proofs.AtRest.{Keeps-none}
 use Rattle.card.proofs.Performing.{HoldsAnswer-done, Performs-found, Performs-from, Performs-unwritten}
 use Rattle.card.proofs.Sides.{IsReady-none, IsReady-sessions, StandsOver-sessions}
 use Rattle.card.proofs.SeenSessions.{parts-unseen}
