@@ -8,6 +8,7 @@
 #include <stdarg.h>
 #include <stdlib.h>
 #include <string.h>
+#include <sys/file.h>
 #include <sys/mman.h>
 #include <sys/socket.h>
 #include <sys/stat.h>
@@ -121,6 +122,12 @@ int fsync(int file) {
     if (lies("unsynced") || lies("late")) return 0;
     if (lies("behind")) write_behind(file);
     return told(REAL(fsync)(file));
+}
+
+int flock(int file, int how) {
+    if (lies("unlocked")) return 0;
+    if (lies("shared")) how = (how & ~LOCK_EX) | LOCK_SH;
+    return REAL(flock)(file, how);
 }
 
 int open(const char *path, int flags, ...) {
