@@ -8,9 +8,11 @@ use Rattle.terminal.specs.Load.{load_counts}
 use Rattle.card_run.specs.declared.progress.Progress.{Progress}
 use Rattle.program.specs.declared.status.Status.{Status}
 use Rattle.card_run.specs.Ends.{has_opened}
-use Rattle.card_run.specs.Progress.{Reached, Shows, ShowsLoad}
+use Rattle.person.specs.Showing.{Shows}
+use Rattle.card_run.specs.Progress.{Reached, ShowsLoad}
 use Rattle.card_run.specs.Watching.{IsWhole, PassesLoad, PassesRows, ended_text, standing_text}
-use Rattle.card_run.proofs.Watching.{changed-passed, deleted-passed, load-ended, shows-none}
+use Rattle.card_run.proofs.Watching.{changed-passed, deleted-passed, load-ended}
+use Rattle.person.proofs.Texts.{shows-none}
 
 -- it came so far as its rows
 pub load-rows : {P : Type 0} (lost : P → Bool) (shown : P → Option (List ℕ)) (k seed count : ℕ) (begins : TerminalState → Type 0) (progress : Progress) (person after : P) → count ≤ k → PassesRows lost shown seed count begins progress person after

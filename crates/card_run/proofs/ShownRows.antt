@@ -11,7 +11,8 @@ use Rattle.terminal.specs.Load.{closings, filling_lines, insert_line, insert_lin
 use Rattle.terminal.specs.Quiet.{closing_in}
 use Rattle.card_run.specs.declared.progress.Progress.{Progress}
 use Rattle.card_run.specs.Loading.{CarriesOut, IsIn, Loader}
-use Rattle.card_run.specs.Progress.{Shows, refusals_in}
+use Rattle.person.specs.Showing.{Shows}
+use Rattle.card_run.specs.Progress.{refusals_in}
 use Rattle.card_run.specs.Watching.{PassesRows, none_yet, passed_text, with_row}
 use Rattle.card_run.proofs.InsertedRows.{insert-next, number_after}
 use Rattle.card_run.proofs.LoadedLines.{closings-then}

@@ -2,7 +2,8 @@
 use Rattle.std.specs.Prelude.{◌≡◌, ℕ, ◌+◌, ◌%◌, ◌==◌, ◌≤◌, nat_le, Bool, List, [], length, Option, Some, None, IsSome, if◌then◌else◌, codes}
 use Rattle.planner.specs.StatementLines.{TerminalState}
 use Rattle.card_run.specs.declared.progress.Progress.{Progress}
-use Rattle.card_run.specs.Progress.{IsReachedFrom, Reached, Shows, inserted_among, progress_line, reached_text, refusals_in}
+use Rattle.person.specs.Showing.{Shows}
+use Rattle.card_run.specs.Progress.{IsReachedFrom, Reached, inserted_among, progress_line, reached_text, refusals_in}
 
 -- nothing is counted yet
 abbrev pub none_yet : Progress

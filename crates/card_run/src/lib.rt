@@ -15,8 +15,7 @@ mod run;
 mod statements;
 mod words;
 
-pub use progress::Person;
-pub use prompt::{Prompted, Watcher};
+pub use prompt::Prompted;
 pub use run::run_card;
 
 #[cfg(test)]

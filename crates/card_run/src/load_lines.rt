@@ -1,11 +1,10 @@
 // The lines of a load's script, and its text.
 ghost use Rattle.std.specs.Prelude.{◌≡◌, ◌+◌, ◌%◌, ◌≤◌, ◌<◌, ◌++◌, ◌∷◌, [], length};
-ghost use Rattle.std.specs.Fmt.{decimal};
 ghost use Rattle.terminal.specs.Load as model;
 ghost use Rattle.card_run.specs.Counted.{counts_of};
 
 use arrayvec::ArrayVec;
-use itoa::Buffer;
+use person::{put, put_count};
 
 pub(crate) const PRESENT: &[u8] = b"PRESENT OWNER";
 
@@ -77,14 +76,6 @@ fn put_digit(line: &mut ArrayVec<u8, INSERT_LENGTH>, number: u32)
     line.push(b'0' + (number % 10) as u8);
 }
 
-fn put<const N: usize>(text: &mut ArrayVec<u8, N>, octets: &[u8])
-    requires { length text.old.items + length octets.now ≤ N }
-    ensures { text.new.items ≡ text.old.items ++ octets.now }
-{
-    let fits = text.try_extend_from_slice(octets).is_ok();
-    prove!(fits);
-}
-
 /// The text of a load.
 pub(crate) fn text_of(counts: &LoadCounts) -> ArrayVec<u8, LONGEST_TEXT>
     ensures { result.items ≡ model.counts_text (counts_of counts.now) }
@@ -96,14 +87,4 @@ pub(crate) fn text_of(counts: &LoadCounts) -> ArrayVec<u8, LONGEST_TEXT>
     put_count(&mut text, b" refused ", counts.refused);
     text.push(b'\n');
     text
-}
-
-/// Puts words and a count behind a text.
-pub(crate) fn put_count<const N: usize>(text: &mut ArrayVec<u8, N>, words: &[u8], count: u32)
-    requires { length text.old.items + length words.now + 10 ≤ N }
-    ensures text { text.new.items ≡ text.old.items ++ (words.now ++ decimal count) }
-    ensures size { length text.new.items ≤ length text.old.items + length words.now + 10 }
-{
-    put(text, words);
-    put(text, Buffer::new().format(count).as_bytes());
 }

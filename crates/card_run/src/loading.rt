@@ -21,11 +21,12 @@ use crate::load_lines::{
     CHANGE, CREATE, DELETE, LoadCounts, PRESENT, SELECT, insert_line, next_number, text_of,
 };
 use crate::output::give;
-use crate::progress::{Person, Progress};
+use crate::progress::Progress;
 use crate::words::Form;
 use card::{Card, LiveCard};
 use eeprom::{Bench, EepromFault};
 use planner::Closing;
+use person::Person;
 use program::Status;
 use terminal::{QuietEnd, Terminal};
 

@@ -1,29 +1,17 @@
 // How far a load has come, on one line that is written again and again where a person watches.
-ghost use Rattle.std.specs.Prelude.{◌≡◌, ◌≤◌, nat_le, ℕ, Bool, List, Option};
-ghost use Rattle.card_run.specs.Progress.{Shows, progress_line};
+ghost use Rattle.std.specs.Prelude.{◌≡◌, ◌≤◌, nat_le};
+ghost use Rattle.person.specs.Showing.{Shows};
+ghost use Rattle.card_run.specs.Progress.{progress_line};
 ghost use Rattle.card_run.specs.Watching.{ended_text, none_yet, passed_text, standing_text, with_row};
 
-use crate::load_lines::put_count;
 use arrayvec::ArrayVec;
+use person::{Person, put_count};
 
 /// Each so many rows the line is written anew: often enough for a person, and seldom enough to cost little beside the rows.
 const EACH: u32 = 16;
 
 /// The longest line: a carriage return, its words, and three numbers of at most ten digits.
 const LONGEST_LINE: usize = 58;
-
-/// Who may be shown how far a load has come.
-pub trait Person {
-    /// All that was shown, where told.
-    ghost shown: { Self → Option (List ℕ) };
-
-    /// No more can be shown.
-    ghost lost: { Self → Bool };
-
-    /// Shows a text, as far as it can be shown. Where it can't, no more is.
-    fn show(&mut self, text: &[u8])
-        ensures { Shows lost shown text.now self.old self.new };
-}
 
 /// How many rows a load has passed so far, and how many of them it has inserted, changed and deleted.
 #[derive(Clone, Copy, PartialEq, Eq, Debug)]

@@ -25,10 +25,10 @@ use crate::commands::answer_commands;
 use crate::loading::run_load;
 use crate::migration::run_migration;
 use crate::opening::open_card;
-use crate::progress::Person;
 use crate::statements::answer_statements;
 use crate::words::{Form, form_of};
 use eeprom::{Bench, Heap, Source};
+use person::Person;
 use program::Status;
 
 /// Runs the card of the bench by the words behind the file's name. A person may be shown how far it has come.

@@ -10,7 +10,7 @@ mod reads;
 mod scripts;
 mod statements;
 
-use crate::progress::Person;
+use person::Person;
 use crate::run::run_card;
 use eeprom::{FaultPlan, MemBench, MemSource, SteadySource};
 use program::Status;
