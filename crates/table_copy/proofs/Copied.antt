@@ -1,5 +1,6 @@
 -- A whole copy: what its pieces come to.
-use Rattle.std.proofs.Common.{◌≡◌, ◌⊎◌, ℕ, List, ◌∷◌, length, Result, Ok, Err, refl, sym, ◌∙◌, ap, subst, inl, inr}
+use Rattle.std.proofs.Common.{◌≡◌, ◌⊎◌, ℕ, Bool, List, ◌∷◌, length, Result, Ok, Err, refl, sym, ◌∙◌, ap, subst, inl, inr}
+use Rattle.std.proofs.lemmas.Bool.{false≢true}
 use Rattle.eeprom.specs.Chip.{Chip}
 use Rattle.scql_base.specs.declared.words.StatusWord.{StatusWord}
 use Rattle.scql_model.specs.Database.{Database}
@@ -12,8 +13,8 @@ use Rattle.planner.specs.declared.step.Step.{Step}
 use Rattle.planner.specs.Planned.{Planned}
 use Rattle.card_asking.proofs.Moments.{leaves-all, leaves-both}
 use Rattle.table_copy.specs.Copy.{Copy, copy, copy_of, ended_so, may_begin, put_into, source_rows}
-use Rattle.table_copy.specs.Copying.{StaysAt, CopiesSo, UndoneSo, ReadsSo}
-use Rattle.table_copy.specs.Filling.{Piece, IsFetching, GivesAll, CopiesAt, IsFilling, Together, TurnsSo, IsCommitted, FillsSo, OpensSo, commits_by}
+use Rattle.table_copy.specs.Copying.{StaysAt, CopiesSo, UndoneSo, ReadsSo, EndsBy}
+use Rattle.table_copy.specs.Filling.{Piece, FetchesSo, OfSource, IsFetching, GivesAll, CopiesAt, IsFilling, Together, TurnsSo, IsCommitted, FillsSo, OpensSo, commits_by}
 use Rattle.table_copy.specs.declared.copy_end.CopyEnd.{CopyEnd}
 use Rattle.table_copy.specs.declared.copy_end.CopyEnd.TheVariants.{Copied, SourceRefused, DestRefused, SourceMute, DestMute}
 
@@ -116,9 +117,19 @@ unopened-copies source_at dest_at s d object table p step DestMute source dest s
 unopened-copies source_at dest_at s d object table p step (Copied number) source dest so at = absurd so
 unopened-copies source_at dest_at s d object table p step (DestRefused word) source dest so at = absurd so
 
-pub unopened-reads : {L : Type 0} (is_at : L → Machine → Type 0) (s : Machine) (given : Result (List Values) StatusWord) (p : Planned) (step : Step) (end : CopyEnd) (now : L) → OpensSo is_at s given p step (Err end) now → ReadsSo is_at s end now
-unopened-reads is_at s given p step (SourceRefused word) now so = so.1
-unopened-reads is_at s given p step SourceMute now so = tt
-unopened-reads is_at s given p step DestMute now so = tt
-unopened-reads is_at s given p step (Copied number) now so = absurd so
-unopened-reads is_at s given p step (DestRefused word) now so = absurd so
+pub unopened-reads : {L : Type 0} (is_at : L → Machine → Type 0) (is_live : L → Bool) (faults : L → ℕ) (s : Machine) (given : Result (List Values) StatusWord) (p : Planned) (step : Step) (end : CopyEnd) (old now : L)
+    → OpensSo is_at s given p step (Err end) now → OfSource {A = Unit {0}} is_live faults (Err end) old now → ReadsSo is_at is_live s now
+unopened-reads is_at is_live faults s given p step (SourceRefused word) old now so ends = λ live. so.1
+unopened-reads is_at is_live faults s given p step SourceMute old now so ends = λ live. absurd (false≢true (sym ends.gone ∙ live))
+unopened-reads is_at is_live faults s given p step DestMute old now so ends = absurd so
+unopened-reads is_at is_live faults s given p step (Copied number) old now so ends = absurd so
+unopened-reads is_at is_live faults s given p step (DestRefused word) old now so ends = absurd so
+
+-- A source that answers still stays, however the copy of its rows ended.
+pub ended-reads : {S D : Type 0} (A : Type 0) (is_at : S → Machine → Type 0) (s_live : S → Bool) (s_faults : S → ℕ) (d_live : D → Bool) (d_faults : D → ℕ) (s : Machine) (P : Type 0) (end : CopyEnd) (source next : S) (dest new : D)
+    → FetchesSo {A = A} is_at s (Err end) P next → EndsBy s_live s_faults d_live d_faults end source next dest new → ReadsSo is_at s_live s next
+ended-reads A is_at s_live s_faults d_live d_faults s P SourceMute source next dest new so ends = λ live. absurd (false≢true (sym ends.0.gone ∙ live))
+ended-reads A is_at s_live s_faults d_live d_faults s P DestMute source next dest new so ends = λ live. so
+ended-reads A is_at s_live s_faults d_live d_faults s P (Copied number) source next dest new so ends = λ live. so
+ended-reads A is_at s_live s_faults d_live d_faults s P (SourceRefused word) source next dest new so ends = λ live. so
+ended-reads A is_at s_live s_faults d_live d_faults s P (DestRefused word) source next dest new so ends = λ live. so

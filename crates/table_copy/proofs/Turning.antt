@@ -66,7 +66,7 @@ pub fetches-on : {L : Type 0} (is_at : L → Machine → Type 0) (is_live : L �
 fetches-on is_at is_live faults s q next (Ok x) old now ends fetching = fetching (λ is. absurd cc)
 fetches-on is_at is_live faults s q next (Err (SourceRefused word)) old now ends fetching = let f = fetching (λ is. absurd cc) in gives-stays is_at s f.last f.closing f.rows q next now f.gives
 fetches-on is_at is_live faults s q next (Err SourceMute) old now ends fetching = tt
-fetches-on is_at is_live faults s q next (Err DestMute) old now ends fetching = tt
+fetches-on is_at is_live faults s q next (Err DestMute) old now ends fetching = absurd ends
 fetches-on is_at is_live faults s q next (Err (Copied number)) old now ends fetching = absurd ends
 fetches-on is_at is_live faults s q next (Err (DestRefused word)) old now ends fetching = absurd ends
 
@@ -155,7 +155,7 @@ turns-ended P Q total (SourceRefused word) so = absurd so
 
 pub reads-ended : (A B : Type 0) {L : Type 0} (is_at : L → Machine → Type 0) (s : Machine) (P Q : Type 0) (now : L) (end : CopyEnd) → FetchesSo {A = A} is_at s (Err end) P now → FetchesSo {A = B} is_at s (Err end) Q now
 reads-ended A B is_at s P Q now SourceMute so = tt
-reads-ended A B is_at s P Q now DestMute so = tt
+reads-ended A B is_at s P Q now DestMute so = so
 reads-ended A B is_at s P Q now (Copied number) so = so
 reads-ended A B is_at s P Q now (SourceRefused word) so = so
 reads-ended A B is_at s P Q now (DestRefused word) so = so

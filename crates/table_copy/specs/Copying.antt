@@ -31,11 +31,9 @@ UndoneSo is_at d (Copied rows) now = Unit {0}
 UndoneSo is_at d DestMute now = Unit {0}
 UndoneSo is_at d end now = StaysAt is_at d now
 
--- a source stays as it was; where a card is mute nothing is said of the source's machine
-abbrev pub ReadsSo : {L : Type 0} → (L → Machine → Type 0) → Machine → CopyEnd → L → Type 0
-ReadsSo is_at s SourceMute now = Unit {0}
-ReadsSo is_at s DestMute now = Unit {0}
-ReadsSo is_at s end now = StaysAt is_at s now
+-- a source that still answers stays as it was
+abbrev pub ReadsSo : {L : Type 0} → (L → Machine → Type 0) → (L → Bool) → Machine → L → Type 0
+ReadsSo is_at is_live s now = IsTrue (is_live now) → StaysAt is_at s now
 
 -- a card answers still, and its count is as before
 pub record Answers {L : Type 0} (is_live : L → Bool) (faults : L → ℕ) (old new : L) : Type 0 where

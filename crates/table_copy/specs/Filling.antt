@@ -99,7 +99,6 @@ OpensSo is_at s given p step (Err end) now = ⊥
 abbrev pub FetchesSo : {L A : Type 0} → (L → Machine → Type 0) → Machine → Piece A → Type 0 → L → Type 0
 FetchesSo is_at s (Ok x) P now = P
 FetchesSo is_at s (Err SourceMute) P now = Unit {0}
-FetchesSo is_at s (Err DestMute) P now = Unit {0}
 FetchesSo is_at s (Err end) P now = StaysAt is_at s now
 
 -- The destination alone.

@@ -152,7 +152,7 @@ fn copy_opened<S: CardLink, D: CardLink>(
     ensures copies { (s d : Machine) (rows : List Values) → GivesAll S.is_at s (length rows) rows plan.old step.old source.old → D.is_at dest.old d
         → CopiesSo D.is_at d (model.put_into d table.now (Ok rows)) result dest.new }
     ensures undone { (d : Machine) → D.is_at dest.old d → UndoneSo D.is_at d result dest.new }
-    ensures reads { (s : Machine) → IsFetching S.is_at s plan.old step.old source.old → ReadsSo S.is_at s result source.new }
+    ensures reads { (s : Machine) → IsFetching S.is_at s plan.old step.old source.old → ReadsSo S.is_at S.is_live s source.new }
     ensures still { (s : Machine) → IsFetching S.is_at s plan.old step.old source.old → LeavesOpen (Holds (S.mark source.old) s.committed) (S.chip source.old) (S.chip source.new) }
     ensures moments { (s d : Machine) (rows : List Values) → GivesAll S.is_at s (length rows) rows plan.old step.old source.old → D.is_at dest.old d
         → LeavesOpen (IsOneOf (D.mark dest.old) (d.committed ∷ (model.put_into d table.now (Ok rows)).commits)) (D.chip dest.old) (D.chip dest.new) }
@@ -179,7 +179,7 @@ pub fn copy<S: CardLink, D: CardLink>(
     requires live { IsTrue (S.is_live source.old) × IsTrue (D.is_live dest.old) }
     ensures copies { (s d : Machine) → S.is_at source.old s → D.is_at dest.old d → CopiesSo D.is_at d (model.copy s d object.now table.now) result dest.new }
     ensures undone { (d : Machine) → D.is_at dest.old d → UndoneSo D.is_at d result dest.new }
-    ensures reads { (s : Machine) → S.is_at source.old s → ReadsSo S.is_at s result source.new }
+    ensures reads { (s : Machine) → S.is_at source.old s → ReadsSo S.is_at S.is_live s source.new }
     ensures source_moments { (s : Machine) → S.is_at source.old s → LeavesOpen (Holds (S.mark source.old) s.committed) (S.chip source.old) (S.chip source.new) }
     ensures dest_moments { (s d : Machine) → S.is_at source.old s → D.is_at dest.old d
         → LeavesOpen (IsOneOf (D.mark dest.old) (d.committed ∷ (model.copy s d object.now table.now).commits)) (D.chip dest.old) (D.chip dest.new) }

@@ -44,8 +44,8 @@ returns-in-Err-clause-copies g c = λ s d source_at dest_at.
 pub returns-in-Err-clause-reads : goal.returns-in-Err-clause-reads
 returns-in-Err-clause-reads g c = λ s source_at.
     let can = rw c.selection.ensures.select at c.selection.ensures.sendable in
-    unopened-reads g.S.CardLink.is_at s (source_rows s c.args.object.now) c.open.new.plan c.open.new.step c.in-Err.end c.open.new.source
-    (c.in-Err.ensures.opens s c.args.object.now (rw c.selection.ensures.select at c.start-plan.ensures) can source_at)
+    unopened-reads g.S.CardLink.is_at g.S.CardLink.is_live g.S.CardLink.faults s (source_rows s c.args.object.now) c.open.new.plan c.open.new.step c.in-Err.end c.args.source.now c.open.new.source
+    (c.in-Err.ensures.opens s c.args.object.now (rw c.selection.ensures.select at c.start-plan.ensures) can source_at) c.in-Err.ensures.ends
 
 pub returns-in-Err-clause-dest_moments : goal.returns-in-Err-clause-dest_moments
 returns-in-Err-clause-dest_moments g c = λ s d source_at dest_at.

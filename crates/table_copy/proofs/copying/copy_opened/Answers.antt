@@ -1,11 +1,11 @@
-use Rattle.std.proofs.Common.{length, sym, ◌∙◌, subst, inl}
+use Rattle.std.proofs.Common.{ℕ, length, sym, ◌∙◌, subst, inl}
 use Rattle.scql_model.specs.Machine.{actor}
 use Rattle.card_asking.proofs.Moments.{leaves-all}
 use Rattle.table_copy.specs.Copy.{copy_of, put_into}
-use Rattle.table_copy.specs.Copying.{CopiesSo, UndoneSo}
+use Rattle.table_copy.specs.Copying.{CopiesSo, StaysAt, UndoneSo}
 use Rattle.table_copy.specs.Filling.{IsCommitted}
 use Rattle.std.proofs.Common.{Ok}
-use Rattle.table_copy.proofs.Copied.{begun-moments, begun-total, commits-same, copied-so, filling-ended, rolled-moments, together-first, undone-copies, undone-so, unless-mute}
+use Rattle.table_copy.proofs.Copied.{begun-moments, begun-total, commits-same, copied-so, ended-reads, filling-ended, rolled-moments, together-first, undone-copies, undone-so, unless-mute}
 use Rattle.table_copy.proofs.copying.copy_opened.Goals as goal
 
 pub returns-in-Err-clause-moments : goal.returns-in-Err-clause-moments
@@ -40,6 +40,11 @@ returns-in-Err-fill-clause-copies g c = λ s d rows gives at.
     (c.roll_back.ensures.rolls d
     (filling-ended g.D.CardLink.is_at d c.fill.result c.in-Err-fill.end c.fill.new.dest c.in-Err-fill.is (c.fill.ensures.fills d (record { db = d.committed; copies = begun.1 })) (λ mute. heard (c.roll_back.ensures.mute mute).0))
     heard)))
+
+pub returns-in-Err-fill-clause-reads : goal.returns-in-Err-fill-clause-reads
+returns-in-Err-fill-clause-reads g c = λ s fetching.
+    ended-reads ℕ g.S.CardLink.is_at g.S.CardLink.is_live g.S.CardLink.faults g.D.CardLink.is_live g.D.CardLink.faults s (StaysAt g.S.CardLink.is_at s c.fill.new.source) c.in-Err-fill.end c.args.source.now c.fill.new.source c.begin.new.dest c.fill.new.dest
+    (c.in-Err-fill.ensures.reads s fetching) c.in-Err-fill.ensures.ends
 
 pub returns-in-Err-fill-clause-undone : goal.returns-in-Err-fill-clause-undone
 returns-in-Err-fill-clause-undone g c = λ d at.
