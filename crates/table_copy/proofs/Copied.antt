@@ -1,5 +1,5 @@
 -- A whole copy: what its pieces come to.
-use Rattle.std.proofs.Common.{◌≡◌, ◌⊎◌, ℕ, Bool, List, ◌∷◌, length, Result, Ok, Err, refl, sym, ◌∙◌, ap, subst, inl, inr}
+use Rattle.std.proofs.Common.{◌≡◌, ◌⊎◌, ℕ, arith, Bool, List, ◌∷◌, length, Result, Ok, Err, refl, sym, ◌∙◌, ap, subst, inl, inr}
 use Rattle.std.proofs.lemmas.Bool.{false≢true}
 use Rattle.eeprom.specs.Chip.{Chip}
 use Rattle.scql_base.specs.declared.words.StatusWord.{StatusWord}
@@ -36,8 +36,8 @@ unless-mute P end mute else' = go (mute-or end)
 -- at its begin
 pub together-first : {S D : Type 0} (source_at : S → Machine → Type 0) (dest_at : D → Machine → Type 0) (s d : Machine) (rows : List Values) (table : List ℕ) (p : Planned) (step : Step) (source : S) (dest : D)
     → GivesAll source_at s (length rows) rows p step source → CopiesAt dest_at d d.committed dest
-    → Together source_at dest_at s d (length rows) table (copy_of d.committed (actor d 0) table rows) p step source dest
-together-first source_at dest_at s d rows table p step source dest gives copies = record { left = rows; db = d.committed; gives = gives; copies = copies; leads = refl }
+    → Together source_at dest_at s d (length rows) 0 table (copy_of d.committed (actor d 0) table rows) p step source dest
+together-first source_at dest_at s d rows table p step source dest gives copies = record { left = rows; db = d.committed; gives = gives; copies = copies; leads = refl; counted = omega arith }
 
 -- what the rows make decides where BEGIN was done
 pub begun-total : (d : Machine) (total : Result Database StatusWord) → may_begin d ≡ Ok tt → (may_begin d >>= λ _. total) ≡ total

@@ -1,5 +1,5 @@
 -- A copy goes on, row by row.
-use Rattle.std.proofs.Common.{◌≡◌, ◌⊎◌, ℕ, ◌≤◌, Bool, List, [], ◌∷◌, IfSome, Result, Ok, Err, refl, sym, ◌∙◌, ap, subst, inl, inr}
+use Rattle.std.proofs.Common.{◌≡◌, ◌⊎◌, ℕ, ◌+◌, ◌≤◌, arith, Bool, List, [], ◌∷◌, drop, length, IfSome, Result, Ok, Err, refl, sym, ◌∙◌, ap, subst, inl, inr}
 use Rattle.eeprom.specs.Chip.{Chip}
 use Rattle.eeprom.specs.Fault.{Rose}
 use Rattle.scql_base.specs.declared.words.StatusWord.{StatusWord}
@@ -15,15 +15,16 @@ use Rattle.planner.specs.declared.closing.Closing.TheVariants.{Nothing, Fine, Ro
 use Rattle.planner.specs.declared.step.Step.{Step}
 use Rattle.planner.specs.declared.step.Step.TheVariants.{Send, Row, ResetCard, Done}
 use Rattle.planner.specs.Planned.{Planned}
-use Rattle.card_asking.specs.Giving.{Gives, IsNextRow}
+use Rattle.card_asking.specs.Giving.{Gives, IsNextRow, behind_step}
 use Rattle.card_asking.proofs.Moments.{leaves-all, leaves-both, leaves-none}
 use Rattle.card_asking.proofs.Rows.{next-row, all-given}
 use Rattle.table_copy.specs.Copy.{row_copied, rows_copied}
 use Rattle.table_copy.specs.Copying.{StaysAt, Answers, EndsBy, GoesBy, HasGoneOn}
-use Rattle.table_copy.specs.Filling.{Piece, UnlessSourceMute, OfSource, IsFetching, FetchesSo, InsertsSo, HasRow, PutsSo, Together, TurnsSo, IsFilled, IsCommitted, CommitsSo, FillsSo, commits_by, counted_by, fetched_by}
+use Rattle.table_copy.specs.Filling.{Piece, UnlessSourceMute, OfDest, OfSource, IsFetching, FetchesSo, InsertsSo, HasRow, PutsSo, Together, TurnsSo, IsFilled, IsCommitted, CommitsSo, FillsSo, commits_by, counted_by, fetched_by, goes_on_by, has_row, whether, with_row}
+use Rattle.table_copy.specs.Progress.{IsCounted, IsCountedIn}
 use Rattle.table_copy.specs.declared.copy_end.CopyEnd.{CopyEnd}
 use Rattle.table_copy.specs.declared.copy_end.CopyEnd.TheVariants.{Copied, SourceRefused, DestRefused, SourceMute, DestMute}
-use Rattle.table_copy.proofs.Opening.{gives-stays}
+use Rattle.table_copy.proofs.Opening.{gives-stays, rows-go_on}
 
 -- A row is put in.
 pub has-row : {L : Type 0} (is_at : L → Machine → Type 0) (s : Machine) (closing : Closing) (last : Machine) (rows : List Values) (p : Planned) (step : Step) (now : L) → Gives is_at s closing last rows p step now → HasRow step rows p.row
@@ -31,6 +32,18 @@ has-row is_at s closing last rows p (Send c) now gives = tt
 has-row is_at s closing last rows p (Row c) now gives = next-row is_at s closing last rows p c now gives
 has-row is_at s closing last rows p ResetCard now gives = tt
 has-row is_at s closing last rows p (Done closed) now gives = tt
+
+-- it is one of those that are counted
+pub row-counted : {L : Type 0} (is_at : L → Machine → Type 0) (s last : Machine) (count passed : ℕ) (rows : List Values) (p : Planned) (step : Step) (now : L) → Gives is_at s (Rows count) last rows p step now → passed + length rows ≡ count
+    → with_row (has_row step) passed + length (behind_step step rows) ≡ count
+row-counted is_at s last count passed rows p (Send c) now gives counted = omega (arith, counted)
+row-counted is_at s last count passed rows p (Row c) now gives counted = first rows (next-row is_at s (Rows count) last rows p c now gives) counted
+  where
+    first : (rows : List Values) → IsNextRow rows p.row → passed + length rows ≡ count → passed + 1 + length (drop 1 rows) ≡ count
+    first [] n counted = absurd cc
+    first (values ∷ rest) n counted = omega (arith, counted)
+row-counted is_at s last count passed rows p ResetCard now gives counted = omega (arith, counted)
+row-counted is_at s last count passed rows p (Done closed) now gives counted = omega (arith, counted)
 
 module _ {L : Type 0} (is_at : L → Machine → Type 0) (d : Machine) (table : List ℕ) where
   abbrev copied : Database → List Values → Result Database StatusWord
@@ -71,10 +84,8 @@ fetches-on is_at is_live faults s q next (Err (Copied number)) old now ends fetc
 fetches-on is_at is_live faults s q next (Err (DestRefused word)) old now ends fetching = absurd ends
 
 -- at its last step it gave all
-pub all-fetched : {L : Type 0} (is_at : L → Machine → Type 0) (s last : Machine) (count : ℕ) (rows : List Values) (p : Planned) (closed : Closing) (now : L) → Gives is_at s (Rows count) last rows p (Done closed) now → (rows ≡ []) × (fetched_by closed ≡ Ok count)
-all-fetched is_at s last count rows p closed now gives =
-    let given = all-given is_at s (Rows count) last rows p closed now gives in
-    (given.none, ap fetched_by given.closes)
+pub all-fetched : {L : Type 0} (is_at : L → Machine → Type 0) (s last : Machine) (count : ℕ) (rows : List Values) (p : Planned) (closed : Closing) (now : L) → Gives is_at s (Rows count) last rows p (Done closed) now → rows ≡ []
+all-fetched is_at s last count rows p closed now gives = (all-given is_at s (Rows count) last rows p closed now gives).none
 
 -- Calls that follow one another.
 pub rest-both : {L : Type 0} (mark : L → ℕ) (keeps goes_on : L → L → Type 0) (old mid new : L) → (keeps old mid → keeps mid new → keeps old new) → (goes_on old mid → goes_on mid new → goes_on old new) → HasGoneOn mark keeps goes_on old mid
@@ -115,33 +126,88 @@ module _ {S D : Type 0} (s_live : S → Bool) (s_faults : S → ℕ) (d_live : D
 
   pub goes-then : {A : Type 0} (r : Piece A) → GoesBy s_live s_faults d_live d_faults r mid next half new → GoesBy s_live s_faults d_live d_faults r source next dest new
   goes-then (Ok x) goes = (answers-both s_live s_faults source mid next s_first goes.0, answers-both d_live d_faults dest half new d_first goes.1)
-  goes-then (Err end) ends = ends-then end ends
+  goes-then (Err (Copied number)) goes = absurd goes
+  goes-then (Err (SourceRefused word)) goes = ends-then (SourceRefused word) goes
+  goes-then (Err (DestRefused word)) goes = ends-then (DestRefused word) goes
+  goes-then (Err SourceMute) goes = ends-then SourceMute goes
+  goes-then (Err DestMute) goes = ends-then DestMute goes
+
+-- what ends a piece is no whole copy
+pub goes-ends : {S D : Type 0} (A : Type 0) (s_live : S → Bool) (s_faults : S → ℕ) (d_live : D → Bool) (d_faults : D → ℕ) (end : CopyEnd) (source next : S) (dest new : D)
+    → GoesBy {A = A} s_live s_faults d_live d_faults (Err end) source next dest new → EndsBy s_live s_faults d_live d_faults end source next dest new
+goes-ends A s_live s_faults d_live d_faults (Copied number) source next dest new goes = absurd goes
+goes-ends A s_live s_faults d_live d_faults (SourceRefused word) source next dest new goes = goes
+goes-ends A s_live s_faults d_live d_faults (DestRefused word) source next dest new goes = goes
+goes-ends A s_live s_faults d_live d_faults SourceMute source next dest new goes = goes
+goes-ends A s_live s_faults d_live d_faults DestMute source next dest new goes = goes
+
+-- nor is it of another piece
+pub goes-of : {S D : Type 0} (A B : Type 0) (s_live : S → Bool) (s_faults : S → ℕ) (d_live : D → Bool) (d_faults : D → ℕ) (end : CopyEnd) (source next : S) (dest new : D)
+    → GoesBy {A = A} s_live s_faults d_live d_faults (Err end) source next dest new → GoesBy {A = B} s_live s_faults d_live d_faults (Err end) source next dest new
+goes-of A B s_live s_faults d_live d_faults (Copied number) source next dest new goes = goes
+goes-of A B s_live s_faults d_live d_faults (SourceRefused word) source next dest new goes = goes
+goes-of A B s_live s_faults d_live d_faults (DestRefused word) source next dest new goes = goes
+goes-of A B s_live s_faults d_live d_faults SourceMute source next dest new goes = goes
+goes-of A B s_live s_faults d_live d_faults DestMute source next dest new goes = goes
+
+pub goes-counted : {S D : Type 0} (A : Type 0) (s_live : S → Bool) (s_faults : S → ℕ) (d_live : D → Bool) (d_faults : D → ℕ) (end : CopyEnd) (rows : ℕ) (source next : S) (dest new : D)
+    → GoesBy {A = A} s_live s_faults d_live d_faults (Err end) source next dest new → IsCounted end rows
+goes-counted A s_live s_faults d_live d_faults (Copied number) rows source next dest new goes = absurd goes
+goes-counted A s_live s_faults d_live d_faults (SourceRefused word) rows source next dest new goes = tt
+goes-counted A s_live s_faults d_live d_faults (DestRefused word) rows source next dest new goes = tt
+goes-counted A s_live s_faults d_live d_faults SourceMute rows source next dest new goes = tt
+goes-counted A s_live s_faults d_live d_faults DestMute rows source next dest new goes = tt
+
+pub source-counted : {L : Type 0} (A : Type 0) (is_live : L → Bool) (faults : L → ℕ) (end : CopyEnd) (rows : ℕ) (old new : L) → OfSource {A = A} is_live faults (Err end) old new → IsCounted end rows
+source-counted A is_live faults (Copied number) rows old new of = absurd of
+source-counted A is_live faults (SourceRefused word) rows old new of = tt
+source-counted A is_live faults (DestRefused word) rows old new of = tt
+source-counted A is_live faults SourceMute rows old new of = tt
+source-counted A is_live faults DestMute rows old new of = tt
+
+pub dest-counted : {L : Type 0} (A : Type 0) (is_live : L → Bool) (faults : L → ℕ) (end : CopyEnd) (rows : ℕ) (old new : L) → OfDest {A = A} is_live faults (Err end) old new → IsCounted end rows
+dest-counted A is_live faults (Copied number) rows old new of = absurd of
+dest-counted A is_live faults (SourceRefused word) rows old new of = tt
+dest-counted A is_live faults (DestRefused word) rows old new of = tt
+dest-counted A is_live faults SourceMute rows old new of = tt
+dest-counted A is_live faults DestMute rows old new of = tt
 
 -- The plan is at its end.
-pub fetched-reads : {L : Type 0} (is_at : L → Machine → Type 0) (s : Machine) (closing : Closing) (now : L) → StaysAt is_at s now → FetchesSo is_at s (fetched_by closing) (StaysAt is_at s now) now
-fetched-reads is_at s Nothing now stays = stays
-fetched-reads is_at s Fine now stays = stays
-fetched-reads is_at s (Rows number) now stays = stays
-fetched-reads is_at s (Cut number) now stays = stays
-fetched-reads is_at s (Refused word) now stays = stays
+pub counted-done : (number : ℕ) (step : Step) (closing : Closing) (done : Piece (Unit {0})) (r : Piece ℕ) → step ≡ Done closing → done ≡ goes_on_by step → r ≡ counted_by number done → r ≡ counted_by number (whether (fetched_by closing))
+counted-done number step closing done r is goes counted = counted ∙ (ap (counted_by number) goes ∙ ap (λ (step : Step). counted_by number (goes_on_by step)) is)
 
-pub fetched-goes : {S D : Type 0} (s_live : S → Bool) (s_faults : S → ℕ) (d_live : D → Bool) (d_faults : D → ℕ) (closing : Closing) (source next : S) (dest new : D) → Answers s_live s_faults source next → Answers d_live d_faults dest new
-    → GoesBy s_live s_faults d_live d_faults (fetched_by closing) source next dest new
-fetched-goes s_live s_faults d_live d_faults Nothing source next dest new s d = (s, d)
-fetched-goes s_live s_faults d_live d_faults Fine source next dest new s d = (s, d)
-fetched-goes s_live s_faults d_live d_faults (Rows number) source next dest new s d = (s, d)
-fetched-goes s_live s_faults d_live d_faults (Cut number) source next dest new s d = (s, d)
-fetched-goes s_live s_faults d_live d_faults (Refused word) source next dest new s d = (s, d)
+pub fetched-reads : {L : Type 0} (is_at : L → Machine → Type 0) (s : Machine) (number : ℕ) (closing : Closing) (now : L) → StaysAt is_at s now → FetchesSo is_at s (counted_by number (whether (fetched_by closing))) (StaysAt is_at s now) now
+fetched-reads is_at s number Nothing now stays = stays
+fetched-reads is_at s number Fine now stays = stays
+fetched-reads is_at s number (Rows all) now stays = stays
+fetched-reads is_at s number (Cut all) now stays = stays
+fetched-reads is_at s number (Refused word) now stays = stays
 
-pub filled : {S D : Type 0} (source_at : S → Machine → Type 0) (dest_at : D → Machine → Type 0) (s d : Machine) (count : ℕ) (table : List ℕ) (total : Result Database StatusWord) (p : Planned) (closing : Closing) (source : S) (dest : D)
-    → Together source_at dest_at s d count table total p (Done closing) source dest → TurnsSo total (fetched_by closing) (λ (number : ℕ). IsFilled dest_at d count total number dest)
-filled source_at dest_at s d count table total p closing source dest together =
-    let all = all-fetched source_at s together.gives.last count together.left p closing source together.gives.gives in
-    subst (λ (r : Piece ℕ). TurnsSo total r (λ (number : ℕ). IsFilled dest_at d count total number dest)) (sym all.1)
+pub fetched-goes : {S D : Type 0} (s_live : S → Bool) (s_faults : S → ℕ) (d_live : D → Bool) (d_faults : D → ℕ) (number : ℕ) (closing : Closing) (source next : S) (dest new : D) → Answers s_live s_faults source next → Answers d_live d_faults dest new
+    → GoesBy s_live s_faults d_live d_faults (counted_by number (whether (fetched_by closing))) source next dest new
+fetched-goes s_live s_faults d_live d_faults number Nothing source next dest new s d = (s, d)
+fetched-goes s_live s_faults d_live d_faults number Fine source next dest new s d = (s, d)
+fetched-goes s_live s_faults d_live d_faults number (Rows all) source next dest new s d = (s, d)
+fetched-goes s_live s_faults d_live d_faults number (Cut all) source next dest new s d = (s, d)
+fetched-goes s_live s_faults d_live d_faults number (Refused word) source next dest new s d = (s, d)
+
+pub fetched-counted : (number : ℕ) (closing : Closing) → IsCountedIn (counted_by number (whether (fetched_by closing))) number
+fetched-counted number Nothing = tt
+fetched-counted number Fine = tt
+fetched-counted number (Rows all) = refl
+fetched-counted number (Cut all) = tt
+fetched-counted number (Refused word) = tt
+
+pub filled : {S D : Type 0} (source_at : S → Machine → Type 0) (dest_at : D → Machine → Type 0) (s d : Machine) (count passed : ℕ) (table : List ℕ) (total : Result Database StatusWord) (p : Planned) (closing : Closing) (source : S) (dest : D)
+    → Together source_at dest_at s d count passed table total p (Done closing) source dest → TurnsSo total (counted_by passed (whether (fetched_by closing))) (λ (number : ℕ). IsFilled dest_at d count total number dest)
+filled source_at dest_at s d count passed table total p closing source dest together =
+    let none = all-fetched source_at s together.gives.last count together.left p closing source together.gives.gives in
+    let goes_on = rows-go_on source_at s together.gives.last count together.left p (Done closing) source together.gives.gives in
+    subst (λ (r : Piece (Unit {0})). TurnsSo total (counted_by passed r) (λ (number : ℕ). IsFilled dest_at d count total number dest)) (sym goes_on)
     (record {
-      counted = refl;
+      counted = omega (arith, ap length none, together.counted);
       db = together.db;
-      made = sym together.leads ∙ ap (λ (rows : List Values). rows_copied d.committed.limit (actor d 0) table together.db rows) all.0;
+      made = sym together.leads ∙ ap (λ (rows : List Values). rows_copied d.committed.limit (actor d 0) table together.db rows) none;
       copies = together.copies;
     })
 

@@ -49,6 +49,7 @@ EndsBy s_live s_faults d_live d_faults end source next dest new = Answers s_live
 -- so of a piece of it, which is done or ends the copy
 abbrev pub GoesBy : {S D A : Type 0} → (S → Bool) → (S → ℕ) → (D → Bool) → (D → ℕ) → Result A CopyEnd → S → S → D → D → Type 0
 GoesBy s_live s_faults d_live d_faults (Ok x) source next dest new = Answers s_live s_faults source next × Answers d_live d_faults dest new
+GoesBy s_live s_faults d_live d_faults (Err (Copied rows)) source next dest new = ⊥
 GoesBy s_live s_faults d_live d_faults (Err end) source next dest new = EndsBy s_live s_faults d_live d_faults end source next dest new
 
 -- calls left the mark and the rest of a link's object, and lead from one to the other

@@ -1,5 +1,5 @@
 -- A copy under way: what is left of the source's rows, and the destination's transaction.
-use Rattle.std.specs.Prelude.{◌≡◌, ℕ, ◌==◌, Bool, true, List, [], ◌∷◌, length, Some, None, Result, Ok, Err, if◌then◌else◌}
+use Rattle.std.specs.Prelude.{◌≡◌, ℕ, ◌+◌, ◌==◌, Bool, true, false, List, [], ◌∷◌, length, Some, None, Result, Ok, Err, if◌then◌else◌}
 use Rattle.std.specs.Option.{option_map_or}
 use Rattle.scql_base.specs.declared.words.Actor.{Actor}
 use Rattle.scql_base.specs.declared.words.Actor.TheVariants.{Public}
@@ -179,14 +179,24 @@ PutsSo is_at d table step rows db (Err (DestRefused word)) now = rows_copied d.c
 PutsSo is_at d table step rows db (Err DestMute) now = Unit {0}
 PutsSo is_at d table step rows db (Err end) now = ⊥
 
--- These rows are still to come, and from the working database they lead to the same.
-pub record Together {S D : Type 0} (source_at : S → Machine → Type 0) (dest_at : D → Machine → Type 0) (s d : Machine) (count : ℕ) (table : List ℕ) (total : Result Database StatusWord) (p : Planned) (step : Step) (source : S)
+-- whether a step has a row
+abbrev pub has_row : Step → Bool
+has_row (Row command) = true
+has_row step = false
+
+-- so many with it
+abbrev pub with_row : Bool → ℕ → ℕ
+with_row had_row rows = rows + (if had_row then 1 else 0)
+
+-- So many rows were put in, and these are still to come. From the working database they lead to the same.
+pub record Together {S D : Type 0} (source_at : S → Machine → Type 0) (dest_at : D → Machine → Type 0) (s d : Machine) (count passed : ℕ) (table : List ℕ) (total : Result Database StatusWord) (p : Planned) (step : Step) (source : S)
     (dest : D) : Type 0 where
   pub left : List Values
   pub db : Database
   pub gives : GivesAll source_at s count left p step source
   pub copies : CopiesAt dest_at d db dest
   pub leads : rows_copied d.committed.limit (actor d 0) table db left ≡ total
+  pub counted : passed + length left ≡ count
 
 -- as long as both answer only the destination refuses, and then the refusal is the first of the rows
 abbrev pub TurnsSo : {A : Type 0} → Result Database StatusWord → Piece A → (A → Type 0) → Type 0

@@ -11,14 +11,17 @@ ghost use Rattle.planner.specs.Turns.{IfGoesOn};
 ghost use Rattle.card_asking.specs.Following.{to_go};
 ghost use Rattle.table_copy.specs.Copy as model;
 ghost use Rattle.table_copy.specs.Copying.{CopiesSo, EndsBy, GoesBy, HasGoneOn, ReadsSo, StaysAt, UndoneSo};
-ghost use Rattle.table_copy.specs.Filling.{CopiesAt, FetchesSo, FillsSo, GivesAll, HasRow, IsCommitted, IsFetching, IsFilled, IsFilling, OfDest, PutsSo, Together, TurnsSo, UnlessDestMute, commits_by, counted_by};
+ghost use Rattle.table_copy.specs.Filling.{CopiesAt, FetchesSo, FillsSo, GivesAll, HasRow, IsCommitted, IsFetching, IsFilled, IsFilling, OfDest, PutsSo, Together, TurnsSo, UnlessDestMute, commits_by, counted_by, has_row as model_has_row, with_row};
+ghost use Rattle.table_copy.specs.Progress.{ShowsCopy, ShowsRows};
 
 use crate::CopyEnd;
 use crate::dest::{begin, commit, insert, roll_back};
-use crate::source::{advance, fetched, open, selection};
+use crate::progress::Progress;
+use crate::source::{advance, goes_on, open, selection};
 use apdu::Reply;
 use arrayvec::ArrayVec;
 use card_link::CardLink;
+use person::Person;
 use planner::{Plan, Step};
 use scql_base::{Name, StatusWord};
 
@@ -55,8 +58,8 @@ fn turn<S: CardLink, D: CardLink>(
 ) -> Result<(), CopyEnd>
     requires live { IsTrue (S.is_live source.old) × IsTrue (D.is_live dest.old) }
     requires sendable { IfSent step.old IsSendable }
-    ensures turns { (s d : Machine) (count : ℕ) (total : Result Database ModelWord) → Together S.is_at D.is_at s d count table.now total plan.old step.old source.old dest.old
-        → TurnsSo total result (λ _. Together S.is_at D.is_at s d count table.now total plan.new step.new source.new dest.new) }
+    ensures turns { (s d : Machine) (count passed : ℕ) (total : Result Database ModelWord) → Together S.is_at D.is_at s d count passed table.now total plan.old step.old source.old dest.old
+        → TurnsSo total result (λ _. Together S.is_at D.is_at s d count (with_row (model_has_row step.old) passed) table.now total plan.new step.new source.new dest.new) }
     ensures reads { (s : Machine) → IsFetching S.is_at s plan.old step.old source.old → FetchesSo S.is_at s result (IsFetching S.is_at s plan.new step.new source.new) source.new }
     ensures fills { (d : Machine) → IsFilling D.is_at d dest.old → UnlessDestMute result (IsFilling D.is_at d dest.new) }
     ensures still { (s : Machine) → IsFetching S.is_at s plan.old step.old source.old → LeavesOpen (Holds (S.mark source.old) s.committed) (S.chip source.old) (S.chip source.new) }
@@ -74,17 +77,18 @@ fn turn<S: CardLink, D: CardLink>(
 }
 
 // Puts in all rows: how many there were.
-fn insert_rows<S: CardLink, D: CardLink>(
+fn insert_rows<S: CardLink, D: CardLink, P: Person>(
     source: &mut S,
     dest: &mut D,
     table: &Name,
     plan: &mut Plan,
     step: &mut Step,
     reply: &mut Reply,
+    person: &mut P,
 ) -> Result<u32, CopyEnd>
     requires live { IsTrue (S.is_live source.old) × IsTrue (D.is_live dest.old) }
     requires sendable { IfSent step.old IsSendable }
-    ensures turns { (s d : Machine) (count : ℕ) (total : Result Database ModelWord) → Together S.is_at D.is_at s d count table.now total plan.old step.old source.old dest.old
+    ensures turns { (s d : Machine) (count : ℕ) (total : Result Database ModelWord) → Together S.is_at D.is_at s d count 0 table.now total plan.old step.old source.old dest.old
         → TurnsSo total result (λ number. IsFilled D.is_at d count total number dest.new) }
     ensures reads { (s : Machine) → IsFetching S.is_at s plan.old step.old source.old → FetchesSo S.is_at s result (StaysAt S.is_at s source.new) source.new }
     ensures fills { (d : Machine) → IsFilling D.is_at d dest.old → UnlessDestMute result (IsFilling D.is_at d dest.new) }
@@ -93,59 +97,77 @@ fn insert_rows<S: CardLink, D: CardLink>(
     ensures ends { GoesBy S.is_live S.faults D.is_live D.faults result source.old source.new dest.old dest.new }
     ensures source_rest { HasGoneOn S.mark S.keeps S.goes_on source.old source.new }
     ensures dest_rest { HasGoneOn D.mark D.keeps D.goes_on dest.old dest.new }
+    ensures shows { ShowsRows P.lost P.shown result person.old person.new }
 {
+    let mut progress = Progress::new();
     loop {
-        if let Step::Done { closing } = &*step {
-            return fetched(*closing);
+        if let Step::Done { .. } = &*step {
+            progress.end(person);
+            return counted(progress.rows, goes_on(step));
         }
-        turn(source, dest, table, plan, step, reply)?;
+        let had_row = has_row(step);
+        if let Err(end) = turn(source, dest, table, plan, step, reply) {
+            progress.end(person);
+            return Err(end);
+        }
+        progress.pass(had_row, person);
     }
 }
 
 // Puts in all rows and commits them: how many there were.
-fn fill<S: CardLink, D: CardLink>(
+fn fill<S: CardLink, D: CardLink, P: Person>(
     source: &mut S,
     dest: &mut D,
     table: &Name,
     plan: &mut Plan,
     step: &mut Step,
     reply: &mut Reply,
+    person: &mut P,
 ) -> Result<u32, CopyEnd>
     requires live { IsTrue (S.is_live source.old) × IsTrue (D.is_live dest.old) }
     requires sendable { IfSent step.old IsSendable }
-    ensures turns { (s d : Machine) (count : ℕ) (total : Result Database ModelWord) → Together S.is_at D.is_at s d count table.now total plan.old step.old source.old dest.old
+    ensures turns { (s d : Machine) (count : ℕ) (total : Result Database ModelWord) → Together S.is_at D.is_at s d count 0 table.now total plan.old step.old source.old dest.old
         → TurnsSo total result (λ number. IsCommitted D.is_at d count total number dest.new) }
     ensures reads { (s : Machine) → IsFetching S.is_at s plan.old step.old source.old → FetchesSo S.is_at s result (StaysAt S.is_at s source.new) source.new }
     ensures fills { (d : Machine) → IsFilling D.is_at d dest.old → FillsSo D.is_at d result dest.new }
     ensures still { (s : Machine) → IsFetching S.is_at s plan.old step.old source.old → LeavesOpen (Holds (S.mark source.old) s.committed) (S.chip source.old) (S.chip source.new) }
-    ensures moments { (s d : Machine) (count : ℕ) (total : Result Database ModelWord) → Together S.is_at D.is_at s d count table.now total plan.old step.old source.old dest.old
+    ensures moments { (s d : Machine) (count : ℕ) (total : Result Database ModelWord) → Together S.is_at D.is_at s d count 0 table.now total plan.old step.old source.old dest.old
         → LeavesOpen (IsOneOf (D.mark dest.old) (d.committed ∷ commits_by total)) (D.chip dest.old) (D.chip dest.new) }
     ensures ends { GoesBy S.is_live S.faults D.is_live D.faults result source.old source.new dest.old dest.new }
     ensures source_rest { HasGoneOn S.mark S.keeps S.goes_on source.old source.new }
     ensures dest_rest { HasGoneOn D.mark D.keeps D.goes_on dest.old dest.new }
+    ensures shows { ShowsRows P.lost P.shown result person.old person.new }
 {
-    match insert_rows(source, dest, table, plan, step, reply) {
-        Ok(rows) => committed(rows, commit(dest, reply)),
+    match insert_rows(source, dest, table, plan, step, reply, person) {
+        Ok(rows) => counted(rows, commit(dest, reply)),
         Err(end) => Err(end),
     }
 }
 
-// So many rows, where they were committed.
-fn committed(count: u32, commit: Result<(), CopyEnd>) -> Result<u32, CopyEnd>
-    ensures { result ≡ counted_by count commit }
+// So many rows, where it was done.
+fn counted(count: u32, done: Result<(), CopyEnd>) -> Result<u32, CopyEnd>
+    ensures { result ≡ counted_by count done }
 {
-    commit?;
+    done?;
     Ok(count)
 }
 
+// Whether a step has a row.
+fn has_row(step: &Step) -> bool
+    ensures { result ≡ model_has_row step.now }
+{
+    matches!(step, Step::Row { .. })
+}
+
 // A copy whose source is at its first row, or has none.
-fn copy_opened<S: CardLink, D: CardLink>(
+fn copy_opened<S: CardLink, D: CardLink, P: Person>(
     source: &mut S,
     dest: &mut D,
     table: &Name,
     plan: &mut Plan,
     step: &mut Step,
     reply: &mut Reply,
+    person: &mut P,
 ) -> CopyEnd
     requires live { IsTrue (S.is_live source.old) × IsTrue (D.is_live dest.old) }
     requires sendable { IfSent step.old IsSendable }
@@ -159,22 +181,24 @@ fn copy_opened<S: CardLink, D: CardLink>(
     ensures ends { EndsBy S.is_live S.faults D.is_live D.faults result source.old source.new dest.old dest.new }
     ensures source_rest { HasGoneOn S.mark S.keeps S.goes_on source.old source.new }
     ensures dest_rest { HasGoneOn D.mark D.keeps D.goes_on dest.old dest.new }
+    ensures shows { ShowsCopy P.lost P.shown result person.old person.new }
 {
     if let Err(end) = begin(dest, reply) {
         return end;
     }
-    match fill(source, dest, table, plan, step, reply) {
+    match fill(source, dest, table, plan, step, reply, person) {
         Ok(rows) => CopyEnd::Copied { rows },
         Err(end) => roll_back(dest, end, reply),
     }
 }
 
-/// Copies the rows that one card shows of an object into a table of another card, all of them or none, on channel 0 of both.
-pub fn copy<S: CardLink, D: CardLink>(
+/// Copies the rows that one card shows of an object into a table of another card, all of them or none, on channel 0 of both. Meanwhile a person is shown how far it has come.
+pub fn copy<S: CardLink, D: CardLink, P: Person>(
     source: &mut S,
     dest: &mut D,
     object: &Name,
     table: &Name,
+    person: &mut P,
 ) -> CopyEnd
     requires live { IsTrue (S.is_live source.old) × IsTrue (D.is_live dest.old) }
     ensures copies { (s d : Machine) → S.is_at source.old s → D.is_at dest.old d → CopiesSo D.is_at d (model.copy s d object.now table.now) result dest.new }
@@ -186,6 +210,7 @@ pub fn copy<S: CardLink, D: CardLink>(
     ensures causes { EndsBy S.is_live S.faults D.is_live D.faults result source.old source.new dest.old dest.new }
     ensures source_goes_on { HasGoneOn S.mark S.keeps S.goes_on source.old source.new }
     ensures dest_goes_on { HasGoneOn D.mark D.keeps D.goes_on dest.old dest.new }
+    ensures shows { ShowsCopy P.lost P.shown result person.old person.new }
 {
     let mut plan = Plan::start(selection(object), 0, false);
     let mut step = Step::ResetCard;
@@ -194,7 +219,9 @@ pub fn copy<S: CardLink, D: CardLink>(
         word: StatusWord::DONE,
     };
     match open(source, &mut plan, &mut step, &mut reply) {
-        Ok(()) => copy_opened(source, dest, table, &mut plan, &mut step, &mut reply),
+        Ok(()) => copy_opened(
+            source, dest, table, &mut plan, &mut step, &mut reply, person,
+        ),
         Err(end) => end,
     }
 }

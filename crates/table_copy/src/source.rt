@@ -35,8 +35,8 @@ pub fn selection(object: &Name) -> Statement
     }
 }
 
-/// How many rows a plan gave, or why it ended before all of them.
-pub fn fetched(closing: Closing) -> Result<u32, CopyEnd>
+// How many rows a plan gave, or why it ended before all of them.
+fn fetched(closing: Closing) -> Result<u32, CopyEnd>
     ensures { result ≡ fetched_by closing }
 {
     match closing {
@@ -48,8 +48,8 @@ pub fn fetched(closing: Closing) -> Result<u32, CopyEnd>
     }
 }
 
-// Whether a plan goes on behind this step, or has all rows.
-fn goes_on(step: &Step) -> Result<(), CopyEnd>
+/// Whether a plan goes on behind this step, or has all rows.
+pub fn goes_on(step: &Step) -> Result<(), CopyEnd>
     ensures { result ≡ goes_on_by step.now }
 {
     if let Step::Done { closing } = step {

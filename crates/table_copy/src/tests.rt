@@ -5,12 +5,13 @@ use crate::{CopyEnd, copy};
 use apdu::Reply;
 use arrayvec::ArrayVec;
 use card_link::{CardLink, FailingLink, Outcome, Recorder};
+use person::Person;
 use scql_base::{Name, StatusWord};
 
 // A card that answers by these words, the last one first, and then by 9000. Where octets are asked for it gives a row of one value. Nothing is told of it.
 #[derive(Drop)]
 struct Answering {
-    words: ArrayVec<u16, 8>,
+    words: ArrayVec<u16, 40>,
 }
 
 impl CardLink for Answering {
@@ -63,6 +64,31 @@ impl CardLink for Answering {
     ghost valid = { λ _ _ at. absurd at };
 }
 
+// A person who reads all that is shown, as far as there is room.
+#[derive(Drop)]
+struct Screen {
+    text: ArrayVec<u8, 64>,
+}
+
+impl Person for Screen {
+    ghost use Rattle.std.specs.Prelude.{None, false};
+
+    ghost shown = { λ _. None };
+
+    ghost lost = { λ _. false };
+
+    fn show(&mut self, text: &[u8]) {
+        // A text that is full stays as it is.
+        let _ = self.text.try_extend_from_slice(text);
+    }
+}
+
+fn make_screen() -> Screen {
+    Screen {
+        text: ArrayVec::new(),
+    }
+}
+
 // A card that answers so, the last word first, and is mute after so many commands.
 fn card(words: &[u16], left: u16) -> Recorder<FailingLink<Answering>, 8> {
     let mut answering = Answering {
@@ -86,7 +112,7 @@ fn copied(
         && source.live()
         && dest.live()
     {
-        end = Some(copy(&mut source, &mut dest, &name, &name));
+        end = Some(copy(&mut source, &mut dest, &name, &name, &mut make_screen()));
     }
     let mut heard = ArrayVec::new();
     let _ = heard.try_extend_from_slice(dest.words());
@@ -105,6 +131,36 @@ fn a_row_is_copied(rt: HostRuntime) {
     let (end, heard) = copied(&[0x6282, 0x9000], 9, &[], 9);
     assert_eq!(rt; end, Some(CopyEnd::Copied { rows: 0 }));
     assert_eq!(rt; heard.as_slice(), [0x9000, 0x9000].as_slice());
+}
+
+// What is shown while so many rows are copied.
+fn shown(rows: usize) -> ArrayVec<u8, 64> {
+    let mut words: ArrayVec<u16, 40> = ArrayVec::new();
+    let _ = words.try_push(0x6282);
+    for _ in 0..rows {
+        let _ = words.try_push(0x9000);
+    }
+    let _ = words.try_extend_from_slice(&[0x9000, 0x9000]);
+    let mut source = card(&words, 99);
+    let mut dest = card(&[], 99);
+    let mut screen = make_screen();
+    if let Some(name) = Name::read(b"T")
+        && source.live()
+        && dest.live()
+    {
+        let _ = copy(&mut source, &mut dest, &name, &name, &mut screen);
+    }
+    screen.text
+}
+
+#[test]
+fn a_person_is_shown_each_sixteen_rows(rt: HostRuntime) {
+    assert_eq!(rt; shown(15).len(), 0);
+    assert_eq!(rt; shown(16).as_slice(), b"\rcopied 16\n".as_slice());
+    assert_eq!(rt;
+        shown(33).as_slice(),
+        b"\rcopied 16\rcopied 32\n".as_slice()
+    );
 }
 
 #[test]

@@ -4,7 +4,8 @@ use Rattle.card_asking.proofs.Moments.{leaves-none}
 use Rattle.std.specs.Prelude.{◌∷◌}
 use Rattle.table_copy.specs.Copy.{copy, source_rows}
 use Rattle.table_copy.proofs.Copied.{copy-given, fetching-all, unopened-copies, unopened-reads}
-use Rattle.table_copy.proofs.Turning.{holds-both}
+use Rattle.table_copy.proofs.Turning.{holds-both, source-counted}
+use Rattle.table_copy.proofs.Showing.{none-copied}
 use Rattle.table_copy.proofs.copying.copy.Goals as goal
 
 pub returns-in-Ok-clause-copies : goal.returns-in-Ok-clause-copies
@@ -50,3 +51,10 @@ returns-in-Err-clause-reads g c = λ s source_at.
 pub returns-in-Err-clause-dest_moments : goal.returns-in-Err-clause-dest_moments
 returns-in-Err-clause-dest_moments g c = λ s d source_at dest_at.
     leaves-none g.D.CardLink.chip g.D.CardLink.mark (IsOneOf (g.D.CardLink.mark c.args.dest.now) (d.committed ∷ (copy s d c.args.object.now c.args.table.now).commits)) c.args.dest.now d.committed (g.met.D.CardLink.marks c.args.dest.now) (g.met.D.CardLink.opens c.args.dest.now d dest_at) (inl (refl, refl))
+
+pub returns-in-Err-clause-shows : goal.returns-in-Err-clause-shows
+returns-in-Err-clause-shows g c = record {
+  rows = 0;
+  counted = source-counted (Unit {0}) g.S.CardLink.is_live g.S.CardLink.faults c.in-Err.end 0 c.args.source.now c.open.new.source c.in-Err.ensures.ends;
+  shows = none-copied g.P.Person.lost g.P.Person.shown c.args.person.now;
+}

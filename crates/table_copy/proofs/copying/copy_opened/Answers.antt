@@ -6,6 +6,9 @@ use Rattle.table_copy.specs.Copying.{CopiesSo, StaysAt, UndoneSo}
 use Rattle.table_copy.specs.Filling.{IsCommitted}
 use Rattle.std.proofs.Common.{Ok}
 use Rattle.table_copy.proofs.Copied.{begun-moments, begun-total, commits-same, copied-so, ended-reads, filling-ended, rolled-moments, together-first, undone-copies, undone-so, unless-mute}
+use Rattle.table_copy.proofs.Turning.{dest-counted, goes-counted, goes-ends}
+use Rattle.table_copy.specs.Progress.{IsCounted}
+use Rattle.table_copy.proofs.Showing.{none-copied}
 use Rattle.table_copy.proofs.copying.copy_opened.Goals as goal
 
 pub returns-in-Err-clause-moments : goal.returns-in-Err-clause-moments
@@ -44,7 +47,8 @@ returns-in-Err-fill-clause-copies g c = λ s d rows gives at.
 pub returns-in-Err-fill-clause-reads : goal.returns-in-Err-fill-clause-reads
 returns-in-Err-fill-clause-reads g c = λ s fetching.
     ended-reads ℕ g.S.CardLink.is_at g.S.CardLink.is_live g.S.CardLink.faults g.D.CardLink.is_live g.D.CardLink.faults s (StaysAt g.S.CardLink.is_at s c.fill.new.source) c.in-Err-fill.end c.args.source.now c.fill.new.source c.begin.new.dest c.fill.new.dest
-    (c.in-Err-fill.ensures.reads s fetching) c.in-Err-fill.ensures.ends
+    (c.in-Err-fill.ensures.reads s fetching)
+    (goes-ends ℕ g.S.CardLink.is_live g.S.CardLink.faults g.D.CardLink.is_live g.D.CardLink.faults c.in-Err-fill.end c.args.source.now c.fill.new.source c.begin.new.dest c.fill.new.dest c.in-Err-fill.ensures.ends)
 
 pub returns-in-Err-fill-clause-undone : goal.returns-in-Err-fill-clause-undone
 returns-in-Err-fill-clause-undone g c = λ d at.
@@ -67,3 +71,19 @@ returns-in-Err-fill-clause-moments g c = λ s d rows gives at.
     (c.begin.ensures.moments d at)
     (c.fill.ensures.moments s d (length rows) total
     (together-first g.S.CardLink.is_at g.D.CardLink.is_at s d rows c.args.table.now c.args.plan.now c.args.step.now c.args.source.now c.begin.new.dest gives begun.1)))
+
+pub returns-in-Err-clause-shows : goal.returns-in-Err-clause-shows
+returns-in-Err-clause-shows g c = record {
+  rows = 0;
+  counted = dest-counted (Unit {0}) g.D.CardLink.is_live g.D.CardLink.faults c.in-Err.end 0 c.args.dest.now c.begin.new.dest c.in-Err.ensures.ends;
+  shows = none-copied g.P.Person.lost g.P.Person.shown c.args.person.now;
+}
+
+pub returns-in-Err-fill-clause-shows : goal.returns-in-Err-fill-clause-shows
+returns-in-Err-fill-clause-shows g c = record {
+  rows = c.fill.ensures.shows.rows;
+  counted = unless-mute (λ r. IsCounted r c.fill.ensures.shows.rows) c.roll_back.result tt (λ heard.
+      subst (λ r. IsCounted r c.fill.ensures.shows.rows) (sym (c.roll_back.ensures.same heard))
+      (goes-counted ℕ g.S.CardLink.is_live g.S.CardLink.faults g.D.CardLink.is_live g.D.CardLink.faults c.in-Err-fill.end c.fill.ensures.shows.rows c.args.source.now c.fill.new.source c.begin.new.dest c.fill.new.dest c.in-Err-fill.ensures.ends));
+  shows = c.fill.ensures.shows.shows;
+}

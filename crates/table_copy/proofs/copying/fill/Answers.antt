@@ -8,13 +8,13 @@ use Rattle.table_copy.proofs.copying.fill.Goals as goal
 pub returns-in-Ok-clause-turns : goal.returns-in-Ok-clause-turns
 returns-in-Ok-clause-turns g c = λ s d count total together.
     let f = c.in-Ok.ensures.turns s d count total together in
-    rw c.committed.ensures
+    rw c.counted.ensures
     (fill-turns g.D.CardLink.is_at d count total c.in-Ok.rows c.insert_rows.new.dest c.commit.new.dest f c.commit.result (c.commit.ensures.commits d f.db f.copies))
 
 pub returns-in-Ok-clause-fills : goal.returns-in-Ok-clause-fills
 returns-in-Ok-clause-fills g c = λ d filling.
     let f = c.in-Ok.ensures.fills d filling (λ is. absurd cc) in
-    rw c.committed.ensures
+    rw c.counted.ensures
     (fill-fills g.D.CardLink.is_at d f.db c.in-Ok.rows c.commit.new.dest c.commit.result (c.commit.ensures.commits d f.db f.copies))
 
 pub returns-in-Ok-clause-moments : goal.returns-in-Ok-clause-moments

@@ -1,23 +1,23 @@
 use Rattle.std.proofs.Common.{sym, ◌∙◌, subst}
 use Rattle.planner.specs.declared.closing.Closing.TheVariants.{Rows}
 use Rattle.card_asking.specs.Giving.{behind_step}
-use Rattle.table_copy.specs.Filling.{Together, TurnsSo}
+use Rattle.table_copy.specs.Filling.{Together, TurnsSo, has_row, with_row}
 use Rattle.table_copy.proofs.Ending.{unless-source_mute}
 use Rattle.table_copy.proofs.Opening.{rows-go_on}
-use Rattle.table_copy.proofs.Turning.{fetches-on, has-row, turns-refused}
+use Rattle.table_copy.proofs.Turning.{fetches-on, has-row, row-counted, turns-refused}
 use Rattle.table_copy.proofs.copying.turn.Goals as goal
 
 pub returns-in-Ok-clause-turns : goal.returns-in-Ok-clause-turns
-returns-in-Ok-clause-turns g c = λ s d count total together.
+returns-in-Ok-clause-turns g c = λ s d count passed total together.
     let S = g.S.CardLink.is_at in
     let D = g.D.CardLink.is_at in
     let all = together.gives in
     let put = c.in-Ok.ensures.puts d together.db together.left together.copies (has-row S s (Rows count) all.last together.left c.args.plan.now c.args.step.now c.args.source.now all.gives) in
-    unless-source_mute (λ r. TurnsSo total r (λ _. Together S D s d count c.args.table.now total c.advance.new.plan c.advance.new.step c.advance.new.source c.put_row.new.dest)) c.advance.result tt (λ heard.
+    unless-source_mute (λ r. TurnsSo total r (λ _. Together S D s d count (with_row (has_row c.args.step.now) passed) c.args.table.now total c.advance.new.plan c.advance.new.step c.advance.new.source c.put_row.new.dest)) c.advance.result tt (λ heard.
     let gives = c.advance.ensures.gives s all.last (Rows count) together.left all.gives heard in
-    subst (λ r. TurnsSo total r (λ _. Together S D s d count c.args.table.now total c.advance.new.plan c.advance.new.step c.advance.new.source c.put_row.new.dest))
+    subst (λ r. TurnsSo total r (λ _. Together S D s d count (with_row (has_row c.args.step.now) passed) c.args.table.now total c.advance.new.plan c.advance.new.step c.advance.new.source c.put_row.new.dest))
     (sym (c.advance.ensures.goes_on heard ∙ rows-go_on S s all.last count (behind_step c.args.step.now together.left) c.advance.new.plan c.advance.new.step c.advance.new.source gives))
-    (record { left = behind_step c.args.step.now together.left; db = put.0; gives = record { last = all.last; gives = gives }; copies = put.2; leads = sym put.1 ∙ together.leads }))
+    (record { left = behind_step c.args.step.now together.left; db = put.0; gives = record { last = all.last; gives = gives }; copies = put.2; leads = sym put.1 ∙ together.leads; counted = row-counted S s all.last count passed together.left c.args.plan.now c.args.step.now c.args.source.now all.gives together.counted }))
 
 pub returns-in-Ok-clause-reads : goal.returns-in-Ok-clause-reads
 returns-in-Ok-clause-reads g c = λ s fetching.
@@ -28,8 +28,8 @@ pub returns-in-Ok-clause-still : goal.returns-in-Ok-clause-still
 returns-in-Ok-clause-still g c = λ s fetching. c.advance.ensures.still s fetching.last fetching.closing fetching.rows fetching.gives
 
 pub returns-in-Err-clause-turns : goal.returns-in-Err-clause-turns
-returns-in-Err-clause-turns g c = λ s d count total together.
+returns-in-Err-clause-turns g c = λ s d count passed total together.
     let all = together.gives in
-    turns-refused g.D.CardLink.is_at d c.args.table.now (λ _. Together g.S.CardLink.is_at g.D.CardLink.is_at s d count c.args.table.now total c.args.plan.now c.args.step.now c.args.source.now c.put_row.new.dest)
+    turns-refused g.D.CardLink.is_at d c.args.table.now (λ _. Together g.S.CardLink.is_at g.D.CardLink.is_at s d count (with_row (has_row c.args.step.now) passed) c.args.table.now total c.args.plan.now c.args.step.now c.args.source.now c.put_row.new.dest)
     c.args.step.now together.left together.db c.in-Err.end total c.put_row.new.dest together.leads
     (c.in-Err.ensures.puts d together.db together.left together.copies (has-row g.S.CardLink.is_at s (Rows count) all.last together.left c.args.plan.now c.args.step.now c.args.source.now all.gives))
