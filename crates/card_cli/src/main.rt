@@ -77,4 +77,4 @@ migrate      lets the rows of the card be longer: up to 1020 octets, not 240
 
 FILE is created by new alone. Exit status: 0 done, 1 refused, 2 usage,
 3 EEPROM fault, 4 read fault, 5 write fault, 6 not a card, 7 no memory,
-8 input too long, 9 image too small, 10 no file.";
+8 input too long, 9 image too small, 10 no file, or a held one.";
