@@ -1,0 +1,7 @@
+pub mod Carrying
+pub mod Prompts
+pub mod Runs
+pub mod Status
+pub mod Turns
+pub mod Views
+pub mod ViewLaws

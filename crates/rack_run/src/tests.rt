@@ -1,0 +1,1 @@
+// Runs over racks of cards in memory.
