@@ -1,5 +1,5 @@
-// A library that is loaded before the C library and refuses card_cli one allocation: of those that it asks for once it has begun to
-// read its card the one whose number the variable REFUSED has. Each of them writes an octet to the descriptor 9.
+// A library that is loaded before the C library and refuses a program one allocation: of those that it asks for once it has begun to
+// read its first card the one whose number the variable REFUSED has. Each of them writes an octet to the descriptor 9.
 #define _GNU_SOURCE
 #include <dlfcn.h>
 #include <errno.h>
