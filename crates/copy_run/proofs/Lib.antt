@@ -1,0 +1,3 @@
+pub mod Named
+pub mod Presented
+pub mod Relinking

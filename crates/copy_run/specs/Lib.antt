@@ -1,0 +1,4 @@
+pub mod Copies
+pub mod Presenting
+pub mod Racks
+pub mod Runs
