@@ -1,6 +1,5 @@
 -- What a view rests on, test by test.
-use Rattle.std.proofs.Common.{◌≡◌, None, ap, rules, sym, ◌∙◌}
-use Rattle.scql_model.specs.Rules.{are_named_among}
+use Rattle.std.proofs.Common.{◌≡◌, None, rules, sym, ◌∙◌}
 use Rattle.card.specs.Founded.{own_columns}
 use Rattle.card.specs.KeptRecords.{objects_in}
 use Rattle.card.proofs.Founding.{rests, rests-nowhere, too-deep, too-young}
@@ -21,6 +20,6 @@ returns-then-not-may_have_view c =
 
 pub returns : goal.returns
 returns c =
-    c.are_named_among.ensures ∙ ap (λ all. are_named_among all c.args.columns.now c.args.conditions.now) c.as_slice.ensures.names
+    c.are_named_among.ensures
     ∙ sym (rests (objects_in c.args.records.now.items) c.args.view.now c.args.columns.now c.args.conditions.now c.args.base.now c.in-Some.all.now (sym c.in-Some.ensures)
     (sym c.stands_before.ensures ∙ c.if-not-stands_before.false) (sym c.may_have_view.ensures ∙ c.if-not-may_have_view.false))
