@@ -1,5 +1,5 @@
 -- What a person is shown who watches a load.
-use Rattle.std.specs.Prelude.{◌≡◌, ℕ, ◌+◌, ◌%◌, ◌==◌, ◌≤◌, nat_le, not, Bool, true, false, List, [], ◌∷◌, ◌++◌, length, map, Option, Some, None, IsSome, IfSome, if◌then◌else◌, codes}
+use Rattle.std.specs.Prelude.{◌≡◌, ℕ, ◌+◌, ◌%◌, ◌==◌, ◌≤◌, nat_le, not, Bool, true, List, [], ◌∷◌, ◌++◌, length, map, Option, Some, None, IsSome, IfSome, if◌then◌else◌, codes}
 use Rattle.std.specs.List.{count_by}
 use Rattle.std.specs.Fmt.{decimal}
 use Rattle.scql_model.specs.Database.{Database}
