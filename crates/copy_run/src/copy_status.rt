@@ -31,12 +31,14 @@ impl CopyStatus {
             CopyEnd::SourceMute | CopyEnd::DestMute => CopyStatus::Mute,
         }
     }
+}
 
-    /// The end of the program: a card that is mute is an EEPROM that failed.
-    pub fn status(self) -> Status
-        ensures { result ≡ model.program_status self }
-    {
-        match self {
+/// A card that is mute is an EEPROM that failed.
+impl From<CopyStatus> for Status {
+    ghost from_gives = { λ status ending. ending ≡ model.program_status status };
+
+    fn from(status: CopyStatus) -> Status {
+        match status {
             CopyStatus::Done => Status::Done,
             CopyStatus::Refused => Status::Refused,
             CopyStatus::Usage => Status::Usage,

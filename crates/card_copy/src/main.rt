@@ -1,0 +1,96 @@
+//! The program `card_copy`: copies what a card shows into a table of another card. The EEPROMs of both are files.
+#![tactic(auto)]
+
+use card::{Card, OpenRefusal, SlotCard};
+use copy_run::{are_names, run_copy};
+use file_bench::{FileBench, StdOutlet};
+use person::Watcher;
+use program::{About, Ending, Status, command_line, end_program, hold_streams};
+use reader_rack::Rack;
+use std::alloc::AllocError;
+use std::io::{IsTerminal, Stderr};
+use std::process::ExitCode;
+
+fn main(rt: HostRuntime) -> ExitCode {
+    let ending = match answer(&rt) {
+        Ok(status) => Ending::Run(status),
+        Err(ending) => ending,
+    };
+    end_program(&rt, ending, USAGE)
+}
+
+fn answer(rt: &HostRuntime) -> Result<Status, Ending> {
+    let words = command_line(rt)?;
+    if let Some(status) = ABOUT.answer(rt, &words) {
+        return Ok(status);
+    }
+    match words.as_slice() {
+        [from, to, names @ ..] if from.as_str() != to.as_str() && are_names(names) => {
+            run_over(rt, from, to, names)
+        }
+        _ => Ok(Status::Usage),
+    }
+}
+
+// Copies between the cards of these files. Both files are opened before the first card is.
+fn run_over(
+    rt: &HostRuntime,
+    from: &str,
+    to: &str,
+    names: &[String],
+) -> Result<Status, Ending> {
+    let _streams = hold_streams(rt);
+    let mut source_bench = FileBench::open(rt.clone()?, from, false)?;
+    let mut dest_bench = FileBench::open(rt.clone()?, to, false)?;
+    let source = Card::open(rt.alloc(), &mut source_bench).map_err(ending_of)?;
+    let dest = Card::open(rt.alloc(), &mut dest_bench).map_err(ending_of)?;
+    let source = Box::new(rt.alloc(), SlotCard::new(source, source_bench)).map_err(AllocError::from)?;
+    let dest = Box::new(rt.alloc(), SlotCard::new(dest, dest_bench)).map_err(AllocError::from)?;
+    let mut rack = Rack::new(StdOutlet::new(rt.clone()?));
+    // Neither reader holds a link yet.
+    let _ = rack.insert(1, source);
+    let _ = rack.insert(2, dest);
+    let mut person = Watcher::new(watching_screen(rt));
+    Ok(run_copy(names, &mut rack, &mut person).into())
+}
+
+// How the program ends where a card doesn't open.
+fn ending_of(refusal: OpenRefusal) -> Ending {
+    Ending::Run(match refusal {
+        OpenRefusal::NoMemory => Status::NoMemory,
+        OpenRefusal::NotACard => Status::NotACard,
+        OpenRefusal::Fault => Status::Eeprom,
+    })
+}
+
+// Standard error, where a person watches.
+fn watching_screen(rt: &HostRuntime) -> Option<Stderr> {
+    if rt.stderr().is_terminal() {
+        Some(rt.stderr())
+    } else {
+        None
+    }
+}
+
+const USAGE: &str = "usage: card_copy FILE1 FILE2 SUSER OBJECT DUSER TABLE";
+
+const ABOUT: About = About {
+    help: HELP,
+    version: "card_copy 0.1.0",
+};
+
+const HELP: &str = "usage: card_copy FILE1 FILE2 SUSER OBJECT DUSER TABLE
+
+Copies the rows that the card in FILE1 shows user SUSER of a table or view
+OBJECT into TABLE of the card in FILE2, as user DUSER there: all of them, or
+none. No secret is given, so that neither user is proved. The rows are added
+behind those that TABLE has. One line says how it ended:
+
+copied R rows             they are in TABLE
+source refused XXXX       the card in FILE1 refused with this status word
+destination refused XXXX  the card in FILE2 did
+source mute               the card in FILE1 failed
+destination mute          the card in FILE2 failed: it has all rows or none
+
+Exit status: 0 copied, 1 refused, 2 usage, 3 EEPROM fault, 5 write fault,
+6 not a card, 7 no memory, 10 no file, or a held one.";
