@@ -1,4 +1,4 @@
-// A library that is loaded before the C library and lies to the program card_cli, or for it, as the variable LIE says. With
+// A library that is loaded before the C library and lies to the programs over cards, or for them, as the variable LIE says. With
 // another value it does nothing. Other programs in which it is loaded aren't touched.
 #define _GNU_SOURCE
 #include <arpa/inet.h>
@@ -25,9 +25,13 @@ static struct {
 } waiting[4096];
 static int count;
 
+static int is_over_cards(const char *name) {
+    return !strcmp(name, "card_cli") || !strcmp(name, "rack_cli") || !strcmp(name, "card_copy");
+}
+
 static int lies(const char *how) {
     const char *lie = getenv("LIE");
-    return lie && !strcmp(lie, how) && !strcmp(program_invocation_short_name, "card_cli");
+    return lie && !strcmp(lie, how) && is_over_cards(program_invocation_short_name);
 }
 
 // The system may give and take fewer octets than it is asked for.
@@ -84,13 +88,13 @@ ssize_t read(int file, void *into, size_t length) {
 
 ssize_t write(int file, const void *from, size_t length) {
     char line[64];
-    if (file == 2 && length < sizeof line && lies("miscounts") && !memcmp(from, "\rinserted ", 10)) {
+    if (file == 2 && length > 8 && length < sizeof line && lies("miscounts") && (!memcmp(from, "\rinserted", 9) || !memcmp(from, "\rcopied ", 8))) {
         memcpy(line, from, length);
         line[length - 1] ^= 1;
         from = line;
     }
-    int is_prompt = file == 2 && length == 2 && !memcmp(from, "> ", 2);
-    if (is_prompt && lies("unprompted")) return 2;
+    int is_prompt = file == 2 && (length == 2 || length == 3) && !memcmp((const char *)from + length - 2, "> ", 2);
+    if (is_prompt && lies("unprompted")) return length;
     if (is_prompt && lies("prompts_output")) file = 1;
     return REAL(write)(file, from, most(length));
 }
