@@ -25,8 +25,8 @@ use crate::progress::Progress;
 use crate::words::Form;
 use card::{Card, LiveCard};
 use eeprom::{Bench, EepromFault};
-use planner::Closing;
 use person::Person;
+use planner::Closing;
 use program::Status;
 use terminal::{QuietEnd, Terminal};
 

@@ -10,9 +10,9 @@ mod reads;
 mod scripts;
 mod statements;
 
-use person::Person;
 use crate::run::run_card;
 use eeprom::{FaultPlan, MemBench, MemSource, SteadySource};
+use person::Person;
 use program::Status;
 use std::alloc::{AllocError, Global};
 use std::test::Fail;
