@@ -1,13 +1,16 @@
 //! The program `card_copy`: copies what a card shows into a table of another card. The EEPROMs of both are files.
 #![tactic(auto)]
 
+ghost use Rattle.std.specs.Prelude.{◌≡◌, IfOk, IsTrue, None};
+ghost use Rattle.scql_model.specs.Machine.{Machine};
+
 use card::{Card, OpenRefusal, SlotCard};
+use card_link::CardLink;
 use copy_run::{are_names, run_copy};
 use file_bench::{FileBench, StdOutlet};
 use person::Watcher;
 use program::{About, Ending, Status, command_line, end_program, hold_streams};
 use reader_rack::Rack;
-use std::alloc::AllocError;
 use std::io::{IsTerminal, Stderr};
 use std::process::ExitCode;
 
@@ -33,25 +36,44 @@ fn answer(rt: &HostRuntime) -> Result<Status, Ending> {
 }
 
 // Copies between the cards of these files. Both files are opened before the first card is.
-fn run_over(
-    rt: &HostRuntime,
-    from: &str,
-    to: &str,
-    names: &[String],
-) -> Result<Status, Ending> {
+fn run_over(rt: &HostRuntime, from: &str, to: &str, names: &[String]) -> Result<Status, Ending> {
     let _streams = hold_streams(rt);
-    let mut source_bench = FileBench::open(rt.clone()?, from, false)?;
-    let mut dest_bench = FileBench::open(rt.clone()?, to, false)?;
-    let source = Card::open(rt.alloc(), &mut source_bench).map_err(ending_of)?;
-    let dest = Card::open(rt.alloc(), &mut dest_bench).map_err(ending_of)?;
-    let source = Box::new(rt.alloc(), SlotCard::new(source, source_bench)).map_err(AllocError::from)?;
-    let dest = Box::new(rt.alloc(), SlotCard::new(dest, dest_bench)).map_err(AllocError::from)?;
+    let source = FileBench::open(rt.clone()?, from, false)?;
+    let dest = FileBench::open(rt.clone()?, to, false)?;
+    let source = card_in(rt, source)?;
+    let dest = card_in(rt, dest)?;
     let mut rack = Rack::new(StdOutlet::new(rt.clone()?));
     // Neither reader holds a link yet.
     let _ = rack.insert(1, source);
     let _ = rack.insert(2, dest);
     let mut person = Watcher::new(watching_screen(rt));
     Ok(run_copy(names, &mut rack, &mut person).into())
+}
+
+// The card in a file, in a box of its own.
+fn card_in(
+    rt: &HostRuntime,
+    mut bench: FileBench<HostRuntime>,
+) -> Result<Box<SlotCard<FileBench<HostRuntime>>>, Ending>
+    ensures live { IfOk result (λ card. IsTrue (⟦<SlotCard<FileBench<HostRuntime>> as CardLink>⟧.is_live card.value)) }
+    ensures closed { IfOk result (λ card. (m : Machine) → ⟦<SlotCard<FileBench<HostRuntime>> as CardLink>⟧.is_at card.value m → m.transaction ≡ None) }
+{
+    match Card::open(rt.alloc(), &mut bench) {
+        Ok(card) => boxed(rt, SlotCard::new(card, bench)),
+        Err(refusal) => Err(ending_of(refusal)),
+    }
+}
+
+fn boxed(
+    rt: &HostRuntime,
+    card: SlotCard<FileBench<HostRuntime>>,
+) -> Result<Box<SlotCard<FileBench<HostRuntime>>>, Ending>
+    ensures { IfOk result (λ boxed. boxed.value ≡ card) }
+{
+    match Box::new(rt.alloc(), card) {
+        Ok(boxed) => Ok(boxed),
+        Err(_) => Err(Ending::Run(Status::NoMemory)),
+    }
 }
 
 // How the program ends where a card doesn't open.
