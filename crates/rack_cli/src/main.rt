@@ -1,7 +1,11 @@
 //! The program `rack_cli`: up to four cards in readers, whose EEPROMs are files, with standard input and output as the terminal of them all.
 #![tactic(auto)]
 
+ghost use Rattle.std.specs.Prelude.{◌≡◌, ◌≤◌, length, IfOk, IsTrue, None};
+ghost use Rattle.scql_model.specs.Machine.{Machine};
+
 use card::{Card, OpenRefusal, SlotCard};
+use card_link::CardLink;
 use file_bench::{FileBench, StdOutlet, StdSource};
 use person::Watcher;
 use program::{About, Ending, Status, command_line, end_program, hold_streams};
@@ -10,6 +14,9 @@ use reader_rack::Rack;
 use std::alloc::AllocError;
 use std::io::{IsTerminal, Stderr};
 use std::process::ExitCode;
+
+#[cfg(test)]
+mod tests;
 
 /// How many readers a rack has.
 const READERS: usize = 4;
@@ -46,7 +53,9 @@ fn are_different(paths: &[String]) -> bool {
 }
 
 // Runs over the cards of these files. All files are opened before the first card is.
-fn run_over(rt: &HostRuntime, paths: &[String]) -> Result<Status, Ending> {
+fn run_over(rt: &HostRuntime, paths: &[String]) -> Result<Status, Ending>
+    requires { length paths.now ≤ 4 }
+{
     let _streams = hold_streams(rt);
     let mut benches = Vec::with_capacity(rt.alloc(), READERS)?;
     for path in paths {
@@ -55,16 +64,41 @@ fn run_over(rt: &HostRuntime, paths: &[String]) -> Result<Status, Ending> {
     }
     let mut rack = Rack::new(StdOutlet::new(rt.clone()?));
     let mut reader = 1;
-    for mut bench in benches {
-        let card = Card::open(rt.alloc(), &mut bench).map_err(ending_of)?;
-        let link = Box::new(rt.alloc(), SlotCard::new(card, bench)).map_err(AllocError::from)?;
+    for bench in benches {
+        let card = card_in(rt, bench)?;
         // The reader holds no link yet.
-        let _ = rack.insert(reader, link);
+        let _ = rack.insert(reader, card);
         reader += 1;
     }
     let mut source = StdSource::new(rt.clone()?);
     let mut person = Watcher::new(typing_screen(rt));
     Ok(run_rack(&mut source, &mut rack, &mut person).into())
+}
+
+// The card in a file, in a box of its own.
+fn card_in(
+    rt: &HostRuntime,
+    mut bench: FileBench<HostRuntime>,
+) -> Result<Box<SlotCard<FileBench<HostRuntime>>>, Ending>
+    ensures live { IfOk result (λ card. IsTrue (⟦<SlotCard<FileBench<HostRuntime>> as CardLink>⟧.is_live card.value)) }
+    ensures closed { IfOk result (λ card. (m : Machine) → ⟦<SlotCard<FileBench<HostRuntime>> as CardLink>⟧.is_at card.value m → m.transaction ≡ None) }
+{
+    match Card::open(rt.alloc(), &mut bench) {
+        Ok(card) => boxed(rt, SlotCard::new(card, bench)),
+        Err(refusal) => Err(ending_of(refusal)),
+    }
+}
+
+fn boxed(
+    rt: &HostRuntime,
+    card: SlotCard<FileBench<HostRuntime>>,
+) -> Result<Box<SlotCard<FileBench<HostRuntime>>>, Ending>
+    ensures { IfOk result (λ boxed. boxed.value ≡ card) }
+{
+    match Box::new(rt.alloc(), card) {
+        Ok(boxed) => Ok(boxed),
+        Err(_) => Err(Ending::Run(Status::NoMemory)),
+    }
 }
 
 // How the program ends where a card doesn't open.
