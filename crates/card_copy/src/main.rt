@@ -1,13 +1,9 @@
 //! The program `card_copy`: copies what a card shows into a table of another card. The EEPROMs of both are files.
 #![tactic(auto)]
 
-ghost use Rattle.std.specs.Prelude.{◌≡◌, IfOk, IsTrue, None};
-ghost use Rattle.scql_model.specs.Machine.{Machine};
-
-use card::{Card, OpenRefusal, SlotCard};
-use card_link::CardLink;
 use copy_run::{are_names, run_copy};
 use file_bench::{FileBench, StdOutlet};
+use file_card::card_in;
 use person::Watcher;
 use program::{About, Ending, Status, command_line, end_program, hold_streams};
 use reader_rack::Rack;
@@ -48,41 +44,6 @@ fn run_over(rt: &HostRuntime, from: &str, to: &str, names: &[String]) -> Result<
     let _ = rack.insert(2, dest);
     let mut person = Watcher::new(watching_screen(rt));
     Ok(run_copy(names, &mut rack, &mut person).into())
-}
-
-// The card in a file, in a box of its own.
-fn card_in(
-    rt: &HostRuntime,
-    mut bench: FileBench<HostRuntime>,
-) -> Result<Box<SlotCard<FileBench<HostRuntime>>>, Ending>
-    ensures live { IfOk result (λ card. IsTrue (⟦<SlotCard<FileBench<HostRuntime>> as CardLink>⟧.is_live card.value)) }
-    ensures closed { IfOk result (λ card. (m : Machine) → ⟦<SlotCard<FileBench<HostRuntime>> as CardLink>⟧.is_at card.value m → m.transaction ≡ None) }
-{
-    match Card::open(rt.alloc(), &mut bench) {
-        Ok(card) => boxed(rt, SlotCard::new(card, bench)),
-        Err(refusal) => Err(ending_of(refusal)),
-    }
-}
-
-fn boxed(
-    rt: &HostRuntime,
-    card: SlotCard<FileBench<HostRuntime>>,
-) -> Result<Box<SlotCard<FileBench<HostRuntime>>>, Ending>
-    ensures { IfOk result (λ boxed. boxed.value ≡ card) }
-{
-    match Box::new(rt.alloc(), card) {
-        Ok(boxed) => Ok(boxed),
-        Err(_) => Err(Ending::Run(Status::NoMemory)),
-    }
-}
-
-// How the program ends where a card doesn't open.
-fn ending_of(refusal: OpenRefusal) -> Ending {
-    Ending::Run(match refusal {
-        OpenRefusal::NoMemory => Status::NoMemory,
-        OpenRefusal::NotACard => Status::NotACard,
-        OpenRefusal::Fault => Status::Eeprom,
-    })
 }
 
 // Standard error, where a person watches.

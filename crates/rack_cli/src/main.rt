@@ -1,12 +1,10 @@
 //! The program `rack_cli`: up to four cards in readers, whose EEPROMs are files, with standard input and output as the terminal of them all.
 #![tactic(auto)]
 
-ghost use Rattle.std.specs.Prelude.{◌≡◌, ◌≤◌, length, IfOk, IsTrue, None};
-ghost use Rattle.scql_model.specs.Machine.{Machine};
+ghost use Rattle.std.specs.Prelude.{◌≤◌, length};
 
-use card::{Card, OpenRefusal, SlotCard};
-use card_link::CardLink;
 use file_bench::{FileBench, StdOutlet, StdSource};
+use file_card::card_in;
 use person::Watcher;
 use program::{About, Ending, Status, command_line, end_program, hold_streams};
 use rack_run::run_rack;
@@ -73,41 +71,6 @@ fn run_over(rt: &HostRuntime, paths: &[String]) -> Result<Status, Ending>
     let mut source = StdSource::new(rt.clone()?);
     let mut person = Watcher::new(typing_screen(rt));
     Ok(run_rack(&mut source, &mut rack, &mut person).into())
-}
-
-// The card in a file, in a box of its own.
-fn card_in(
-    rt: &HostRuntime,
-    mut bench: FileBench<HostRuntime>,
-) -> Result<Box<SlotCard<FileBench<HostRuntime>>>, Ending>
-    ensures live { IfOk result (λ card. IsTrue (⟦<SlotCard<FileBench<HostRuntime>> as CardLink>⟧.is_live card.value)) }
-    ensures closed { IfOk result (λ card. (m : Machine) → ⟦<SlotCard<FileBench<HostRuntime>> as CardLink>⟧.is_at card.value m → m.transaction ≡ None) }
-{
-    match Card::open(rt.alloc(), &mut bench) {
-        Ok(card) => boxed(rt, SlotCard::new(card, bench)),
-        Err(refusal) => Err(ending_of(refusal)),
-    }
-}
-
-fn boxed(
-    rt: &HostRuntime,
-    card: SlotCard<FileBench<HostRuntime>>,
-) -> Result<Box<SlotCard<FileBench<HostRuntime>>>, Ending>
-    ensures { IfOk result (λ boxed. boxed.value ≡ card) }
-{
-    match Box::new(rt.alloc(), card) {
-        Ok(boxed) => Ok(boxed),
-        Err(_) => Err(Ending::Run(Status::NoMemory)),
-    }
-}
-
-// How the program ends where a card doesn't open.
-fn ending_of(refusal: OpenRefusal) -> Ending {
-    Ending::Run(match refusal {
-        OpenRefusal::NoMemory => Status::NoMemory,
-        OpenRefusal::NotACard => Status::NotACard,
-        OpenRefusal::Fault => Status::Eeprom,
-    })
 }
 
 // Standard error, where a person types statements, and reads what comes of them.
