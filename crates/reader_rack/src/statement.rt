@@ -21,6 +21,10 @@ pub fn rack_statement(line: &[u8]) -> Option<RackStatement>
 {
     let mut tokens = Tokens::new(line);
     let word = tokens.next();
+    // Most lines are none, and are looked at no further.
+    if !matches!(word, b"READER" | b"EJECT") {
+        return None;
+    }
     tokens.skip();
     let reader = reader_of(tokens.next())?;
     tokens.skip();
