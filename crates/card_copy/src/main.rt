@@ -10,6 +10,9 @@ use reader_rack::Rack;
 use std::io::{IsTerminal, Stderr};
 use std::process::ExitCode;
 
+#[cfg(test)]
+mod tests;
+
 fn main(rt: HostRuntime) -> ExitCode {
     let ending = match answer(&rt) {
         Ok(status) => Ending::Run(status),
