@@ -3,16 +3,21 @@ ghost use Rattle.std.specs.Prelude.{◌≡◌, IfOk, IsTrue, None};
 ghost use Rattle.scql_model.specs.Machine.{Machine};
 
 use crate::{card_in, ending_of};
+use apdu::Reply;
 use arrayvec::ArrayVec;
 use card::{Card, SlotCard};
 use card_link::CardLink;
 use copy_run::{CopyStatus, run_copy};
 use eeprom::{CutBench, Outlet, SinkFault};
 use file_bench::FileBench;
+use migrate::migrate;
 use person::Person;
 use program::{Ending, Status};
 use reader_rack::Rack;
+use scql_base::{Name, StatusWord};
 use std::alloc::AllocError;
+use std::fs;
+use table_copy::{CopyEnd, copy};
 
 // What was printed, as far as there is room.
 #[derive(Drop)]
@@ -159,5 +164,115 @@ fn a_copy_that_is_cut_short_is_whole_or_nothing(rt: HostRuntime) -> Result<(), E
         }
         assert_eq!(rt; ended, CopyStatus::Done);
     }
+    // Files that can't be removed stay.
+    let _ = fs::remove_file(&rt, "from.card");
+    let _ = fs::remove_file(&rt, "to.card");
+    Ok(())
+}
+
+// The sizes of rows at the edges of one to five parts of an INSERT into W, whose data field has two octets more, and some between.
+const SIZES: [usize; 13] = [
+    6, 253, 254, 256, 508, 509, 512, 763, 764, 768, 1018, 1019, 1020,
+];
+
+// Makes a card of long rows in a file, with a table W.
+fn make_wide_card(rt: &HostRuntime, path: &str) -> Result<(), Ending> {
+    let mut bench = FileBench::open(rt.clone()?, path, true)?;
+    let _ = Card::format(&mut bench, 2048);
+    let _ = migrate(&mut bench);
+    Ok(())
+}
+
+// The word by which a card answers a command.
+fn answer_of<L: CardLink>(link: &mut L, command: &[u8]) -> u16 {
+    let mut reply = Reply {
+        body: ArrayVec::new(),
+        word: StatusWord::DONE,
+    };
+    if link.live() {
+        let _ = link.exchange(command, &mut reply);
+    }
+    reply.word.word
+}
+
+// The data field of an INSERT into W of a row of so many octets, which has six values.
+fn field_of(size: usize) -> ArrayVec<u8, 1275> {
+    let mut field = ArrayVec::new();
+    let _ = field.try_extend_from_slice(b"\x01W");
+    let mut left = size.saturating_sub(6);
+    for _ in 0..6 {
+        let length = left.min(200);
+        left = left.saturating_sub(length);
+        let _ = field.try_push(u8::try_from(length).unwrap_or(0));
+        for _ in 0..length {
+            let _ = field.try_push(b'a');
+        }
+    }
+    field
+}
+
+// Inserts a row of so many octets into W, in parts of 255 octets, and tells the word by which the last part is answered.
+fn insert_row<L: CardLink>(link: &mut L, size: usize) -> u16 {
+    let field = field_of(size);
+    let last = field.len().saturating_sub(1) / 255;
+    let mut word = 0;
+    for (place, part) in field.as_slice().chunks(255).enumerate() {
+        let class = if place == last { 0x00 } else { 0x10 };
+        let length = u8::try_from(part.len()).unwrap_or(0);
+        let mut command: ArrayVec<u8, 260> = ArrayVec::new();
+        let _ = command.try_extend_from_slice(&[class, 0x10, 0x00, 0x8C, length]);
+        let _ = command.try_extend_from_slice(part);
+        word = answer_of(link, &command);
+    }
+    word
+}
+
+// Presents OWNER.
+fn present_owner<L: CardLink>(link: &mut L) -> u16 {
+    answer_of(link, b"\x00\x14\x00\x80\x06\x05OWNER")
+}
+
+// Fills W of one card with rows of these sizes, and copies it to the other. It tells how the copy ended, and whether all else was done.
+fn copy_wide(rt: &HostRuntime) -> Result<(Option<CopyEnd>, bool), Ending> {
+    let mut source = card_in(rt, FileBench::open(rt.clone()?, "wide.card", false)?)?;
+    let mut dest = card_in(rt, FileBench::open(rt.clone()?, "copy.card", false)?)?;
+    let source = &mut *source;
+    let dest = &mut *dest;
+    let mut fine = present_owner(source) == 0x9000 && present_owner(dest) == 0x9000;
+    for size in SIZES {
+        fine = fine && insert_row(source, size) == 0x9000;
+    }
+    let mut end = None;
+    if let Some(name) = Name::read(b"W")
+        && source.live()
+        && dest.live()
+    {
+        end = Some(copy(source, dest, &name, &name, &mut Nobody {}));
+    }
+    Ok((end, fine))
+}
+
+#[test]
+fn rows_of_one_to_five_parts_are_copied(rt: HostRuntime) -> Result<(), Ending> {
+    let made: &[&[u8]] = &[b"PRESENT OWNER", b"CREATE TABLE W (A, B, C, D, E, F)"];
+    for path in ["wide.card", "copy.card"] {
+        make_wide_card(&rt, path)?;
+        assert_eq!(rt;
+            printed(&rt, path, made)?.as_slice(),
+            b"ok\nok\n".as_slice()
+        );
+    }
+    let (end, fine) = copy_wide(&rt)?;
+    assert!(rt; fine);
+    assert_eq!(rt; end, Some(CopyEnd::Copied { rows: 13 }));
+    let read: &[&[u8]] = &[b"PRESENT OWNER", b"SELECT F FROM W"];
+    let rows = printed(&rt, "wide.card", read)?;
+    assert_eq!(rt;
+        printed(&rt, "copy.card", read)?.as_slice(),
+        rows.as_slice()
+    );
+    // Files that can't be removed stay.
+    let _ = fs::remove_file(&rt, "wide.card");
+    let _ = fs::remove_file(&rt, "copy.card");
     Ok(())
 }
