@@ -2,7 +2,6 @@
 ghost use Rattle.std.specs.Prelude.{◌≡◌, IfOk, IsTrue, None};
 ghost use Rattle.scql_model.specs.Machine.{Machine};
 
-use crate::{card_in, ending_of};
 use apdu::Reply;
 use arrayvec::ArrayVec;
 use card::{Card, SlotCard};
@@ -10,6 +9,7 @@ use card_link::CardLink;
 use copy_run::{CopyStatus, run_copy};
 use eeprom::{CutBench, Outlet, SinkFault};
 use file_bench::FileBench;
+use file_card::card_in;
 use migrate::migrate;
 use person::Person;
 use program::{Ending, Status};
@@ -75,7 +75,7 @@ fn cut_card_in(
 {
     match Card::open(rt.alloc(), &mut bench) {
         Ok(card) => cut_boxed(rt, SlotCard::new(card, bench)),
-        Err(refusal) => Err(ending_of(refusal)),
+        Err(_) => Err(Ending::Run(Status::Eeprom)),
     }
 }
 
