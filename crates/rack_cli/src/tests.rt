@@ -1,4 +1,6 @@
 // Runs over racks of cards in memory: a filled card and a fresh one, a card that fails, and one that records its answers.
+ghost use Rattle.std.specs.Prelude.{◌≡◌, IfOk, IsTrue};
+
 use apdu::Reply;
 use arrayvec::ArrayVec;
 use card::{Card, SlotCard};
@@ -69,72 +71,21 @@ impl Person for Watching {
     }
 }
 
-// A link of which nothing is told.
+// A card that may fail, whose answers are recorded, and told where it is asked for them. Nothing else is told of it.
 #[derive(Drop)]
-struct Untold<L: CardLink> {
-    link: L,
+struct Telling {
+    recorder: Recorder<FailingLink<SlotCard<MemBench>>, 8>,
 }
 
-impl<L: CardLink> CardLink for Untold<L> {
+impl CardLink for Telling {
     ghost use Rattle.std.proofs.Common.{refl};
     ghost use Rattle.reader_rack.specs.Desks.{untold};
 
     ghost is_at = { λ _ _. ⊥ };
 
-    ghost is_live = { λ u. L.is_live u.link };
+    ghost is_live = { λ t. ⟦<FailingLink<SlotCard<MemBench>> as CardLink>⟧.is_live t.recorder.inner };
 
-    ghost faults = { λ u. L.faults u.link };
-
-    ghost mark = { λ _. 0 };
-
-    ghost chip = { λ _. untold };
-
-    ghost keeps = { λ _ _. Unit {0} };
-
-    ghost goes_on = { λ _ _. Unit {0} };
-
-    fn live(&self) -> bool {
-        self.link.live()
-    }
-
-    fn exchange(&mut self, command: &[u8], reply: &mut Reply) -> Outcome {
-        self.link.exchange(command, reply)
-    }
-
-    fn reset(&mut self) {
-        self.link.reset();
-    }
-
-    ghost marks = { λ _. refl };
-
-    ghost opens = { λ _ _ at. absurd at };
-
-    ghost keeps_same = { λ _. tt };
-
-    ghost keeps_then = { λ _ _ _ _ _. tt };
-
-    ghost goes_on_same = { λ _. tt };
-
-    ghost goes_on_then = { λ _ _ _ _ _. tt };
-
-    ghost valid = { λ _ _ at. absurd at };
-}
-
-// A card whose answers are recorded, and told where it is asked for them. Nothing else is told of it.
-#[derive(Drop)]
-struct Telling<L: CardLink> {
-    recorder: Recorder<L, 8>,
-}
-
-impl<L: CardLink> CardLink for Telling<L> {
-    ghost use Rattle.std.proofs.Common.{refl};
-    ghost use Rattle.reader_rack.specs.Desks.{untold};
-
-    ghost is_at = { λ _ _. ⊥ };
-
-    ghost is_live = { λ t. L.is_live t.recorder.inner };
-
-    ghost faults = { λ t. L.faults t.recorder.inner };
+    ghost faults = { λ t. ⟦<FailingLink<SlotCard<MemBench>> as CardLink>⟧.faults t.recorder.inner };
 
     ghost mark = { λ _. 0 };
 
@@ -187,8 +138,10 @@ fn tell(words: &[u16], reply: &mut Reply) {
     reply.word = StatusWord::DONE;
 }
 
-// A fresh card of 64 cells.
-fn fresh_card(rt: &impl Abort, alloc: Global) -> Result<SlotCard<MemBench>, AllocError> {
+// A fresh card of 64 cells in a box, which passes so many commands on.
+fn fresh_card(rt: &impl Abort, alloc: Global, commands: u16) -> Result<Box<Telling>, AllocError>
+    ensures { IfOk result (λ card. IsTrue (⟦<Telling as CardLink>⟧.is_live card.value)) }
+{
     let plan = FaultPlan {
         reads: Vec::new(alloc),
         writes: Vec::new(alloc),
@@ -199,10 +152,24 @@ fn fresh_card(rt: &impl Abort, alloc: Global) -> Result<SlotCard<MemBench>, Allo
     if Card::format(&mut bench, 64).is_err() {
         panic!(rt; "no room");
     }
-    let Ok(card) = Card::open(alloc, &mut bench) else {
-        panic!(rt; "no card");
-    };
-    Ok(SlotCard::new(card, bench))
+    match Card::open(alloc, &mut bench) {
+        Ok(card) => boxed(
+            alloc,
+            Telling {
+                recorder: Recorder::new(FailingLink::new(SlotCard::new(card, bench), commands)),
+            },
+        ),
+        Err(_) => panic!(rt; "no card"),
+    }
+}
+
+fn boxed(alloc: Global, card: Telling) -> Result<Box<Telling>, AllocError>
+    ensures { IfOk result (λ boxed. boxed.value ≡ card) }
+{
+    match Box::new(alloc, card) {
+        Ok(boxed) => Ok(boxed),
+        Err(_) => Err(AllocError),
+    }
 }
 
 // Runs lines over a rack.
@@ -235,22 +202,10 @@ const FILLED: &str = "ok\nok\nok\nok\nok\nok\nok\nok\nok\nok\n";
 fn each_card_answers_for_itself(rt: HostRuntime) -> Result<(), Fail> {
     let alloc = rt.alloc();
     let mut rack = Rack::new(Page::new());
-    let first: Box<dyn CardLink> = Box::new(
-        alloc,
-        Untold {
-            link: fresh_card(&rt, alloc)?,
-        },
-    )?;
-    let second: Box<dyn CardLink> = Box::new(
-        alloc,
-        Untold {
-            link: fresh_card(&rt, alloc)?,
-        },
-    )?;
-    if first.live() && second.live() {
-        assert!(rt; rack.insert(1, first).is_ok());
-        assert!(rt; rack.insert(2, second).is_ok());
-    }
+    let first = fresh_card(&rt, alloc, 1000)?;
+    let second = fresh_card(&rt, alloc, 1000)?;
+    assert!(rt; rack.insert(1, first).is_ok());
+    assert!(rt; rack.insert(2, second).is_ok());
     let mut person = Watching::new();
     assert!(rt; run_lines(alloc, FILLING, &mut rack, &mut person)? == RackStatus::Done);
     let mut person = Watching::new();
@@ -279,21 +234,12 @@ EJECT 2
 fn a_card_that_goes_mute_leaves_the_others(rt: HostRuntime) -> Result<(), Fail> {
     let alloc = rt.alloc();
     let mut rack = Rack::new(Page::new());
-    let first: Box<dyn CardLink> = Box::new(
-        alloc,
-        Untold {
-            link: fresh_card(&rt, alloc)?,
-        },
-    )?;
-    let failing = FailingLink::new(fresh_card(&rt, alloc)?, 1);
-    let second: Box<dyn CardLink> = Box::new(alloc, Untold { link: failing })?;
-    let recorder = Recorder::new(fresh_card(&rt, alloc)?);
-    let third: Box<dyn CardLink> = Box::new(alloc, Telling { recorder })?;
-    if first.live() && second.live() && third.live() {
-        assert!(rt; rack.insert(1, first).is_ok());
-        assert!(rt; rack.insert(2, second).is_ok());
-        assert!(rt; rack.insert(3, third).is_ok());
-    }
+    let first = fresh_card(&rt, alloc, 1000)?;
+    let second = fresh_card(&rt, alloc, 1)?;
+    let third = fresh_card(&rt, alloc, 1000)?;
+    assert!(rt; rack.insert(1, first).is_ok());
+    assert!(rt; rack.insert(2, second).is_ok());
+    assert!(rt; rack.insert(3, third).is_ok());
     let lines = "READER 2
 PRESENT OWNER
 BEGIN
