@@ -10,6 +10,3 @@ mod tally;
 
 pub use run::run_rack;
 pub use status::RackStatus;
-
-#[cfg(test)]
-mod tests;

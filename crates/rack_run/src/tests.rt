@@ -1,1 +1,0 @@
-// Runs over racks of cards in memory.
