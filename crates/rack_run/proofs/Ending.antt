@@ -1,8 +1,7 @@
 -- What a run owes that ended so, by what is told of the lines that were handed on.
-use Rattle.std.proofs.Common.{◌≡◌, ◌⊎◌, inl, inr, ℕ, ◌<◌, ◌≤◌, Bool, true, false, List, [], ◌++◌, length, Option, refl, sym, ap, subst, ◌∙◌, arith}
-use Rattle.std.specs.Prelude.{map, ◌||◌}
+use Rattle.std.proofs.Common.{◌≡◌, ℕ, ◌≤◌, Bool, true, false, List, [], length, Option, refl, sym, ap, subst, ◌∙◌}
+use Rattle.std.specs.Prelude.{◌||◌}
 use Rattle.eeprom.specs.Chip.{Becomes}
-use Rattle.eeprom.specs.Fault.{Rose}
 use Rattle.eeprom.specs.Output.{Prints}
 use Rattle.eeprom.specs.declared.fault.SinkFault.{SinkFault}
 use Rattle.line_input.specs.declared.input.InputEnd.{InputEnd}
@@ -22,10 +21,10 @@ use Rattle.rack_run.specs.declared.status.RackStatus.{RackStatus}
 use Rattle.rack_run.specs.declared.status.RackStatus.TheVariants.{Done, Refused, Mute, ReadFault, WriteFault, TooLong}
 use Rattle.rack_run.specs.declared.tally.Tally.{Tally}
 use Rattle.rack_run.specs.Prompts.{prompt, prompts, prompts_behind}
-use Rattle.rack_run.specs.Runs.{AreTaken, CountsRun, PrintsTurns, Runs, RunsFrom, ShowsPrompts, UnlessCut, carried_out}
+use Rattle.rack_run.specs.Runs.{AreTaken, PrintsTurns, Runs, RunsFrom, ShowsPrompts, UnlessCut, carried_out}
 use Rattle.rack_run.specs.Status.{IsEnded, ended_as, nothing_yet, status_at}
-use Rattle.rack_run.specs.ViewLaws.{none-falls, rose-later}
-use Rattle.rack_run.specs.Views.{AllCountsStay, BreaksIn, CarriesOut, CountsCards, NoCountFalls, SomeCardFailed, View}
+use Rattle.rack_run.specs.ViewLaws.{rose-later}
+use Rattle.rack_run.specs.Views.{BreaksIn, CarriesOut, View}
 
 -- A run that read its input to its end.
 

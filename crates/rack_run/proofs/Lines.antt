@@ -1,5 +1,5 @@
 -- What is told of a line, as a run goes on behind it.
-use Rattle.std.proofs.Common.{◌≡◌, ◌≢◌, ◌⊎◌, inl, inr, ℕ, ◌≤◌, ◌==◌, ◌&&◌, Bool, true, false, List, [], ◌∷◌, ◌++◌, Option, Some, None, Result, Ok, Err, refl, sym, ap, subst, ◌∙◌, arith, append-nil, if◌then◌else◌}
+use Rattle.std.proofs.Common.{◌≡◌, ◌≢◌, inl, inr, ℕ, ◌≤◌, ◌==◌, ◌&&◌, Bool, true, false, List, [], ◌∷◌, Option, Some, None, Result, Ok, Err, refl, sym, ap, subst, ◌∙◌, arith, append-nil, if◌then◌else◌}
 use Rattle.std.specs.Prelude.{◌||◌, IfErr, IsErr, IsSomeAnd, is_none}
 use Rattle.person.specs.Showing.{Shows}
 use Rattle.rack_run.specs.Prompts.{prompt, prompts_behind}
@@ -17,16 +17,16 @@ use Rattle.reader_rack.specs.declared.rack_end.RackEnd.TheVariants as ends
 use Rattle.reader_rack.specs.declared.reader.Reader.{Reader}
 use Rattle.reader_rack.specs.declared.statement.RackStatement.{RackStatement}
 use Rattle.reader_rack.specs.declared.statement.RackStatement.TheVariants.{Select, Eject}
-use Rattle.reader_rack.specs.OwnLines.{AreSound, OwnTurn, ejects, is_eject_of, is_for, own_turns, with_own}
-use Rattle.reader_rack.specs.RackText.{Held, nothing, mute, sits, RackEffect, RackState, Turn, asked, ejected, rack_effect, says, taken, turn_effect, unheard}
-use Rattle.reader_rack.specs.Racks.{Asks, IsPrintedBy, IsRack, IsSetAside, OthersStay, States, aside_at, count_at, reader_at}
-use Rattle.reader_rack.specs.Readers.{EndsBy, EndsEffect, Holds, IsHeld, Works, count, set_aside}
+use Rattle.reader_rack.specs.OwnLines.{AreSound, OwnTurn, ejects, is_eject_of, is_for, with_own}
+use Rattle.reader_rack.specs.RackText.{Held, nothing, mute, sits, RackEffect, RackState, asked, ejected, rack_effect, says, taken}
+use Rattle.reader_rack.specs.Racks.{IsPrintedBy, IsRack, IsSetAside, aside_at, count_at, reader_at}
+use Rattle.reader_rack.specs.Readers.{EndsBy, EndsEffect, IsHeld, Works, count, set_aside}
 use Rattle.reader_rack.specs.Statements.{IsReader, rack_statement}
 use Rattle.rack_run.specs.declared.tally.Tally.{Tally}
 use Rattle.rack_run.specs.Carrying.{Does, DoesLine, DoesSo, own_statement, selected_by}
 use Rattle.rack_run.specs.Status.{with_end}
-use Rattle.rack_run.specs.Turns.{IsAside, held_link, set_aside_by, set_aside_in}
-use Rattle.rack_run.specs.Views.{AllCountsStay, BreaksIn, CarriesOut, NoCountFalls, Passes, SomeCardFailed, View}
+use Rattle.rack_run.specs.Turns.{IsAside, held_link, set_aside_in}
+use Rattle.rack_run.specs.Views.{AllCountsStay, BreaksIn, CarriesOut, NoCountFalls, View}
 
 pub ends-taken : (at : RackState → Type 0) (state : RackState) (taken line : Option (List ℕ)) (end' : RackEnd) (given now : Option (List ℕ)) → taken ≡ line → EndsEffect at (rack_effect state line) end' given now → EndsEffect at (rack_effect state taken) end' given now
 ends-taken at state taken line end' given now same ended = subst (λ (l : Option (List ℕ)). EndsEffect at (rack_effect state l) end' given now) (sym same) ended

@@ -1,5 +1,5 @@
 -- How a run over a rack ends, by its lines and by its input.
-use Rattle.std.specs.Prelude.{◌≡◌, ℕ, Bool, true, false}
+use Rattle.std.specs.Prelude.{ℕ, Bool, true, false}
 use Rattle.eeprom.specs.declared.fault.SinkFault.{SinkFault}
 use Rattle.line_input.specs.declared.input.InputEnd.{InputEnd}
 use Rattle.line_input.specs.declared.input.InputEnd.TheVariants as input_ends

@@ -1,5 +1,5 @@
 -- Lemmas, in specs/ since the ghost members of a run cite them: no line leaves a run as it is, and lines and then others are carried out as all of them.
-use Rattle.std.proofs.Common.{◌≡◌, ◌⊎◌, inl, inr, ℕ, ◌+◌, ◌<◌, ◌≤◌, Bool, true, false, List, [], ◌∷◌, ◌++◌, length, Option, Some, None, refl, sym, ap, subst, ◌∙◌, arith, append_assoc, if◌then◌else◌}
+use Rattle.std.proofs.Common.{◌≡◌, inl, inr, ℕ, ◌≤◌, Bool, true, false, List, [], ◌∷◌, ◌++◌, Option, Some, None, refl, sym, ap, subst, ◌∙◌, arith, append_assoc, if◌then◌else◌}
 use Rattle.std.specs.Prelude.{map, ◌||◌}
 use Rattle.std.proofs.lemmas.List.Elements.{All-cons, All-head, All-nil, All-tail}
 use Rattle.eeprom.specs.Fault.{Rose}
@@ -8,15 +8,13 @@ use Rattle.line_run.specs.AnswersLaws.{Prints-nothing, Prints-then}
 use Rattle.person.specs.Showing.{Shows}
 use Rattle.person.proofs.Texts.{shows-then}
 use Rattle.scql_model.specs.Machine.{Machine}
-use Rattle.reader_rack.specs.declared.reader.Reader.{Reader}
 use Rattle.reader_rack.specs.OwnLines.{AreSound, OwnTurn, ejects, is_for, own_turns, with_own}
 use Rattle.reader_rack.specs.RackText.{Held, RackState, Turn, rack_after, rack_text, turn_effect, was_muted, was_refused}
 use Rattle.reader_rack.specs.Racks.{IsRack, aside_at, count_at}
-use Rattle.reader_rack.specs.Statements.{IsReader}
 use Rattle.rack_run.specs.Carrying.{own_statement, selected_by}
 use Rattle.rack_run.specs.Prompts.{current_after, prompt, prompts_behind}
 use Rattle.rack_run.specs.Turns.{IsAside, later_or, set_aside_by, set_aside_in}
-use Rattle.rack_run.specs.Views.{AllCountsStay, CarriesOut, CountsCards, NoCountFalls, Passes, SomeCardFailed, View}
+use Rattle.rack_run.specs.Views.{CarriesOut, CountsCards, NoCountFalls, Passes, View}
 
 -- Counts.
 
