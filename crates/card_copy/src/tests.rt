@@ -117,7 +117,7 @@ fn printed(rt: &HostRuntime, path: &str, lines: &[&[u8]]) -> Result<ArrayVec<u8,
 // A copy in which so many writes to the destination are passed on, and the next one is cut short.
 fn cut_copy(rt: &HostRuntime, left: u16, fill: u8) -> Result<CopyStatus, Ending> {
     let mut words = Vec::new(rt.alloc());
-    for word in ["OWNER", "T", "OWNER", "COPY"] {
+    for word in ["ANN", "B1", "OWNER", "COPY"] {
         let word = String::from_str(rt.alloc(), word)?;
         words.push(word).map_err(AllocError::from)?;
     }
@@ -136,13 +136,18 @@ fn a_copy_that_is_cut_short_is_whole_or_nothing(rt: HostRuntime) -> Result<(), E
     make_card(&rt, "from.card")?;
     let lines: &[&[u8]] = &[
         b"PRESENT OWNER",
-        b"CREATE TABLE T (NAME, QTY)",
-        b"INSERT INTO T VALUES ('bolt', '0040')",
-        b"INSERT INTO T VALUES ('nut', '0050')",
+        b"CREATE TABLE ITEM (NAME, PLACE, QTY)",
+        b"INSERT INTO ITEM VALUES ('bolt', 'B1', '0040')",
+        b"INSERT INTO ITEM VALUES ('cap', 'A2', '0007')",
+        b"INSERT INTO ITEM VALUES ('rod', 'B1', '0003')",
+        b"INSERT INTO ITEM VALUES ('it''s', 'B1', '0050')",
+        b"CREATE VIEW B1 AS SELECT NAME, QTY FROM ITEM WHERE PLACE = 'B1' AND QTY >= '0040'",
+        b"CREATE USER ANN DBBU",
+        b"GRANT SELECT ON B1 TO ANN",
     ];
     assert_eq!(rt;
         printed(&rt, "from.card", lines)?.as_slice(),
-        b"ok\nok\nok\nok\n".as_slice()
+        b"ok\nok\nok\nok\nok\nok\nok\nok\nok\n".as_slice()
     );
     for fill in [0x00, 0xFF, 0x5A] {
         let mut ended = CopyStatus::Mute;
