@@ -1,0 +1,41 @@
+// What a query asks for.
+use arrayvec::ArrayVec;
+use row_join::{Column, Equality};
+use scql_base::{Name, NameList};
+use std::marker::Model;
+
+/// An object of a query, and which of its columns are fetched: none for all.
+#[derive(Drop)]
+pub struct AskedObject {
+    pub object: Name,
+    pub columns: NameList,
+}
+
+/// A query: the rows of two or three objects are joined where the equalities hold and put in order, and of each combination the
+/// selected columns are given.
+#[derive(Drop)]
+pub struct Query {
+    pub objects: ArrayVec<AskedObject, { Query::MOST_OBJECTS }>,
+    pub selected: ArrayVec<Column, { Query::MOST_COLUMNS }>,
+    pub equalities: ArrayVec<Equality, { Query::MOST_EQUALITIES }>,
+    pub order: ArrayVec<Column, { Query::MOST_COLUMNS }>,
+}
+
+impl Model for Query {
+    ghost use Rattle.query.specs.Asked.{Asked};
+
+    ghost Value = { Asked };
+
+    ghost view = { λ q. record { objects = q.objects.items; selected = q.selected.items; equalities = q.equalities.items; order = q.order.items } };
+}
+
+impl Query {
+    /// How many objects a query may have.
+    pub const MOST_OBJECTS: usize = 3;
+
+    /// How many columns may be selected, and how many may give the order.
+    pub const MOST_COLUMNS: usize = 15;
+
+    /// How many equalities a query may have.
+    pub const MOST_EQUALITIES: usize = 8;
+}
