@@ -1,10 +1,10 @@
 -- Octets that are cut one by one have the lines of the whole.
-use Rattle.std.proofs.Common.{◌≡◌, ◌≢◌, ℕ, ◌+◌, Bool, true, false, eqb, List, [], ◌∷◌, ◌++◌, length, map, Option, Some, refl, sym, ap, subst, ◌∙◌, arith, inl, inr, length-append, append-nil, append_assoc}
+use Rattle.std.proofs.Common.{◌≡◌, ◌≢◌, ℕ, ◌+◌, Bool, true, false, eqb, List, [], ◌∷◌, ◌++◌, length, get_or, map, Option, Some, refl, sym, ap, subst, ◌∙◌, arith, inl, inr, length-append, append-nil, append_assoc}
 use Rattle.std.proofs.lemmas.Bool.Decides.{nat_tests}
 use Rattle.std.proofs.lemmas.Bool.{cases_Bool, ne_eqb}
 use Rattle.std.proofs.lemmas.List.{map-append}
 use Rattle.std.proofs.lemmas.List.Elements.{All-tail}
-use Rattle.std.proofs.lemmas.List.Splits.{slice_split-cons_yes, slice_split-cons_no}
+use Rattle.std.proofs.lemmas.List.Splits.{slice_split-cons_yes, slice_split-cons_no, slice_split_none}
 use Rattle.std.specs.List.{slice_split, onto_first}
 use Rattle.scql_model.specs.Lines.{is_line_feed, lines, without_open_end, taken_line}
 use Rattle.line_input.specs.Answering.{LacksLineFeed}
@@ -148,3 +148,18 @@ lines-line_feed octets rest ended =
     ∙ subst (λ (ps : List (List ℕ)). without_open_end ended (ps ++ slice_split is_line_feed rest) ≡ without_open_end false ps ++ last_piece ps ∷ lines rest ended) (sym s.2)
     (subst (λ (qs : List (List ℕ)). without_open_end ended ((s.0 ∷ s.1) ++ qs) ≡ without_open_end false (s.0 ∷ s.1) ++ last_piece (s.0 ∷ s.1) ∷ without_open_end ended qs) (sym t.2)
     (without_open_end-append ended s.0 s.1 t.0 t.1))
+
+-- The first line of octets that have ended.
+
+slice_split-line : (octets : List ℕ) → LacksLineFeed octets → slice_split is_line_feed octets ≡ octets ∷ []
+slice_split-line octets lacks = slice_split_none is_line_feed octets (λ place default within. ne_eqb (get_or octets place default) 10 (lacks place default within))
+
+-- a line feed ends it
+pub lines-first : (octets rest : List ℕ) → LacksLineFeed octets → lines (octets ++ 10 ∷ rest) true ≡ octets ∷ lines rest true
+lines-first octets rest lacks =
+    lines-line_feed octets rest true
+    ∙ ap (λ (pieces : List (List ℕ)). without_open_end false pieces ++ last_piece pieces ∷ lines rest true) (slice_split-line octets lacks)
+
+-- or nothing does, and it is the last one
+pub lines-last : (octets : List ℕ) → LacksLineFeed octets → eqb (length octets) 0 ≡ false → lines octets true ≡ octets ∷ []
+lines-last octets lacks some = ap (without_open_end true) (slice_split-line octets lacks) ∙ rw some refl

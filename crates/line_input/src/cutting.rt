@@ -1,5 +1,6 @@
 // Octets cut at each line feed.
-ghost use Rattle.std.specs.Prelude.{◌≡◌, ◌<◌, ◌++◌, ◌∷◌, [], None, length, take, slice_index, IfSome, OnOk, IfErr};
+ghost use Rattle.std.specs.Prelude.{◌≡◌, ◌<◌, ◌++◌, ◌∷◌, [], true, None, length, take, slice_index, IfSome, OnOk, IfErr};
+ghost use Rattle.scql_model.specs.Lines.{lines};
 ghost use Rattle.line_input.specs.Answering.{Feeds, Halts, LacksLineFeed};
 ghost use Rattle.line_input.specs.Line.{line_octets};
 
@@ -25,6 +26,21 @@ pub fn take_octets<A: LineAnswerer>(
     }
     line.extend(rest);
     Ok(())
+}
+
+/// The first line of octets behind which no more come, and what stands behind its line feed.
+pub fn first_line(octets: &[u8]) -> Option<(&[u8], &[u8])>
+    ensures line { IfSome result (λ cut. lines octets.now true ≡ cut.0.now ∷ lines cut.1.now true) }
+    ensures shorter { IfSome result (λ cut. length cut.1.now < length octets.now) }
+    ensures none { result ≡ None → lines octets.now true ≡ [] }
+{
+    if octets.is_empty() {
+        return None;
+    }
+    match line_end(octets) {
+        Some(end) => Some((&octets[..end], &octets[end + 1..])),
+        None => Some((octets, &[])),
+    }
 }
 
 // How many octets stand before the first line feed.
