@@ -1,0 +1,5 @@
+pub mod Ends
+pub mod Entries
+pub mod Found
+pub mod Transcript
+pub mod Verdicts
