@@ -3,6 +3,8 @@
 
 mod column;
 mod fetched;
+mod link;
 
 pub use column::{Column, Equality};
 pub use fetched::Fetched;
+pub use link::Link;
