@@ -1,5 +1,5 @@
 -- The laws of the join of one object after the other.
-use Rattle.std.proofs.Common.{◌≡◌, ℕ, suc, ◌+◌, ◌<◌, Bool, true, false, not, cond, List, [], ◌∷◌, ◌++◌, length, get_or, map, Option, Some, None, Less, Equal, Greater, Ordering, nat_cmp, is_eq, refl, sym, ap, ◌∙◌, subst, ⊎_elim, ltb, eqb, lt-ltb, le-ltb, eq-eqb, ne_eqb, eqb-true, ltb-true, arith, append_assoc, append-nil, map-id, ◌&&◌, ◌||◌, filter, filter_map, flat_map, bytes_eq}
+use Rattle.std.proofs.Common.{◌≡◌, ℕ, suc, ◌<◌, Bool, true, false, not, cond, List, [], ◌∷◌, ◌++◌, length, get_or, map, Option, Some, None, Less, Equal, Greater, Ordering, nat_cmp, is_eq, refl, sym, ap, ◌∙◌, ⊎_elim, ltb, eqb, lt-ltb, le-ltb, eq-eqb, ne_eqb, eqb-true, ltb-true, arith, append_assoc, append-nil, map-id, ◌&&◌, ◌||◌, filter, flat_map, bytes_eq}
 use Rattle.std.specs.List.{cons_option, list_all}
 use Rattle.std.specs.Cmp.Lexicographic.{slice_cmp}
 use Rattle.std.specs.Ordering.{ordering_then}
@@ -13,7 +13,7 @@ use Rattle.row_join.specs.declared.column.Column.{Column}
 use Rattle.row_join.specs.declared.column.Equality.{Equality}
 use Rattle.row_join.specs.declared.link.Link.{Link}
 use Rattle.row_join.specs.Joins.{Combination, value_at, combinations, is_met, are_met, kept, compare_values}
-use Rattle.row_join.specs.Links.{AreWithin, is_before, is_own, link_of, links_of, value_in, meets_own, key_of, probe_of, has_key, joins, are_met_from, kept_from}
+use Rattle.row_join.specs.Links.{AreWithin, is_before, holds_in, link_of, links_of, value_in, meets_own, key_of, probe_of, has_key, joins, are_met_from, kept_from}
 
 -- tests of two objects against the object that is joined: before it, at it, or before the next one
 data Stands : Bool → Bool → Bool → Type 0 where
@@ -58,9 +58,6 @@ bytes_eq-compared xs ys = sym (same_from_slice_cmp nat_cmp is_eq bytes_eq refl (
 abbrev holds_link : Combination → Values → Link → Bool
 holds_link rows row link = is_eq (slice_cmp nat_cmp (value_in row link.place) (value_at rows link.other))
 
-abbrev holds_own : ℕ → Values → Equality → Bool
-holds_own object row equality = not (is_own object equality) || bytes_eq (value_in row equality.left.place) (value_in row equality.right.place)
-
 value_at-here : (rows : Combination) (row : Values) (rest : Combination) (c : Column) → c.object ≡ length rows → value_at (rows ++ row ∷ rest) c ≡ value_in row c.place
 value_at-here rows row rest c e = ap (λ r. get_or r c.place []) (get_or_at rows row rest [] c.object (sym e))
 
@@ -69,7 +66,7 @@ value_at-before rows row rest c h = ap (λ r. get_or r c.place []) (get_or_appen
 
 split-equality : (rows : Combination) (row : Values) (rest : Combination) (e : Equality)
     → (is_before (length rows) e || is_met (rows ++ row ∷ rest) e)
-    ≡ (holds_own (length rows) row e && (if_link (holds_link rows row) (link_of (length rows) e) && (is_before (suc (length rows)) e || is_met (rows ++ row ∷ rest) e)))
+    ≡ (holds_in (length rows) row e && (if_link (holds_link rows row) (link_of (length rows) e) && (is_before (suc (length rows)) e || is_met (rows ++ row ∷ rest) e)))
 split-equality rows row rest e =
     let k = length rows in
     let all = rows ++ row ∷ rest in
@@ -143,8 +140,8 @@ met-row es rows row rest =
     let all = rows ++ row ∷ rest in
     let next = λ (e : Equality). is_before (suc k) e || is_met all e in
     let link = λ (e : Equality). if_link (holds_link rows row) (link_of k e) in
-    list_all-split (λ e. is_before k e || is_met all e) (holds_own k row) link next (split-equality rows row rest) es
-    ∙ and-grouped (list_all (holds_own k row) es) (list_all link es) (list_all next es)
+    list_all-split (λ e. is_before k e || is_met all e) (holds_in k row) link next (split-equality rows row rest) es
+    ∙ and-grouped (list_all (holds_in k row) es) (list_all link es) (list_all next es)
     ∙ ap (λ b. (meets_own k es row && b) && list_all next es) (sym (has_key-links rows row k es))
     ∙ ap (λ c. joins k es rows row && are_met_from (suc k) es c) (sym (append_assoc rows (row ∷ []) rest))
 

@@ -1,2 +1,4 @@
 pub mod Levels
 pub mod Stable
+pub mod Indexes
+pub mod Rows

@@ -1,5 +1,5 @@
 -- The join of one object after the other: each equality is looked at where the later one of its objects is joined.
-use Rattle.std.specs.Prelude.{◌≡◌, ℕ, ◌<◌, ◌==◌, Bool, not, List, [], ◌∷◌, ◌++◌, length, map, Option, Some, None, nat_lt, slice_index_or, if◌then◌else◌, ◌&&◌, ◌||◌}
+use Rattle.std.specs.Prelude.{ℕ, ◌<◌, ◌==◌, Bool, not, List, [], ◌++◌, map, Option, Some, None, nat_lt, slice_index_or, if◌then◌else◌, ◌&&◌, ◌||◌}
 use Rattle.std.specs.List.{AllByRecursion, filter, filter_map, list_all}
 use Rattle.std.specs.Ordering.{is_eq}
 use Rattle.std.specs.Str.{bytes_eq}
@@ -33,9 +33,12 @@ links_of object equalities = filter_map (link_of object) equalities
 abbrev pub value_in : Values → ℕ → List ℕ
 value_in row place = slice_index_or row place []
 
--- a row of this object meets the equalities that are its own
+-- a row of this object meets an equality, or the equality isn't its own
+abbrev pub holds_in : ℕ → Values → Equality → Bool
+holds_in object row equality = not (is_own object equality) || bytes_eq (value_in row equality.left.place) (value_in row equality.right.place)
+
 abbrev pub meets_own : ℕ → List Equality → Values → Bool
-meets_own object equalities row = list_all (λ equality. not (is_own object equality) || bytes_eq (value_in row equality.left.place) (value_in row equality.right.place)) equalities
+meets_own object equalities row = list_all (holds_in object row) equalities
 
 -- a row's values in the linked columns
 abbrev pub key_of : List Link → Values → Values
