@@ -2,3 +2,4 @@ pub mod Levels
 pub mod Stable
 pub mod Indexes
 pub mod Rows
+pub mod Extending

@@ -1,5 +1,5 @@
 -- A stable sort puts a list in order.
-use Rattle.std.proofs.Common.{◌≡◌, ℕ, suc, ◌<◌, ◌≤◌, Bool, true, false, not, cond, List, [], ◌∷◌, length, get_or, refl, sym, ap, ◌∙◌, subst, arith, ◌&&◌, filter, Ordering, is_eq, is_lt, Less, Equal, Greater}
+use Rattle.std.proofs.Common.{◌≡◌, ℕ, suc, ◌<◌, ◌≤◌, Bool, true, false, not, cond, List, [], ◌∷◌, length, get_or, map, refl, sym, ap, ◌∙◌, subst, arith, ◌&&◌, filter, Ordering, is_eq, is_lt, Less, Equal, Greater}
 use Rattle.std.specs.Prelude.{⊤}
 use Rattle.std.specs.Cmp.{IsStrictWeakOrder, IsTotalOrder}
 use Rattle.std.specs.List.Sorted.{IsSortedBy, IsStableBy, ties}
@@ -180,3 +180,19 @@ module _ {K : Type 0} {R : K → K → Ordering} (o : IsTotalOrder R) {X : Type 
       by (x ∷ rest) vs e f = agree x (filter-has has x ys rest e)
       by [] (x ∷ rest) e f = agree x (filter-has has x xs rest f)
       by [] [] e f = e ∙ sym f
+
+module _ {X Y : Type 0} (f : X → Y) (lt : Y → Y → Bool) where
+  map-inserted : (x : X) (xs : List X) → map f (inserted (λ a b. lt (f a) (f b)) x xs) ≡ inserted lt (f x) (map f xs)
+  map-inserted x [] = refl
+  map-inserted x (y ∷ ys) = by (lt (f y) (f x)) (map-inserted x ys)
+    where
+      by : (b : Bool) → map f (inserted (λ a b. lt (f a) (f b)) x ys) ≡ inserted lt (f x) (map f ys)
+          → map f (cond b (y ∷ inserted (λ a b. lt (f a) (f b)) x ys) (x ∷ y ∷ ys)) ≡ cond b (f y ∷ inserted lt (f x) (map f ys)) (f x ∷ f y ∷ map f ys)
+      by true e = ap (λ l. f y ∷ l) e
+      by false e = refl
+
+  -- what is put in order by what a function gives of it is in the order of that
+  pub map-in_order : (xs : List X) → map f (in_order (λ a b. lt (f a) (f b)) xs) ≡ in_order lt (map f xs)
+  unfolding in_order
+  map-in_order [] = refl
+  map-in_order (x ∷ xs) = map-inserted x (in_order (λ a b. lt (f a) (f b)) xs) ∙ ap (inserted lt (f x)) (map-in_order xs)
