@@ -1,7 +1,8 @@
 // Reads the query of a line.
 ghost use Rattle.std.specs.Prelude.{◌≡◌, ◌≤◌, IfOk, IfErr, length};
+ghost use Rattle.std.specs.List.{AllByRecursion};
 ghost use Rattle.scql_model.specs.Lines.{longest_line};
-ghost use Rattle.query.specs.Facts.{HasPlace};
+ghost use Rattle.query.specs.Facts.{AreFetched, AreTwoOrThree, CanBeAsked, HasDifferentColumns, HasPlace, IsFetched};
 ghost use Rattle.query.specs.Line as lines;
 
 use crate::Query;
@@ -18,6 +19,13 @@ impl Query {
         requires { length line.now ≤ longest_line }
         ensures query { result ≡ lines.query_of line.now }
         ensures place { IfErr result HasPlace }
+        ensures objects { IfOk result (λ query. AreTwoOrThree query.objects) }
+        ensures different { IfOk result (λ query. AllByRecursion HasDifferentColumns query.objects) }
+        // Each object's SELECT can be sent on each channel.
+        ensures sendable { IfOk result (λ query. AllByRecursion CanBeAsked query.objects) }
+        ensures selected { IfOk result (λ query. AllByRecursion (IsFetched query.objects) query.selected) }
+        ensures equalities { IfOk result (λ query. AllByRecursion (AreFetched query.objects) query.equalities) }
+        ensures order { IfOk result (λ query. AllByRecursion (IsFetched query.objects) query.order) }
     {
         read_query(line)
     }
