@@ -4,7 +4,7 @@ use Rattle.std.specs.List.{AllByRecursion, list_all, position, position_from}
 use Rattle.std.specs.Str.{bytes_eq}
 use Rattle.std.proofs.lemmas.Bool.{cases_Bool}
 use Rattle.std.proofs.lemmas.Option.{none-some}
-use Rattle.std.proofs.Math.Seq.{get_or-append_seam}
+use Rattle.std.proofs.Math.Seq.{get_or-append_seam, map-set_same}
 use Rattle.std.proofs.lemmas.Slice.Eq.{bytes_eq-Decides}
 use Rattle.std.proofs.lemmas.List.{length-set, get_or_append_left, append-nil, append_assoc, map-append}
 use Rattle.std.proofs.lemmas.List.Quantifiers.{position-Some}
@@ -42,10 +42,14 @@ pub record AreNamed (pair : Pair) : Type 0 where
   pub first : IsNamed pair.first
   pub second : IsNamed pair.second
 
+abbrev pub object_name : AskedObject → List ℕ
+object_name asked = asked.object
+
 -- the objects before, with more columns
 pub record Gain (before after : List AskedObject) : Type 0 where
   pub good : AllByRecursion IsGood after
   pub count : length after ≡ length before
+  pub names : map object_name after ≡ map object_name before
   pub longer : (i : ℕ) → length (object_at before i).columns ≤ length (object_at after i).columns
   pub same : (i : ℕ) → (object_at after i).object ≡ (object_at before i).object
   pub kept : (i place : ℕ) → place < length (object_at before i).columns → get_or (object_at after i).columns place [] ≡ get_or (object_at before i).columns place []
@@ -54,6 +58,7 @@ pub gain-none : (objects : List AskedObject) → AllByRecursion IsGood objects �
 gain-none objects good = record {
   good = good;
   count = refl;
+  names = refl;
   longer = λ i. le_refl (length (object_at objects i).columns);
   same = λ i. refl;
   kept = λ i place within. refl;
@@ -63,6 +68,7 @@ pub gain-both : {first second third : List AskedObject} → Gain first second �
 gain-both gain more = record {
   good = more.good;
   count = more.count ∙ gain.count;
+  names = more.names ∙ gain.names;
   longer = λ i. omega (arith, gain.longer i, more.longer i);
   same = λ i. more.same i ∙ gain.same i;
   kept = λ i place within. more.kept i place (omega (arith, within, gain.longer i)) ∙ gain.kept i place within;
@@ -196,6 +202,7 @@ column-finds named objects is good = go (position (is_of named.object) objects) 
           gain = record {
             good = good-set objects n new good (record { named = (good-at objects n within good).named; columns = found.columns });
             count = length-set objects n new;
+            names = map-set_same object_name objects n new (record { object = []; columns = [] }) refl;
             longer = λ i. longer-set objects n new i found.longer;
             same = λ i. same-set objects n new i refl;
             kept = λ i other inside. kept-set objects n new i other (found.kept other) inside;

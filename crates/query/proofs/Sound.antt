@@ -1,5 +1,5 @@
 -- What holds of each query that is read.
-use Rattle.std.proofs.Common.{◌≡◌, ℕ, List, [], ◌∷◌, map, Option, Some, None, Result, Ok, Err, IfOk, IfSome, refl, ◌∙◌, lit≤}
+use Rattle.std.proofs.Common.{◌≡◌, ℕ, List, [], ◌∷◌, map, Option, Some, None, Result, Ok, Err, IfOk, IfSome, refl, ◌∙◌, ap, lit≤}
 use Rattle.std.specs.List.{AllByRecursion}
 use Rattle.std.proofs.lemmas.List.{length-map}
 use Rattle.scql_model.proofs.ChangedLists.{each-weaker}
@@ -18,7 +18,7 @@ use Rattle.query.specs.Line.{answered, judged, query_of}
 use Rattle.query.specs.Resolving.{in_turn, column, equality, repeated, or_fault, names, unnamed, resolved}
 use Rattle.query.specs.Written.{Written}
 use Rattle.query.proofs.Asking.{asked-sent}
-use Rattle.query.proofs.Gaining.{IsGood, Gain, Finds, Each, IsColumn, IsEquality, IsNamed, AreNamed, gain-none, gain-both, still-fetched, both-still, still-named, both-named, each-still, column-finds, equality-finds, then-finds, turn-finds}
+use Rattle.query.proofs.Gaining.{object_name, IsGood, Gain, Finds, Each, IsColumn, IsEquality, IsNamed, AreNamed, gain-none, gain-both, still-fetched, both-still, still-named, both-named, each-still, column-finds, equality-finds, then-finds, turn-finds}
 use Rattle.query.proofs.Naming.{IsSource, AreSources, IsNamedQuery, whole-reads}
 
 -- Each column of a query is fetched of one of its objects, of which there are two or three, with different columns.
@@ -121,10 +121,19 @@ pub record IsReadOf (written : Written) (query : Asked) : Type 0 where
   pub sound : IsSound query
   pub names : StandsFor written query
 
+sources-named : (sources : List Source) → map object_name (map unnamed sources) ≡ map (λ source. source.object) sources
+sources-named [] = refl
+sources-named (source ∷ sources) = ap (λ names. source.object ∷ names) (sources-named sources)
+
 read-of : (written : Written) (found : Asked × List AskedObject) → AreSources written.sources → Finds (IsAsked written) (map unnamed written.sources) found → IsReadOf written found.0
 read-of written found are so = record {
   sound = sound-of written found are so;
-  names = record { selected = rw so.holds.same so.holds.selected.same; equalities = rw so.holds.same so.holds.equalities.same; order = rw so.holds.same so.holds.order.same };
+  names = record {
+    objects = ap (map object_name) so.holds.same ∙ (so.gain.names ∙ sources-named written.sources);
+    selected = rw so.holds.same so.holds.selected.same;
+    equalities = rw so.holds.same so.holds.equalities.same;
+    order = rw so.holds.same so.holds.order.same;
+  };
 }
 
 -- a query stands for what is written where the grammar is met

@@ -57,8 +57,9 @@ name_at objects column = ((object_at objects column.object).object, slice_index_
 abbrev pub names_at : List AskedObject → Equality → (List ℕ × List ℕ) × (List ℕ × List ℕ)
 names_at objects equality = (name_at objects equality.left, name_at objects equality.right)
 
--- Each column of a query stands for the name that the line has in its place.
+-- The objects of a query are those that the line has in FROM, and each column stands for the name that the line has in its place.
 pub record StandsFor (written : Written) (query : Asked) : Type 0 where
+  pub objects : map (λ asked. asked.object) query.objects ≡ map (λ source. source.object) written.sources
   pub selected : map (name_at query.objects) query.selected ≡ map name_of written.selected
   pub equalities : map (names_at query.objects) query.equalities ≡ map names_of written.pairs
   pub order : map (name_at query.objects) query.order ≡ map name_of written.order

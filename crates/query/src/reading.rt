@@ -20,7 +20,7 @@ impl Query {
     pub fn read(line: &[u8]) -> Result<Query, ScriptFault>
         requires { length line.now ≤ longest_line }
         ensures query { result ≡ lines.query_of line.now }
-        // Each column is the one that the line names in its place.
+        // The objects and the columns are those that the line names in their places.
         ensures names { IfOk result (λ query. IfSome (whole (tokens_of line.now)).0 (λ written. StandsFor written query)) }
         ensures place { IfErr result HasPlace }
         ensures objects { IfOk result (λ query. AreTwoOrThree query.objects) }
