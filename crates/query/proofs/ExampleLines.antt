@@ -35,6 +35,16 @@ unnamed : read (codes "SELECT T.A FROM T, U") ≡ Ok (record {
 unfolding read
 unnamed = refl
 
+-- whether a card has an object isn't the grammar's business
+any_object : read (codes "SELECT T.A FROM T, Z") ≡ Ok (record {
+  objects = record { object = codes "T"; columns = codes "A" ∷ [] } ∷ record { object = codes "Z"; columns = [] } ∷ [];
+  selected = record { object = 0; place = 0 } ∷ [];
+  equalities = [];
+  order = [];
+})
+unfolding read
+any_object = refl
+
 -- one object is too few, and four are too many
 one_object : read (codes "SELECT T.A FROM T") ≡ Err (At 17)
 unfolding read

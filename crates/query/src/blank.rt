@@ -45,6 +45,7 @@ impl MadeWith<Blank> for AskedObject {
     }
 }
 
+// A name, whichever it is.
 fn blank_name() -> Name {
     Name::read(Name::OWNER).unwrap()
 }

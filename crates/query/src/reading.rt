@@ -1,8 +1,10 @@
 // Reads the query of a line.
-ghost use Rattle.std.specs.Prelude.{◌≡◌, ◌≤◌, IfOk, IfErr, length};
+ghost use Rattle.std.specs.Prelude.{◌≡◌, ◌≤◌, IfOk, IfErr, IfSome, length};
 ghost use Rattle.std.specs.List.{AllByRecursion};
 ghost use Rattle.scql_model.specs.Lines.{longest_line};
-ghost use Rattle.query.specs.Facts.{AreFetched, AreTwoOrThree, CanBeAsked, HasDifferentColumns, HasPlace, IsFetched};
+ghost use Rattle.query.specs.Facts.{AreFetched, AreTwoOrThree, CanBeAsked, HasDifferentColumns, HasPlace, IsFetched, StandsFor};
+ghost use Rattle.script.specs.Tokens.{tokens_of};
+ghost use Rattle.query.specs.Grammar.{whole};
 ghost use Rattle.query.specs.Line as lines;
 
 use crate::Query;
@@ -18,6 +20,8 @@ impl Query {
     pub fn read(line: &[u8]) -> Result<Query, ScriptFault>
         requires { length line.now ≤ longest_line }
         ensures query { result ≡ lines.query_of line.now }
+        // The objects and the columns are those that the line names in their places.
+        ensures names { IfOk result (λ query. IfSome (whole (tokens_of line.now)).0 (λ written. StandsFor written query)) }
         ensures place { IfErr result HasPlace }
         ensures objects { IfOk result (λ query. AreTwoOrThree query.objects) }
         ensures different { IfOk result (λ query. AllByRecursion HasDifferentColumns query.objects) }
