@@ -11,7 +11,7 @@ use Rattle.row_join.specs.Joined.{AreIndexes, joined, kept_after}
 use Rattle.row_join.specs.declared.join.TheConstants.{MOST_KEPT}
 use Rattle.row_join.specs.Joins.{Combination, kept}
 use Rattle.row_join.specs.Links.{AreWithin, has_key, joins, kept_from, meets_own, probe_of}
-use Rattle.row_join.specs.Places.{IsIndex, all_rows, row_at, rows_of}
+use Rattle.row_join.specs.Places.{IsIndex, all_rows, row_at, rows_of, with_key}
 use Rattle.row_join.proofs.Levels.{at_end, at_start, each_row}
 
 rows_of-with : (tables : List (List Values)) (places : List ℕ) (i place : ℕ) → i < length tables → i < length places
@@ -37,7 +37,7 @@ each_row-at i es before rows rest e = subst (λ k. kept_from k es before (rows �
 
 extended-suc : (es : List Equality) (tables : List (List Values)) (places : List ℕ) (i : ℕ) (links : List Link) (index found : List ℕ)
     → i < length tables → i < length places → IsIndex i es (get_or tables i []) links index
-    → found ≡ filter (λ place. has_key links (probe_of links (rows_of (take i tables) places)) (row_at (get_or tables i []) place)) index
+    → found ≡ with_key links (get_or tables i []) (probe_of links (rows_of (take i tables) places)) index
     → flat_map (λ place. kept_after (suc i) es tables (set places i place)) found ≡ kept_after i es tables places
 extended-suc es tables places i links index found h k is e =
     let before = rows_of (take i tables) places in
@@ -55,7 +55,7 @@ extended-suc es tables places i links index found h k is e =
 -- what is found in an object's index extends a combination
 pub extended : (es : List Equality) (tables : List (List Values)) (places : List ℕ) (i : ℕ) (links : List Link) (index found : List ℕ)
     → i < length tables → i < length places → IsIndex i es (get_or tables i []) links index
-    → found ≡ filter (λ place. has_key links (probe_of links (rows_of (take i tables) places)) (row_at (get_or tables i []) place)) index
+    → found ≡ with_key links (get_or tables i []) (probe_of links (rows_of (take i tables) places)) index
     → flat_map (λ place. kept_after (i + 1) es tables (set places i place)) found ≡ kept_after i es tables places
 extended es tables places i links index found h k is e =
     subst (λ j. flat_map (λ place. kept_after j es tables (set places i place)) found ≡ kept_after i es tables places) (sym (add-one i)) (extended-suc es tables places i links index found h k is e)
@@ -87,13 +87,13 @@ extended-many tables first old g found i most h e k =
 -- the same of an object's index among all
 pub extended-found : (es : List Equality) (tables : List (List Values)) (places : List ℕ) (i : ℕ) (indexes : List Index) (index : Index) (rows : List Values) (before : List (List Values)) (found : List ℕ)
     → AreIndexes es tables indexes → i < length tables → i < length places → index ≡ get_or indexes i index → rows ≡ get_or tables i [] → before ≡ take i tables
-    → found ≡ filter (λ place. has_key index.links.items (probe_of index.links.items (rows_of before places)) (row_at rows place)) index.places.items
+    → found ≡ with_key index.links.items rows (probe_of index.links.items (rows_of before places)) index.places.items
     → flat_map (λ place. kept_after (i + 1) es tables (set places i place)) found ≡ kept_after i es tables places
 extended-found es tables places i indexes index rows before found all h k e f g is =
     let its : IsIndex i es (get_or tables i []) index.links.items index.places.items =
     subst (λ (x : Index). IsIndex i es (get_or tables i []) x.links.items x.places.items) (sym e) (all.each i index (omega (arith, all.count))) in
     extended es tables places i index.links.items index.places.items found h k its
-    (is ∙ (λ j. filter (λ place. has_key index.links.items (probe_of index.links.items (rows_of (g j) places)) (row_at (f j) place)) index.places.items))
+    (is ∙ (λ j. with_key index.links.items (f j) (probe_of index.links.items (rows_of (g j) places)) index.places.items))
 
 pub joined-few : (es : List Equality) (tables : List (List Values)) (found : List Places) → all_rows tables found ≡ kept es tables → length found ≤ MOST_KEPT → Some (all_rows tables found) ≡ joined es tables
 joined-few es tables found e few =

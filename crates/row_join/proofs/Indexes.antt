@@ -10,7 +10,7 @@ use Rattle.scql_model.specs.Matching.{Values}
 use Rattle.row_join.specs.declared.column.Equality.{Equality}
 use Rattle.row_join.specs.declared.link.Link.{Link}
 use Rattle.row_join.specs.Links.{link_of, links_of, key_of, has_key}
-use Rattle.row_join.specs.Places.{row_at, is_less}
+use Rattle.row_join.specs.Places.{row_at, is_less, with_key}
 use Rattle.row_join.proofs.Stable.{filter-stable}
 
 -- one equality more, which is a link or isn't
@@ -48,7 +48,7 @@ filter-filter s t (x ∷ xs) = by (s x) (filter-filter s t xs)
 
 -- after a stable sort by keys those with a key are the rows that were kept and have it, in their order
 pub found-sorted : (links : List Link) (rows : List Values) (own : Values → Bool) (old new : List ℕ) → map (row_at rows) old ≡ filter own rows → IsStableBy (is_less links rows) old new
-    → (probe : Values) → map (row_at rows) (filter (λ place. has_key links probe (row_at rows place)) new) ≡ filter (λ row. own row && has_key links probe row) rows
+    → (probe : Values) → map (row_at rows) (with_key links rows probe new) ≡ filter (λ row. own row && has_key links probe row) rows
 found-sorted links rows own old new e stable probe =
     ap (map (row_at rows)) (filter-stable (lists_total nat_list_cmp_total) (λ (place : ℕ). key_of links (row_at rows place)) probe old new stable)
     ∙ map-filter (has_key links probe) (row_at rows) old

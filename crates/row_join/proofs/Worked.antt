@@ -1,10 +1,9 @@
 -- Worked joins: the definitions compute them.
-use Rattle.std.proofs.Common.{◌≡◌, List, [], ◌∷◌, map, length, refl}
+use Rattle.std.proofs.Common.{◌≡◌, List, [], ◌∷◌, map, refl}
 use Rattle.std.specs.Prelude.{codes}
 use Rattle.scql_model.specs.Matching.{Values}
 use Rattle.row_join.specs.declared.column.Column.{Column}
-use Rattle.row_join.specs.declared.column.Equality.{Equality}
-use Rattle.row_join.specs.Joins.{Combination, in_order, kept, ordered, values_at}
+use Rattle.row_join.specs.Joins.{in_order, kept, ordered, values_at}
 
 -- the columns A and B of T, B and C of U, and C and D of V
 abbrev t_a : Column

@@ -30,8 +30,12 @@ is_less links rows first second = is_lt (compare_values (key_of links (row_at ro
 abbrev pub IsOrdered : List Link → List Values → List ℕ → Type 0
 IsOrdered links rows places = IsSortedBy (is_less links rows) places
 
+-- the places of the rows that have these values in the linked columns
+abbrev pub with_key : List Link → List Values → Values → List ℕ → List ℕ
+with_key links rows probe places = filter (λ place. has_key links probe (row_at rows place)) places
+
 -- Places of an object's rows are in the order of their keys. Those with a key are the rows that meet the object's own equalities and have it, in their order.
 pub record IsIndex (object : ℕ) (equalities : List Equality) (rows : List Values) (links : List Link) (places : List ℕ) : Type 0 where
   pub linked : links ≡ links_of object equalities
   pub ordered : IsOrdered links rows places
-  pub found : (probe : Values) → map (row_at rows) (filter (λ place. has_key links probe (row_at rows place)) places) ≡ filter (λ row. meets_own object equalities row && has_key links probe row) rows
+  pub found : (probe : Values) → map (row_at rows) (with_key links rows probe places) ≡ filter (λ row. meets_own object equalities row && has_key links probe row) rows

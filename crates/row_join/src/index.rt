@@ -1,13 +1,13 @@
 // The rows of an object in the order of the values by which it is joined to the objects before it.
 ghost use Rattle.std.specs.Prelude.{◌≡◌, ◌≤◌, IfOk, length, map};
 ghost use Rattle.std.specs.List.{filter};
-ghost use Rattle.std.specs.Ordering.{is_le};
 ghost use Rattle.row_join.specs.Joins.{compare_values};
-ghost use Rattle.row_join.specs.Links.{has_key, key_of, links_of, meets_own, probe_of};
-ghost use Rattle.row_join.specs.Places.{IsIndex, IsOrdered, row_at, rows_of};
+ghost use Rattle.row_join.specs.Links.{key_of, links_of, meets_own, probe_of};
+ghost use Rattle.row_join.specs.Places.{IsIndex, IsOrdered, row_at, rows_of, with_key};
 
-use crate::values::{value_before, value_of};
-use crate::{Combination, Equality, Fetched, Link};
+use crate::link::Link;
+use crate::values::{value_at, value_of};
+use crate::{Combination, Equality, Fetched};
 use eeprom::Heap;
 use scql_base::Row;
 use std::alloc::AllocError;
@@ -45,26 +45,47 @@ impl Index {
     ) -> &[usize]
         requires few { length before.now ≤ 3 }
         requires ordered { IsOrdered self.now.links.items rows.now self.now.places.items }
-        ensures { result.now ≡ filter (λ place. has_key self.now.links.items (probe_of self.now.links.items (rows_of before.now combination.now.places)) (row_at rows.now place)) self.now.places.items }
+        ensures { result.now ≡ with_key self.now.links.items rows.now (probe_of self.now.links.items (rows_of before.now combination.now.places)) self.now.places.items }
     {
-        let links = self.links.as_slice();
-        let first = self.places.partition_point(|place| compare_probe(
-            links,
+        let probe = Probe {
+            links: self.links.as_slice(),
             rows,
-            *place,
             before,
             combination,
-        ).is_lt());
+        };
+        let first = self
+            .places
+            .partition_point(|place| probe.compare(*place).is_lt());
         let (_, rest) = self.places.split_at(first);
-        let count = rest.partition_point(|place| compare_probe(
-            links,
-            rows,
-            *place,
-            before,
-            combination,
-        ).is_le());
+        let count = rest.partition_point(|place| probe.compare(*place).is_le());
         let (found, _) = rest.split_at(count);
         found
+    }
+}
+
+// The values by which an object's rows are looked up: those that they are to have, where they stand.
+#[derive(Drop)]
+struct Probe<'a> {
+    links: &'a [Link],
+    rows: &'a [Row],
+    before: &'a [Fetched],
+    combination: &'a Combination,
+}
+
+impl Probe<'_> {
+    // How the linked values of a row compare with those that they are to be.
+    fn compare(&self, place: usize) -> Ordering
+        requires { length self.now.before.now ≤ 3 }
+        ensures { result ≡ compare_values (key_of self.now.links.now (row_at self.now.rows.now place)) (probe_of self.now.links.now (rows_of self.now.before.now self.now.combination.now.places)) }
+    {
+        for link in self.links {
+            let other = value_at(self.before, self.combination, link.other);
+            match value_of(self.rows, place, link.place).cmp(other) {
+                Ordering::Equal => {}
+                unequal => return unequal,
+            }
+        }
+        Ordering::Equal
     }
 }
 
@@ -118,27 +139,6 @@ fn compare_keys(links: &[Link], rows: &[Row], first: usize, second: usize) -> Or
 {
     for link in links {
         match value_of(rows, first, link.place).cmp(value_of(rows, second, link.place)) {
-            Ordering::Equal => {}
-            unequal => return unequal,
-        }
-    }
-    Ordering::Equal
-}
-
-// How the linked values of a row compare with those that they are to be.
-fn compare_probe(
-    links: &[Link],
-    rows: &[Row],
-    place: usize,
-    before: &[Fetched],
-    combination: &Combination,
-) -> Ordering
-    requires { length before.now ≤ 3 }
-    ensures { result ≡ compare_values (key_of links.now (row_at rows.now place)) (probe_of links.now (rows_of before.now combination.now.places)) }
-{
-    for link in links {
-        let other = value_before(before, combination, link.other);
-        match value_of(rows, place, link.place).cmp(other) {
             Ordering::Equal => {}
             unequal => return unequal,
         }

@@ -14,8 +14,8 @@ pub use column::{Column, Equality};
 pub use combination::Combination;
 pub use fetched::Fetched;
 pub use join::{Joined, MOST_KEPT, join_rows};
-pub use link::Link;
 pub use order::sort_combinations;
+pub use values::value_at;
 
 #[cfg(test)]
 mod tests;

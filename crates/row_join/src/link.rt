@@ -7,11 +7,11 @@ use crate::values::value_of;
 use crate::{Column, Equality};
 use scql_base::Row;
 
-/// A column of the object that is joined, and the column of an object before it that is to have the same value.
+// A column of the object that is joined, and the column of an object before it that is to have the same value.
 #[derive(Clone, Copy, Drop)]
-pub struct Link {
-    pub place: usize,
-    pub other: Column,
+pub(crate) struct Link {
+    pub(crate) place: usize,
+    pub(crate) other: Column,
 }
 
 impl Equality {

@@ -3,7 +3,7 @@ ghost use Rattle.std.specs.Prelude.{◌≡◌, ◌≤◌, OnOk, length};
 ghost use Rattle.row_join.specs.Joins.{compare_values, ordered, values_at};
 ghost use Rattle.row_join.specs.Places.{all_rows, rows_of};
 
-use crate::values::value_before;
+use crate::values::value_at;
 use crate::{Column, Combination, Fetched};
 use eeprom::Heap;
 use std::alloc::AllocError;
@@ -32,8 +32,8 @@ fn compare_rows(
     ensures { result ≡ compare_values (values_at order.now (rows_of tables.now first.now.places)) (values_at order.now (rows_of tables.now second.now.places)) }
 {
     for column in order {
-        let other = value_before(tables, second, *column);
-        match value_before(tables, first, *column).cmp(other) {
+        let other = value_at(tables, second, *column);
+        match value_at(tables, first, *column).cmp(other) {
             Ordering::Equal => {}
             unequal => return unequal,
         }

@@ -3,7 +3,6 @@ ghost use Rattle.std.specs.Prelude.{◌≤◌, length};
 ghost use Rattle.row_join.specs.Links.{AreWithin};
 
 use super::*;
-use crate::values::value_before;
 use eeprom::Heap;
 use scql_base::Row;
 use std::alloc::AllocError;
@@ -86,7 +85,7 @@ fn text(
     for combination in combinations {
         for column in selected {
             if tables.len() <= 3 {
-                text.extend_from_slice(value_before(tables, combination, *column))?;
+                text.extend_from_slice(value_at(tables, combination, *column))?;
                 text.push(b' ')?;
             }
         }

@@ -1,6 +1,6 @@
 // Values where they stand in fetched rows.
 ghost use Rattle.std.specs.Prelude.{◌≡◌, ◌≤◌, length};
-ghost use Rattle.row_join.specs.Joins.{value_at};
+ghost use Rattle.row_join.specs.Joins as joins;
 ghost use Rattle.row_join.specs.Links.{value_in};
 ghost use Rattle.row_join.specs.Places.{row_at, rows_of};
 
@@ -20,16 +20,12 @@ pub(crate) fn value_of(rows: &[Row], row: usize, place: usize) -> &[u8]
     }
 }
 
-// The value of a column in a combination of the first objects.
-pub(crate) fn value_before<'a>(
-    before: &'a [Fetched],
-    combination: &Combination,
-    column: Column,
-) -> &'a [u8]
-    requires { length before.now ≤ 3 }
-    ensures { result.now ≡ value_at (rows_of before.now combination.now.places) column }
+/// The value of a column in a combination of objects' rows, and nothing where there is no such column.
+pub fn value_at<'a>(tables: &'a [Fetched], combination: &Combination, column: Column) -> &'a [u8]
+    requires { length tables.now ≤ 3 }
+    ensures { result.now ≡ joins.value_at (rows_of tables.now combination.now.places) column }
 {
-    match before.get(column.object) {
+    match tables.get(column.object) {
         Some(table) => value_of(
             table.rows(),
             combination.places[column.object],

@@ -4,12 +4,12 @@ use Rattle.scql_model.specs.Matching.{Values}
 use Rattle.row_join.specs.Links.{value_in}
 use Rattle.row_join.specs.Places.{row_at}
 use Rattle.row_join.proofs.Rows.{value_at-place, value_at-past}
-use Rattle.row_join.proofs.values.value_before.Goals as goal
+use Rattle.row_join.proofs.values.value_at.Goals as goal
 
 pub returns-in-Some : goal.returns-in-Some
 returns-in-Some c =
     let found = c.in-Some.ensures.lookup in
-    let tables : List (List Values) = c.args.before.now in
+    let tables : List (List Values) = c.args.tables.now in
     let column = c.args.column in
     let places = c.args.combination.now.places in
     let long : length places ≡ 3 = search rules in
@@ -18,4 +18,4 @@ returns-in-Some c =
     c.value_of.ensures ∙ ap (λ rows. value_in (row_at rows (get_or places column.object 0)) column.place) table ∙ value_at-place tables places column within (omega arith)
 
 pub returns-in-None : goal.returns-in-None
-returns-in-None c = value_at-past c.args.before.now c.args.combination.now.places c.args.column c.in-None.ensures.lookup.3
+returns-in-None c = value_at-past c.args.tables.now c.args.combination.now.places c.args.column c.in-None.ensures.lookup.3
