@@ -1,0 +1,2 @@
+pub mod Privileged
+pub mod Roomy
