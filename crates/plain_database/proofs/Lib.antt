@@ -1,2 +1,4 @@
 pub mod InOrder
+pub mod MadeRecords
 pub mod RoomOfKinds
+pub mod SpelledSizes

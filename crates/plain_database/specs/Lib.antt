@@ -1,2 +1,3 @@
+pub mod Effects
 pub mod Privileged
 pub mod Roomy

@@ -3,10 +3,13 @@
 
 mod database;
 mod filling;
+mod making;
 mod privilege;
 mod record;
 mod rights;
+mod room;
 mod searches;
+mod sizes;
 
 pub use database::PlainDatabase;
 pub use privilege::Privilege;

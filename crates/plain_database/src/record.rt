@@ -1,8 +1,9 @@
 // What the records of each kind have in common.
-ghost use Rattle.std.specs.Prelude.{◌≡◌, ◌≤◌, ◌^◌};
+ghost use Rattle.std.specs.Prelude.{◌≡◌, ◌<◌};
 ghost use Rattle.scql_model.specs.Edits.{AnyRecord, cells_of_record, of_grant, of_object, of_row, of_user, record_stamp};
 
-use scql_base::{Grant, Object, ObjectKind, RowRecord, User};
+use crate::sizes::{cells_for, object_size};
+use scql_base::{Grant, Object, Row, RowRecord, User};
 
 /// A record of one kind.
 pub(crate) trait Record: Drop {
@@ -12,6 +13,11 @@ pub(crate) trait Record: Drop {
     /// Its stamp.
     fn stamp(&self) -> u32
         ensures { result ≡ record_stamp (entry self.now) };
+
+    /// How many cells it takes.
+    fn cells(&self) -> u32
+        ensures cells { result ≡ cells_of_record (entry self.now) }
+        ensures few { result < 65536 };
 
     /// The same record once more.
     fn again(&self) -> Self
@@ -23,6 +29,10 @@ impl Record for User {
 
     fn stamp(&self) -> u32 {
         self.stamp
+    }
+
+    fn cells(&self) -> u32 {
+        cells_for(13 + self.name.octets().len() + self.secret.as_slice().len())
     }
 
     fn again(&self) -> User {
@@ -37,6 +47,10 @@ impl Record for Object {
         self.stamp
     }
 
+    fn cells(&self) -> u32 {
+        cells_for(object_size(self))
+    }
+
     fn again(&self) -> Object {
         self.copy()
     }
@@ -49,6 +63,10 @@ impl Record for Grant {
         self.stamp
     }
 
+    fn cells(&self) -> u32 {
+        cells_for(14)
+    }
+
     fn again(&self) -> Grant {
         *self
     }
@@ -59,6 +77,11 @@ impl Record for RowRecord {
 
     fn stamp(&self) -> u32 {
         self.stamp
+    }
+
+    fn cells(&self) -> u32 {
+        prove!(self.row.len() <= Row::MOST);
+        cells_for(9 + self.row.size())
     }
 
     fn again(&self) -> RowRecord {
