@@ -9,6 +9,7 @@ mod inserting;
 mod making;
 mod privilege;
 mod record;
+mod removing;
 mod rights;
 mod room;
 mod searches;
