@@ -16,7 +16,7 @@ use Rattle.scql_model.proofs.RecordsOf.{weight-valid}
 use Rattle.scql_model.proofs.Removing.{applied-removing_object, applied-removing_table, applied-removing_user, grants-take_none, rows-take_none, takes_stamp-behind}
 
 -- edits that take no stamp, and after which a valid database weighs no more than before, have room
-fits-lighter : (db : Database) (edits : List Edit) (left : Database) → IsValid db → takes_stamp edits ≡ false → left ≡ applied db edits → weight left ≤ weight db → Ok left ≡ with_edits db edits
+pub fits-lighter : (db : Database) (edits : List Edit) (left : Database) → IsValid db → takes_stamp edits ≡ false → left ≡ applied db edits → weight left ≤ weight db → Ok left ≡ with_edits db edits
 fits-lighter db edits left valid none is light =
     let most = weight-valid db valid in
     let few : weight left ≤ db.cells = omega arith in

@@ -4,17 +4,21 @@
 mod columns;
 mod creating;
 mod database;
+mod dropping;
 mod filling;
+mod granting;
 mod inserting;
 mod making;
 mod privilege;
 mod record;
 mod removing;
+mod replacing;
 mod rights;
 mod room;
 mod searches;
 mod sizes;
 mod user_creating;
+mod user_deleting;
 
 pub use columns::{are_named_among, wanted_of};
 pub use database::PlainDatabase;
