@@ -5,3 +5,4 @@ pub mod Removed
 pub mod ReplacedRecords
 pub mod RoomOfKinds
 pub mod SpelledSizes
+pub mod ValuesPlaced
