@@ -4,5 +4,6 @@ pub mod MadeRecords
 pub mod Removed
 pub mod ReplacedRecords
 pub mod RoomOfKinds
+pub mod SoughtRows
 pub mod SpelledSizes
 pub mod ValuesPlaced

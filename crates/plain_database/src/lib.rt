@@ -18,7 +18,9 @@ mod resolved;
 mod rights;
 mod room;
 mod searches;
+mod seen;
 mod sizes;
+mod sought;
 mod user_creating;
 mod user_deleting;
 
@@ -27,3 +29,4 @@ pub use database::PlainDatabase;
 pub use matching::{matches, value_of};
 pub use privilege::Privilege;
 pub use resolved::Resolved;
+pub use sought::Sought;
