@@ -1,6 +1,8 @@
+pub mod AssignedRows
 pub mod ChangedRecords
 pub mod InOrder
 pub mod MadeRecords
+pub mod Reached
 pub mod Removed
 pub mod ReplacedRecords
 pub mod RoomOfKinds

@@ -1,6 +1,7 @@
 //! A database as plain lists in memory, for whoever goes over what a card did: its rights, its searches and its changing operations.
 #![tactic(auto)]
 
+mod assigning;
 mod columns;
 mod creating;
 mod database;
@@ -11,6 +12,7 @@ mod inserting;
 mod making;
 mod matching;
 mod privilege;
+mod reaching;
 mod record;
 mod removing;
 mod replacing;
@@ -28,5 +30,6 @@ pub use columns::{are_named_among, wanted_of};
 pub use database::PlainDatabase;
 pub use matching::{matches, value_of};
 pub use privilege::Privilege;
+pub use reaching::is_opened;
 pub use resolved::Resolved;
 pub use sought::Sought;

@@ -1,6 +1,7 @@
 // Whether rows meet conditions.
-ghost use Rattle.std.specs.Prelude.{◌≡◌, [], get_or, position};
+ghost use Rattle.std.specs.Prelude.{◌≡◌, ◌≤◌, [], get_or, length, position};
 ghost use Rattle.std.specs.Str.{bytes_eq};
+ghost use Rattle.scql_base.specs.declared.row.TheConstants.Row.{LONGEST_VALUE};
 ghost use Rattle.scql_model.specs.Matching as matching;
 
 use scql_base::{Comparison, Condition, Name, NameList, Row};
@@ -24,10 +25,12 @@ pub fn value_of<'a>(columns: &NameList, row: &'a Row, column: &Name) -> &'a [u8]
     }
 }
 
-// A row's value at a place, or nothing.
-fn value_at(row: &Row, place: usize) -> &[u8]
-    ensures { result.now ≡ get_or row.now place [] }
+/// A row's value at a place, or nothing.
+pub(crate) fn value_at(row: &Row, place: usize) -> &[u8]
+    ensures value { result.now ≡ get_or row.now place [] }
+    ensures short { length result.now ≤ LONGEST_VALUE }
 {
+    prove!(row.len() <= Row::MOST);
     match row.get(place) {
         Some(value) => value,
         None => &[],
