@@ -9,3 +9,4 @@ pub mod RoomOfKinds
 pub mod SoughtRows
 pub mod SpelledSizes
 pub mod ValuesPlaced
+pub mod Written

@@ -1,10 +1,11 @@
 -- A row that a cursor shows is sought in the table.
-use Rattle.std.proofs.Common.{◌≡◌, ◌<◌, suc, Bool, true, false, List, [], ◌∷◌, map, filter, Option, Some, None, refl, sym, ap, subst, ◌∙◌, inl, inr, arith}
+use Rattle.std.proofs.Common.{◌≡◌, ℕ, ◌<◌, suc, Bool, true, false, List, [], ◌∷◌, map, filter, Option, Some, None, refl, sym, ap, subst, ◌∙◌, inl, inr, arith}
 use Rattle.std.specs.Prelude.{◌==◌, ◌&&◌, IfSome, option_map}
 use Rattle.std.specs.List.{find, AllByRecursion}
 use Rattle.std.proofs.lemmas.Bool.{and_parts, cases_Bool, eqb-true, eq-eqb, ne_eqb}
 use Rattle.std.proofs.lemmas.Option.{none-some, same_Some}
 use Rattle.eeprom.specs.Slots.{Rises}
+use Rattle.scql_base.specs.declared.words.Actor.{Actor}
 use Rattle.scql_base.specs.declared.condition.Condition.{Condition}
 use Rattle.scql_base.specs.declared.cursor.Cursor.{Cursor}
 use Rattle.scql_base.specs.declared.records.Object.{Object}
@@ -14,6 +15,7 @@ use Rattle.scql_model.specs.Cursors.{IsCursorOf}
 use Rattle.scql_model.specs.Database.{Database, IsValid, are_named_among, object_stamped}
 use Rattle.scql_model.specs.Matching.{matches}
 use Rattle.scql_model.specs.Objects.{StampedRow, columns_of, deepest}
+use Rattle.scql_model.specs.Rights.{appears, seen_stamped}
 use Rattle.scql_model.specs.Resolving.{Resolved, passes_filters, resolved_below, resolved_of}
 use Rattle.scql_model.proofs.ChangedLists.{found-each}
 use Rattle.scql_model.proofs.KnownNames.{names-valid}
@@ -56,18 +58,25 @@ sought-through db c r sought valid of is =
     (λ (x : StampedRow). record x { values = cut_to r.all c.columns x.values }) (λ (x : StampedRow). admits sought x.stamp) db.rows)
     ∙ ap (find (λ (x : StampedRow). admits sought x.stamp)) (sym rows)
 
--- the first record that passes a test is the one of its stamp
-pub found-among : (p : RowRecord → Bool) (rows : List RowRecord) → Rises (λ (r : RowRecord). r.stamp) rows → IfSome (find p rows) (λ (r : RowRecord). find (λ (s : RowRecord). s.stamp == r.stamp) rows ≡ Some r)
-found-among p [] rises = tt
-found-among p (x ∷ rows) rises = elim (cases_Bool (p x)) [
-  | inl t ↦ rw t (let own = eq-eqb x.stamp x.stamp refl in rw own refl)
-  | inr f ↦ rw f (behind (find p rows) refl (found-among p rows rises.1))
+-- where keys rise, the first element that passes a test is the one of its key
+pub found-among : {X : Type 0} (key : X → ℕ) (p : X → Bool) (xs : List X) → Rises key xs → IfSome (find p xs) (λ x. find (λ y. key y == key x) xs ≡ Some x)
+found-among key p [] rises = tt
+found-among {X} key p (x ∷ xs) rises = elim (cases_Bool (p x)) [
+  | inl t ↦ rw t (let own = eq-eqb (key x) (key x) refl in rw own refl)
+  | inr f ↦ rw f (behind (find p xs) refl (found-among key p xs rises.1))
 ]
   where
-    behind : (found : Option RowRecord) → find p rows ≡ found → IfSome found (λ (r : RowRecord). find (λ (s : RowRecord). s.stamp == r.stamp) rows ≡ Some r)
-        → IfSome found (λ (r : RowRecord). find (λ (s : RowRecord). s.stamp == r.stamp) (x ∷ rows) ≡ Some r)
+    behind : (found : Option X) → find p xs ≡ found → IfSome found (λ y. find (λ z. key z == key y) xs ≡ Some y) → IfSome found (λ y. find (λ z. key z == key y) (x ∷ xs) ≡ Some y)
     behind None is own = tt
-    behind (Some r) is own =
-        let less : x.stamp < r.stamp = found-each (λ (y : RowRecord). x.stamp < y.stamp) p rows r rises.0 is in
-        let other = ne_eqb x.stamp r.stamp (λ (same : x.stamp ≡ r.stamp). omega arith) in
+    behind (Some y) is own =
+        let less : key x < key y = found-each (λ z. key x < key z) p xs y rises.0 is in
+        let other = ne_eqb (key x) (key y) (λ (same : key x ≡ key y). omega arith) in
         rw other own
+
+-- so an object that appears is the one of its stamp
+pub seen-there : (db : Database) (actor : Actor) (stamp : ℕ) (o : Object) → IsValid db → seen_stamped db actor stamp ≡ Some o → object_stamped db.objects stamp ≡ Some o
+seen-there db actor stamp o valid seen =
+    let p = λ (p : Object). p.stamp == stamp && appears db actor p in
+    let there = rw seen at (found-among (λ (p : Object). p.stamp) p db.objects valid.objects.rises) in
+    let same : o.stamp ≡ stamp = eqb-true o.stamp stamp (and_parts (o.stamp == stamp) (appears db actor o) (find-passes p db.objects o seen)).0 in
+    subst (λ n. find (λ (p : Object). p.stamp == n) db.objects ≡ Some o) same there

@@ -19,6 +19,13 @@ pub(crate) fn columns_stored(kind: &ObjectKind) -> Option<&NameList>
     }
 }
 
+/// Whether an object is a table or a view.
+pub(crate) fn is_table_or_view(kind: &ObjectKind) -> bool
+    ensures { result ≡ defining.is_table_or_view kind.now }
+{
+    matches!(kind, ObjectKind::Table { .. } | ObjectKind::View { .. })
+}
+
 /// The named columns, or all where none is named.
 pub fn wanted_of<'a>(all: &'a NameList, named: &'a NameList) -> &'a NameList
     ensures { result.now ≡ commands.wanted_of all.now named.now }

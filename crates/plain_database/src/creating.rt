@@ -1,5 +1,5 @@
 // CREATE TABLE, CREATE VIEW and CREATE DICTIONARY.
-ghost use Rattle.std.specs.Prelude.{◌≡◌, ◌<◌, ◌≤◌, IfSome, Some, None, option_copied, if◌then◌else◌};
+ghost use Rattle.std.specs.Prelude.{◌≡◌, ◌<◌, ◌≤◌, IfSome, Some, None, option_copied, if◌then◌else◌, OnErr};
 ghost use Rattle.std.specs.List.{list_any};
 ghost use Rattle.std.specs.Str.{bytes_eq};
 ghost use Rattle.scql_base.specs.declared.records.ObjectKind.TheVariants as kinds;
@@ -28,6 +28,7 @@ impl PlainDatabase {
     ) -> Result<(), StatusWord>
         requires valid { IsValid self.old }
         ensures ended { ended result self.new ≡ outcome self.old (defining.object_created self.old actor name.now (kinds.Table columns.now)) }
+        ensures same { OnErr result (self.new ≡ self.old) }
         ensures cells { self.new.cells ≡ self.old.cells }
     {
         let columns = columns.copy();
@@ -43,6 +44,7 @@ impl PlainDatabase {
     ) -> Result<(), StatusWord>
         requires valid { IsValid self.old }
         ensures ended { ended result self.new ≡ outcome self.old (defining.object_created self.old actor name.now (kinds.Dictionary subject)) }
+        ensures same { OnErr result (self.new ≡ self.old) }
         ensures cells { self.new.cells ≡ self.old.cells }
     {
         self.create_object(actor, name, ObjectKind::Dictionary { subject })
@@ -60,6 +62,7 @@ impl PlainDatabase {
     ) -> Result<(), StatusWord>
         requires valid { IsValid self.old }
         ensures ended { ended result self.new ≡ outcome self.old (defining.view_created self.old actor name.now base.now columns.now conditions.now) }
+        ensures same { OnErr result (self.new ≡ self.old) }
         ensures cells { self.new.cells ≡ self.old.cells }
     {
         if !makes_objects(actor) {
@@ -98,6 +101,7 @@ impl PlainDatabase {
     ) -> Result<(), StatusWord>
         requires valid { IsValid self.old }
         ensures ended { ended result self.new ≡ outcome self.old (defining.object_created self.old actor name.now kind) }
+        ensures same { OnErr result (self.new ≡ self.old) }
         ensures cells { self.new.cells ≡ self.old.cells }
     {
         if !makes_objects(actor) {
@@ -110,6 +114,7 @@ impl PlainDatabase {
     fn name_object(&mut self, actor: Actor, name: &Name, kind: ObjectKind) -> Result<(), StatusWord>
         requires valid { IsValid self.old }
         ensures ended { ended result self.new ≡ outcome self.old (defining.named_anew self.old (defining.new_object self.old actor name.now kind)) }
+        ensures same { OnErr result (self.new ≡ self.old) }
         ensures cells { self.new.cells ≡ self.old.cells }
     {
         if self.has_object(name) {

@@ -1,5 +1,5 @@
 // DROP TABLE and DROP VIEW.
-ghost use Rattle.std.specs.Prelude.{◌≡◌, not};
+ghost use Rattle.std.specs.Prelude.{◌≡◌, not, OnErr};
 ghost use Rattle.scql_model.specs.Database.{IsValid};
 ghost use Rattle.scql_model.specs.Defining as defining;
 ghost use Rattle.scql_model.specs.Rules as rules;
@@ -15,6 +15,7 @@ impl PlainDatabase {
     pub(crate) fn drop_table(&mut self, actor: Actor, name: &Name) -> Result<(), StatusWord>
         requires valid { IsValid self.old }
         ensures ended { ended result self.new ≡ outcome self.old (defining.table_dropped self.old actor name.now) }
+        ensures same { OnErr result (self.new ≡ self.old) }
         ensures cells { self.new.cells ≡ self.old.cells }
     {
         let Some(object) = self.seen_named(actor, name) else {
@@ -39,6 +40,7 @@ impl PlainDatabase {
     pub(crate) fn drop_view(&mut self, actor: Actor, name: &Name) -> Result<(), StatusWord>
         requires valid { IsValid self.old }
         ensures ended { ended result self.new ≡ outcome self.old (defining.view_dropped self.old actor name.now) }
+        ensures same { OnErr result (self.new ≡ self.old) }
         ensures cells { self.new.cells ≡ self.old.cells }
     {
         let Some(object) = self.seen_named(actor, name) else {

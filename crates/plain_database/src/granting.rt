@@ -1,5 +1,5 @@
 // GRANT and REVOKE.
-ghost use Rattle.std.specs.Prelude.{◌≡◌, ◌==◌, Ok, Some, None, bit_or, if◌then◌else◌, option_copied};
+ghost use Rattle.std.specs.Prelude.{◌≡◌, ◌==◌, Ok, Some, None, bit_or, if◌then◌else◌, option_copied, OnErr};
 ghost use Rattle.scql_model.specs.Database.{IsValid};
 ghost use Rattle.scql_model.specs.Edits.{with_edits};
 ghost use Rattle.scql_model.specs.Granting as granting;
@@ -21,6 +21,7 @@ impl PlainDatabase {
     ) -> Result<(), StatusWord>
         requires valid { IsValid self.old }
         ensures ended { ended result self.new ≡ outcome self.old (granting.privileges_granted self.old actor privileges name.now grantee.now) }
+        ensures same { OnErr result (self.new ≡ self.old) }
         ensures cells { self.new.cells ≡ self.old.cells }
     {
         let Some(object) = self.seen_named(actor, name) else {
@@ -62,6 +63,7 @@ impl PlainDatabase {
     ) -> Result<(), StatusWord>
         requires valid { IsValid self.old }
         ensures ended { ended result self.new ≡ outcome self.old (granting.privileges_revoked self.old actor privileges name.now grantee.now) }
+        ensures same { OnErr result (self.new ≡ self.old) }
         ensures cells { self.new.cells ≡ self.old.cells }
     {
         let Some(object) = self.seen_named(actor, name) else {

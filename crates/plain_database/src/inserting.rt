@@ -1,5 +1,5 @@
 // INSERT.
-ghost use Rattle.std.specs.Prelude.{◌≡◌};
+ghost use Rattle.std.specs.Prelude.{◌≡◌, OnErr};
 ghost use Rattle.scql_model.specs.Database.{IsValid};
 ghost use Rattle.scql_model.specs.Writing.{row_inserted};
 ghost use Rattle.plain_database.specs.Effects.{ended, outcome};
@@ -13,6 +13,7 @@ impl PlainDatabase {
     pub(crate) fn insert(&mut self, actor: Actor, table: &Name, row: &Row) -> Result<(), StatusWord>
         requires valid { IsValid self.old }
         ensures ended { ended result self.new ≡ outcome self.old (row_inserted self.old actor table.now row.now) }
+        ensures same { OnErr result (self.new ≡ self.old) }
         ensures cells { self.new.cells ≡ self.old.cells }
     {
         let Some(object) = self.seen_named(actor, table) else {

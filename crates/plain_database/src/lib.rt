@@ -2,6 +2,7 @@
 #![tactic(auto)]
 
 mod assigning;
+mod changing;
 mod columns;
 mod creating;
 mod database;
@@ -19,6 +20,7 @@ mod replacing;
 mod resolved;
 mod rights;
 mod room;
+mod row_writing;
 mod searches;
 mod seen;
 mod sizes;

@@ -1,5 +1,5 @@
 // Records that are made. Each takes the next stamp.
-ghost use Rattle.std.specs.Prelude.{◌≡◌};
+ghost use Rattle.std.specs.Prelude.{◌≡◌, OnErr};
 ghost use Rattle.scql_model.specs.Database.{IsValid};
 ghost use Rattle.scql_model.specs.Edits.{making, of_grant, of_object, of_row, of_user, with_edits};
 ghost use Rattle.plain_database.specs.Effects.{ended};
@@ -13,6 +13,7 @@ impl PlainDatabase {
     pub(crate) fn add_user(&mut self, user: User) -> Result<(), StatusWord>
         requires valid { IsValid self.old }
         ensures ended { ended result self.new ≡ with_edits self.old (making self.old (of_user user)) }
+        ensures same { OnErr result (self.new ≡ self.old) }
         ensures cells { self.new.cells ≡ self.old.cells }
     {
         if !self.has_room(user.cells()) {
@@ -27,6 +28,7 @@ impl PlainDatabase {
     pub(crate) fn add_object(&mut self, object: Object) -> Result<(), StatusWord>
         requires valid { IsValid self.old }
         ensures ended { ended result self.new ≡ with_edits self.old (making self.old (of_object object)) }
+        ensures same { OnErr result (self.new ≡ self.old) }
         ensures cells { self.new.cells ≡ self.old.cells }
     {
         if !self.has_room(object.cells()) {
@@ -41,6 +43,7 @@ impl PlainDatabase {
     pub(crate) fn add_grant(&mut self, grant: Grant) -> Result<(), StatusWord>
         requires valid { IsValid self.old }
         ensures ended { ended result self.new ≡ with_edits self.old (making self.old (of_grant grant)) }
+        ensures same { OnErr result (self.new ≡ self.old) }
         ensures cells { self.new.cells ≡ self.old.cells }
     {
         if !self.has_room(grant.cells()) {
@@ -55,6 +58,7 @@ impl PlainDatabase {
     pub(crate) fn add_row(&mut self, row: RowRecord) -> Result<(), StatusWord>
         requires valid { IsValid self.old }
         ensures ended { ended result self.new ≡ with_edits self.old (making self.old (of_row row)) }
+        ensures same { OnErr result (self.new ≡ self.old) }
         ensures cells { self.new.cells ≡ self.old.cells }
     {
         if !self.has_room(row.cells()) {

@@ -1,5 +1,5 @@
 // Records that take the place of those that have their stamps.
-ghost use Rattle.std.specs.Prelude.{◌≡◌, ◌<◌, ◌∷◌, [], Ok, Some, IfSome, length, vec_capacity};
+ghost use Rattle.std.specs.Prelude.{◌≡◌, ◌<◌, ◌∷◌, [], Ok, Some, IfSome, length, vec_capacity, OnErr};
 ghost use Rattle.std.specs.List.{find, position};
 ghost use Rattle.eeprom.specs.Slots.{Rises, has, replaced};
 ghost use Rattle.scql_base.specs.declared.records.RowRecord as rows;
@@ -27,6 +27,7 @@ impl PlainDatabase {
         requires valid { IsValid self.old }
         requires there { (held : rows.RowRecord) × (find (has (λ r. r.stamp) row.stamp) self.old.rows ≡ Some held) × (before ≡ cells_of_record (of_row held)) }
         ensures ended { ended result self.new ≡ with_edits self.old (changing (of_row row) ∷ []) }
+        ensures same { OnErr result (self.new ≡ self.old) }
         ensures cells { self.new.cells ≡ self.old.cells }
     {
         if self.weight() - before + row.cells() > u32::from(self.cells) {

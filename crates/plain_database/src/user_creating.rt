@@ -1,5 +1,5 @@
 // CREATE USER.
-ghost use Rattle.std.specs.Prelude.{◌≡◌};
+ghost use Rattle.std.specs.Prelude.{◌≡◌, OnErr};
 ghost use Rattle.std.specs.List.{list_any};
 ghost use Rattle.scql_model.specs.Creating as creating;
 ghost use Rattle.scql_model.specs.Database.{IsValid};
@@ -21,6 +21,7 @@ impl PlainDatabase {
     ) -> Result<(), StatusWord>
         requires valid { IsValid self.old }
         ensures ended { ended result self.new ≡ outcome self.old (creating.user_added self.old actor name.now profile secret.now) }
+        ensures same { OnErr result (self.new ≡ self.old) }
         ensures cells { self.new.cells ≡ self.old.cells }
     {
         if !may_create(actor, profile) {

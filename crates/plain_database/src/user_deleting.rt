@@ -1,5 +1,5 @@
 // DELETE USER.
-ghost use Rattle.std.specs.Prelude.{◌≡◌, ◌==◌};
+ghost use Rattle.std.specs.Prelude.{◌≡◌, ◌==◌, OnErr};
 ghost use Rattle.std.specs.List.{list_any};
 ghost use Rattle.scql_model.specs.Database.{IsValid};
 ghost use Rattle.scql_model.specs.Users as users;
@@ -15,6 +15,7 @@ impl PlainDatabase {
     pub(crate) fn delete_user(&mut self, actor: Actor, name: &Name) -> Result<(), StatusWord>
         requires valid { IsValid self.old }
         ensures ended { ended result self.new ≡ outcome self.old (users.user_deleted self.old actor name.now) }
+        ensures same { OnErr result (self.new ≡ self.old) }
         ensures cells { self.new.cells ≡ self.old.cells }
     {
         let Some(user) = self.user_named(name) else {

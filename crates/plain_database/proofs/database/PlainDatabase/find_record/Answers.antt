@@ -1,4 +1,5 @@
 use Rattle.std.proofs.Common.{◌≡◌}
+use Rattle.scql_base.specs.declared.records.RowRecord.{RowRecord}
 use Rattle.plain_database.specs.Sought.{is_sought}
 use Rattle.plain_database.proofs.SoughtRows.{found-among, sought-through}
 use Rattle.plain_database.proofs.database.PlainDatabase.find_record.Goals as goal
@@ -11,4 +12,4 @@ returns-clause-shown c =
 pub returns-clause-among : goal.returns-clause-among
 returns-clause-among c =
     rw (c.find_in_table.ensures, c.as_slice.ensures.conditions)
-    (found-among (is_sought c.args.resolved.now c.args.cursor.now.conditions c.args.sought) c.args.self.now.rows c.requires.valid.rows.rises)
+    (found-among (λ (r : RowRecord). r.stamp) (is_sought c.args.resolved.now c.args.cursor.now.conditions c.args.sought) c.args.self.now.rows c.requires.valid.rows.rises)
