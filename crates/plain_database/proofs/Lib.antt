@@ -1,5 +1,6 @@
 pub mod AssignedRows
 pub mod ChangedRecords
+pub mod ChangesValid
 pub mod InOrder
 pub mod MadeRecords
 pub mod Reached

@@ -13,8 +13,25 @@ use scql_base::{Actor, Cursor, Operation, StatusWord};
 impl PlainDatabase {
     /// Carries out a changing command for an actor, or refuses it. UPDATE and DELETE are of the row at the cursor. No other operation
     /// is a changing command.
-    #[tactic(auto, unfolding(scql_model::specs::Changing::change_of, scql_model::specs::Changing::edits_of))]
     pub fn change(
+        &mut self,
+        actor: Actor,
+        cursor: &Option<Cursor>,
+        operation: &Operation,
+    ) -> Result<(), StatusWord>
+        requires valid { IsValid self.old }
+        requires cursor { IfSome cursor.now (IsCursorOf self.old) }
+        ensures ended { ended result self.new ≡ change_of self.old actor cursor.now operation.now }
+        ensures same { OnErr result (self.new ≡ self.old) }
+        ensures cells { self.new.cells ≡ self.old.cells }
+        ensures valid { IsActorOf self.old actor → HasForm operation.now → FitsCard self.old.limit operation.now → IsValid self.new }
+    {
+        self.carry_out(actor, cursor, operation)
+    }
+
+    // Carries out a changing command, each by its own function.
+    #[tactic(auto, unfolding(scql_model::specs::Changing::change_of, scql_model::specs::Changing::edits_of))]
+    fn carry_out(
         &mut self,
         actor: Actor,
         cursor: &Option<Cursor>,
