@@ -1,0 +1,4 @@
+pub mod Fetched
+pub mod Showing
+pub mod Tables
+mod WorkedQueries

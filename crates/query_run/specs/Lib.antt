@@ -1,0 +1,3 @@
+pub mod Fetching
+pub mod Progress
+pub mod QueryText
