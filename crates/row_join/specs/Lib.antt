@@ -1,1 +1,4 @@
 pub mod Joins
+pub mod Links
+pub mod Places
+pub mod Joined

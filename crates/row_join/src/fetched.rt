@@ -1,4 +1,6 @@
 // The rows of an object.
+ghost use Rattle.std.specs.Prelude.{◌≡◌};
+
 use eeprom::Heap;
 use scql_base::Row;
 use std::marker::Model;
@@ -16,4 +18,13 @@ impl Model for Fetched {
     ghost Value = { List Values };
 
     ghost view = { λ f. f.rows.items };
+}
+
+impl Fetched {
+    /// The rows.
+    pub fn rows(&self) -> &[Row]
+        ensures { result.now ≡ self.now }
+    {
+        self.rows.as_slice()
+    }
 }

@@ -1,0 +1,27 @@
+-- The rows of combinations by their places.
+use Rattle.std.proofs.Common.{◌≡◌, ℕ, zero, suc, ◌<◌, ◌≤◌, List, [], ◌∷◌, length, get_or, refl, sym, ap, arith}
+use Rattle.scql_model.specs.Matching.{Values}
+use Rattle.row_join.specs.declared.column.Column.{Column}
+use Rattle.row_join.specs.Joins.{value_at}
+use Rattle.row_join.specs.Links.{value_in}
+use Rattle.row_join.specs.Places.{row_at, rows_of}
+
+rows_of-at : (tables : List (List Values)) (places : List ℕ) (i : ℕ) → i < length tables → i < length places → get_or (rows_of tables places) i [] ≡ row_at (get_or tables i []) (get_or places i 0)
+rows_of-at [] places i h k = absurd (omega arith)
+rows_of-at (rows ∷ tables) [] i h k = absurd (omega arith)
+rows_of-at (rows ∷ tables) (place ∷ places) zero h k = refl
+rows_of-at (rows ∷ tables) (place ∷ places) (suc i) h k = rows_of-at tables places i (omega arith) (omega arith)
+
+rows_of-past : (tables : List (List Values)) (places : List ℕ) (i : ℕ) → length tables ≤ i → get_or (rows_of tables places) i [] ≡ []
+rows_of-past [] places i h = refl
+rows_of-past (rows ∷ tables) [] i h = refl
+rows_of-past (rows ∷ tables) (place ∷ places) zero h = absurd (omega arith)
+rows_of-past (rows ∷ tables) (place ∷ places) (suc i) h = rows_of-past tables places i (omega arith)
+
+-- a column's value stands in the row at its object's place
+pub value_at-place : (tables : List (List Values)) (places : List ℕ) (column : Column) → column.object < length tables → column.object < length places
+    → value_in (row_at (get_or tables column.object []) (get_or places column.object 0)) column.place ≡ value_at (rows_of tables places) column
+value_at-place tables places column h k = ap (λ row. get_or row column.place []) (sym (rows_of-at tables places column.object h k))
+
+pub value_at-past : (tables : List (List Values)) (places : List ℕ) (column : Column) → length tables ≤ column.object → ◌≡◌ {A = List ℕ} [] (value_at (rows_of tables places) column)
+value_at-past tables places column h = ap (λ row. get_or row column.place []) (sym (rows_of-past tables places column.object h))

@@ -1,0 +1,30 @@
+-- What a join gives, and how it is extended object by object.
+use Rattle.std.specs.Prelude.{◌≡◌, ℕ, ◌<◌, List, [], length, Option, Some, None, nat_lt, slice_index_or, take, drop, if◌then◌else◌}
+use Rattle.scql_model.specs.Matching.{Values}
+use Rattle.row_join.specs.declared.column.Equality.{Equality}
+use Rattle.row_join.specs.declared.index.Index.{Index}
+use Rattle.row_join.specs.declared.join.Joined.{Joined}
+use Rattle.row_join.specs.declared.join.Joined.TheVariants.{Kept, TooMany}
+use Rattle.row_join.specs.declared.join.TheConstants.{MOST_KEPT}
+use Rattle.row_join.specs.Joins.{Combination, kept}
+use Rattle.row_join.specs.Links.{kept_from}
+use Rattle.row_join.specs.Places.{IsIndex, all_rows, rows_of}
+
+-- the combinations that are kept, unless they are too many
+abbrev pub joined : List Equality → List (List Values) → Option (List Combination)
+joined equalities tables = if nat_lt MOST_KEPT (length (kept equalities tables)) then None else Some (kept equalities tables)
+
+-- the rows that an answer stands for
+abbrev pub rows_joined : List (List Values) → Joined → Option (List Combination)
+rows_joined tables (Kept combinations) = Some (all_rows tables combinations.items)
+rows_joined tables TooMany = None
+
+-- the combinations that are kept and have, in the objects before this one, the rows at these places
+abbrev pub kept_after : ℕ → List Equality → List (List Values) → List ℕ → List Combination
+kept_after object equalities tables places = kept_from object equalities (rows_of (take object tables) places) (drop object tables)
+
+-- each object has its index
+pub record AreIndexes (equalities : List Equality) (tables : List (List Values)) (indexes : List Index) : Type 0 where
+  pub count : length indexes ≡ length tables
+  pub each : (object : ℕ) (none : Index) → object < length indexes
+      → IsIndex object equalities (slice_index_or tables object []) (slice_index_or indexes object none).links.items (slice_index_or indexes object none).places.items
