@@ -1,6 +1,7 @@
 // What a query asks for.
+use crate::blank::Blank;
+use crate::{Columns, Equalities};
 use arrayvec::ArrayVec;
-use row_join::{Column, Equality};
 use scql_base::{Name, NameList};
 use std::marker::Model;
 
@@ -15,10 +16,10 @@ pub struct AskedObject {
 /// selected columns are given.
 #[derive(Drop)]
 pub struct Query {
-    pub objects: ArrayVec<AskedObject, { Query::MOST_OBJECTS }>,
-    pub selected: ArrayVec<Column, { Query::MOST_COLUMNS }>,
-    pub equalities: ArrayVec<Equality, { Query::MOST_EQUALITIES }>,
-    pub order: ArrayVec<Column, { Query::MOST_COLUMNS }>,
+    pub objects: ArrayVec<AskedObject, { Query::MOST_OBJECTS }, Blank>,
+    pub selected: Columns,
+    pub equalities: Equalities,
+    pub order: Columns,
 }
 
 impl Model for Query {
@@ -26,7 +27,7 @@ impl Model for Query {
 
     ghost Value = { Asked };
 
-    ghost view = { λ q. record { objects = q.objects.items; selected = q.selected.items; equalities = q.equalities.items; order = q.order.items } };
+    ghost view = { λ q. record { objects = q.objects.items; selected = q.selected; equalities = q.equalities; order = q.order } };
 }
 
 impl Query {

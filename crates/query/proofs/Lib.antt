@@ -1,0 +1,2 @@
+mod ExampleLines
+pub mod InTurn

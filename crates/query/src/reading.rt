@@ -1,0 +1,48 @@
+// Reads the query of a line.
+ghost use Rattle.std.specs.Prelude.{◌≡◌, ◌≤◌, IfOk, IfErr, length};
+ghost use Rattle.scql_model.specs.Lines.{longest_line};
+ghost use Rattle.query.specs.Facts.{HasPlace};
+ghost use Rattle.query.specs.Line as lines;
+
+use crate::Query;
+use crate::grammar::whole;
+use crate::resolving::resolve;
+use script::{ScriptFault, Tokens};
+
+impl Query {
+    /// The query that a line of at most 1,000 octets is. A line that asks for nothing is at fault too.
+    ///
+    /// `At` comes exactly where the line isn't in the grammar of queries, and where its names stand for nothing: a name stands in
+    /// FROM twice, a column's object doesn't stand there, or the line names a 16th column of one object. `TooLarge` never comes.
+    pub fn read(line: &[u8]) -> Result<Query, ScriptFault>
+        requires { length line.now ≤ longest_line }
+        ensures query { result ≡ lines.query_of line.now }
+        ensures place { IfErr result HasPlace }
+    {
+        read_query(line)
+    }
+}
+
+fn read_query(line: &[u8]) -> Result<Query, ScriptFault>
+    requires { length line.now ≤ longest_line }
+    ensures { result ≡ lines.query_of line.now }
+{
+    let mut tokens = Tokens::new(line);
+    let Some(written) = whole(&mut tokens) else {
+        return Err(fault_at(line, tokens.left()));
+    };
+    match resolve(&written) {
+        Ok(query) => Ok(query),
+        Err(fault) => Err(fault_at(line, fault.left)),
+    }
+}
+
+// The fault at the place that so many octets of the line are from on.
+fn fault_at(line: &[u8], left: usize) -> ScriptFault
+    requires { length line.now ≤ longest_line }
+    ensures { result ≡ lines.fault_at line.now left }
+{
+    ScriptFault::At {
+        place: line.len().saturating_sub(left) as u16,
+    }
+}
