@@ -6,13 +6,13 @@ use Rattle.script.specs.Tokens.{closed, tokens_from, tokens_of}
 use Rattle.script.specs.Reading.{one, the, more, listed}
 use Rattle.script.specs.Grammar.{name}
 use Rattle.query.specs.Asked.{Asked}
-use Rattle.query.specs.Grammar.{named, with_named, columns, source, sources, with_pair, pairs, where_pairs, order_by, query, at_end, whole}
+use Rattle.query.specs.Grammar.{here, named, with_named, columns, source, sources, with_pair, pairs, where_pairs, order_by, query, at_end, whole}
 use Rattle.query.specs.Resolving.{in_turn, column, equality, repeated, names}
 use Rattle.query.specs.Line.{query_of}
 
 -- the query of a line, with all definitions open
 unfoldable read : List ℕ → Result Asked ScriptFault
-unfolding closed tokens_from tokens_of one the more listed name named with_named columns source sources with_pair pairs where_pairs order_by query at_end whole in_turn column equality repeated names
+unfolding closed tokens_from tokens_of one the more listed name here named with_named columns source sources with_pair pairs where_pairs order_by query at_end whole in_turn column equality repeated names
 read line = query_of line
 
 -- a table's rows, joined and put in order

@@ -9,7 +9,7 @@ use Rattle.query.specs.declared.written.Pair.{Pair}
 use Rattle.query.specs.Written.{Written}
 
 -- how many octets of the line there are from here on
-abbrev pub here : Rule ℕ
+unfoldable pub here : Rule ℕ
 here = λ tokens. (Some (left_of tokens), tokens)
 
 -- name . name

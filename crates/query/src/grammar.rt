@@ -9,7 +9,7 @@ use crate::written::{Named, NamedColumns, Pair, Pairs, Source, Sources, WrittenQ
 use arrayvec::ArrayVec;
 use script::Tokens;
 
-#[tactic(auto, unfolding(crate::specs::Grammar::named))]
+#[tactic(auto, unfolding(crate::specs::Grammar::named, crate::specs::Grammar::here))]
 fn named(tokens: &mut Tokens) -> Option<Named>
     ensures { grammar.named tokens.old ≡ (result, tokens.new) }
 {
@@ -45,7 +45,7 @@ fn columns(tokens: &mut Tokens) -> Option<NamedColumns>
     Some(columns)
 }
 
-#[tactic(auto, unfolding(crate::specs::Grammar::source))]
+#[tactic(auto, unfolding(crate::specs::Grammar::source, crate::specs::Grammar::here))]
 fn source(tokens: &mut Tokens) -> Option<Source>
     ensures { grammar.source tokens.old ≡ (result, tokens.new) }
 {

@@ -1,7 +1,10 @@
 // Reads the query of a line.
-ghost use Rattle.std.specs.Prelude.{◌≡◌, ◌≤◌, IfOk, IfErr, length};
+ghost use Rattle.std.specs.Prelude.{◌≡◌, ◌≤◌, IfOk, IfErr, IfSome, length};
+ghost use Rattle.std.specs.List.{AllByRecursion};
 ghost use Rattle.scql_model.specs.Lines.{longest_line};
-ghost use Rattle.query.specs.Facts.{HasPlace};
+ghost use Rattle.query.specs.Facts.{AreFetched, AreTwoOrThree, CanBeAsked, HasDifferentColumns, HasPlace, IsFetched, StandsFor};
+ghost use Rattle.script.specs.Tokens.{tokens_of};
+ghost use Rattle.query.specs.Grammar.{whole};
 ghost use Rattle.query.specs.Line as lines;
 
 use crate::Query;
@@ -17,7 +20,16 @@ impl Query {
     pub fn read(line: &[u8]) -> Result<Query, ScriptFault>
         requires { length line.now ≤ longest_line }
         ensures query { result ≡ lines.query_of line.now }
+        // Each column is the one that the line names in its place.
+        ensures names { IfOk result (λ query. IfSome (whole (tokens_of line.now)).0 (λ written. StandsFor written query)) }
         ensures place { IfErr result HasPlace }
+        ensures objects { IfOk result (λ query. AreTwoOrThree query.objects) }
+        ensures different { IfOk result (λ query. AllByRecursion HasDifferentColumns query.objects) }
+        // Each object's SELECT can be sent on each channel.
+        ensures sendable { IfOk result (λ query. AllByRecursion CanBeAsked query.objects) }
+        ensures selected { IfOk result (λ query. AllByRecursion (IsFetched query.objects) query.selected) }
+        ensures equalities { IfOk result (λ query. AllByRecursion (AreFetched query.objects) query.equalities) }
+        ensures order { IfOk result (λ query. AllByRecursion (IsFetched query.objects) query.order) }
     {
         read_query(line)
     }
