@@ -3,3 +3,4 @@ pub mod Stable
 pub mod Indexes
 pub mod Rows
 pub mod Extending
+mod Worked

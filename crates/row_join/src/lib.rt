@@ -16,3 +16,6 @@ pub use fetched::Fetched;
 pub use join::{Joined, MOST_KEPT, join_rows};
 pub use link::Link;
 pub use order::sort_combinations;
+
+#[cfg(test)]
+mod tests;
