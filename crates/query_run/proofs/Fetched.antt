@@ -1,5 +1,5 @@
 -- Rows that are fetched one after another: what is left of them, and what becomes of the card.
-use Rattle.std.proofs.Common.{◌≡◌, ℕ, suc, ◌+◌, ◌≤◌, ◌<◌, nat_le, ◌&&◌, Bool, true, false, List, [], ◌∷◌, ◌++◌, length, Option, Some, None, Result, Ok, Err, IfSome, refl, sym, ◌∙◌, ap, subst, inl, inr, arith, append_assoc, append-nil, length-append}
+use Rattle.std.proofs.Common.{◌≡◌, ℕ, ◌≤◌, nat_le, ◌&&◌, Bool, true, false, List, [], ◌∷◌, ◌++◌, length, Option, Some, None, Result, Ok, Err, IfSome, refl, sym, ◌∙◌, ap, subst, inl, inr, arith, append_assoc, append-nil, length-append}
 use Rattle.std.specs.List.{list_all}
 use Rattle.std.specs.Option.{option_map_or}
 use Rattle.std.proofs.lemmas.Bool.{and_parts, leb-true}
@@ -30,7 +30,7 @@ use Rattle.planner.specs.Meaning.{meaning}
 use Rattle.planner.specs.Planned.{Planned, Turn, next_of, started}
 use Rattle.planner.specs.Selecting.{ShownRows, closing_given, rows_given, select_next, select_shown, shown_behind}
 use Rattle.planner.proofs.SelectsShown.{select-reads}
-use Rattle.card_asking.specs.Giving.{AreAllGiven, Gives, GivesShown, IsNextRow, behind_step}
+use Rattle.card_asking.specs.Giving.{Gives, GivesShown, IsNextRow, behind_step}
 use Rattle.card_asking.proofs.Meant.{base-valid}
 use Rattle.card_asking.proofs.Moments.{leaves-all, leaves-both, leaves-none}
 use Rattle.card_asking.proofs.Rows.{all-given, gives-shown, next-row}

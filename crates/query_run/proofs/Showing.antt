@@ -1,5 +1,5 @@
 -- What is shown of rows that are fetched one after another.
-use Rattle.std.proofs.Common.{◌≡◌, ℕ, suc, ◌+◌, ◌≤◌, ◌<◌, ◌==◌, arith, Bool, true, false, List, [], ◌∷◌, ◌++◌, length, map, Option, Result, Ok, Err, refl, sym, ◌∙◌, ap, subst, append-nil, append_assoc, inl, inr}
+use Rattle.std.proofs.Common.{◌≡◌, ℕ, suc, ◌+◌, ◌≤◌, ◌<◌, ◌==◌, arith, Bool, List, [], length, Option, Result, Ok, Err, refl, sym, subst, append-nil, inl, inr}
 use Rattle.std.specs.Prelude.{if◌then◌else◌}
 use Rattle.std.proofs.lemmas.Bool.{eq-eqb, ne_eqb}
 use Rattle.person.specs.Showing.{Shows}
@@ -15,7 +15,7 @@ use Rattle.card_asking.specs.Following.{to_go}
 use Rattle.scql_model.specs.Matching.{Values}
 use Rattle.query_run.specs.declared.unfetched.Unfetched.{Unfetched}
 use Rattle.query_run.specs.Fetching.{GrowsByOne}
-use Rattle.query_run.specs.Progress.{IsCountOf, end_shown, progress_text, progress_texts, row_shown, rows_shown}
+use Rattle.query_run.specs.Progress.{IsCountOf, end_shown, progress_text, row_shown, rows_shown}
 
 module _ {P : Type 0} (lost : P → Bool) (shown : P → Option (List ℕ)) where
   pub none-shown : (rows : ℕ) (person : P) → rows ≡ 0 → Shows lost shown (rows_shown rows) person person

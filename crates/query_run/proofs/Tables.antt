@@ -1,6 +1,6 @@
 -- The objects of a query that are fetched one after another.
 use Rattle.std.proofs.Common.{◌≡◌, ℕ, suc, ◌+◌, ◌<◌, Bool, List, [], ◌∷◌, ◌++◌, length, map, drop, get_or, Option, Result, Ok, Err, refl, sym, ◌∙◌, ap, subst, add-one, append_assoc, append-nil, drop-cons}
-use Rattle.std.specs.List.{AllByRecursion, concat}
+use Rattle.std.specs.List.{concat}
 use Rattle.std.proofs.lemmas.List.{map-append}
 use Rattle.std.proofs.lemmas.List.Folds.{concat-append}
 use Rattle.scql_base.specs.declared.words.StatusWord.{StatusWord}
@@ -13,15 +13,15 @@ use Rattle.person.proofs.Texts.{shows-none, shows-then}
 use Rattle.query.specs.declared.query.AskedObject.{AskedObject}
 use Rattle.query_run.specs.declared.unfetched.Unfetched.{Unfetched}
 use Rattle.query_run.specs.declared.unfetched.Unfetched.TheVariants as unfetched
-use Rattle.query_run.specs.Fetching.{CanBeAsked, FetchesSo, ReadsAs}
-use Rattle.query_run.specs.Progress.{IsCountOf, ShowsAllFetched, ShowsFetched, progress_text, progress_texts}
+use Rattle.query_run.specs.Fetching.{FetchesSo, ReadsAs}
+use Rattle.query_run.specs.Progress.{ShowsAllFetched, ShowsFetched, progress_text, progress_texts}
 use Rattle.query_run.specs.QueryText.{rows_shown, tables_shown}
 
 -- What is shown of an object follows from the objects that are shown.
 rows-same : (s t : Shown) (asked : AskedObject) → s.objects ≡ t.objects → rows_shown s asked ≡ rows_shown t asked
 rows-same s t asked same = ap (λ (objects : List ShownObject). rows_shown (record { objects = objects; cursor = s.cursor }) asked) same
 
-tables-same : (s t : Shown) (objects : List AskedObject) → s.objects ≡ t.objects → tables_shown s objects ≡ tables_shown t objects
+pub tables-same : (s t : Shown) (objects : List AskedObject) → s.objects ≡ t.objects → tables_shown s objects ≡ tables_shown t objects
 tables-same s t [] same = refl
 tables-same s t (asked ∷ rest) same =
     ap (λ (shown : Result (List Values) StatusWord). shown >>= λ (rows : List Values). tables_shown s rest >>= λ (tables : List (List Values)). Ok (rows ∷ tables)) (rows-same s t asked same)

@@ -1,14 +1,10 @@
 -- Worked queries: the definitions compute each text from what is shown.
-use Rattle.std.proofs.Common.{◌≡◌, ℕ, List, [], ◌∷◌, Some, None, codes, refl}
+use Rattle.std.proofs.Common.{◌≡◌, [], ◌∷◌, Some, None, codes, refl}
 use Rattle.std.specs.Fmt.{digits}
 use Rattle.hex.proofs.OnLiterals.{hex_on_literals}
 use Rattle.hex.specs.Hex.{encode_with}
 use Rattle.scql_model.specs.Shown.{Shown, ShownObject}
-use Rattle.row_join.specs.declared.column.Column.{Column}
-use Rattle.row_join.specs.declared.column.Equality.{Equality}
 use Rattle.row_join.specs.Joins.{in_order}
-use Rattle.query.specs.declared.query.AskedObject.{AskedObject}
-use Rattle.query.specs.Asked.{Asked}
 use Rattle.query_run.specs.QueryText.{query_text}
 
 -- two tables, of three rows and of two

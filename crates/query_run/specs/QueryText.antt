@@ -6,7 +6,7 @@ use Rattle.scql_model.specs.Matching.{Values}
 use Rattle.scql_model.specs.Refusals.{◌>>=◌}
 use Rattle.scql_model.specs.Shown.{Shown}
 use Rattle.planner.specs.declared.closing.Closing.TheVariants.{Rows, Refused}
-use Rattle.planner.specs.Selecting.{ShownRows, select_shown}
+use Rattle.planner.specs.Selecting.{select_shown}
 use Rattle.planner.specs.Text.{closing_text, row_text}
 use Rattle.row_join.specs.Joins.{Combination, kept, ordered, values_at}
 use Rattle.query.specs.declared.query.AskedObject.{AskedObject}

@@ -1,9 +1,9 @@
-use Rattle.std.proofs.Common.{Vec, Global, ◌≡◌, ◌+◌, ◌∷◌, List, [], Err, arith, drop, length, sym, ◌∙◌, ap, subst, rules, length-append}
+use Rattle.std.proofs.Common.{Vec, Global, ◌≡◌, ◌+◌, ◌∷◌, List, [], Err, arith, drop, length, sym, ap, subst, rules, length-append}
 use Rattle.std.specs.List.{AllByRecursion}
 use Rattle.row_join.specs.declared.fetched.Fetched.{Fetched}
 use Rattle.query.specs.declared.query.AskedObject.{AskedObject}
 use Rattle.query_run.specs.declared.unfetched.Unfetched.TheVariants.{NoMemory}
-use Rattle.query_run.specs.Fetching.{CanBeAsked, EndsFetching, FetchesSo}
+use Rattle.query_run.specs.Fetching.{CanBeAsked, FetchesSo}
 use Rattle.query_run.specs.Progress.{ShowsAllFetched}
 use Rattle.query_run.specs.QueryText.{tables_shown}
 use Rattle.scql_model.specs.Shown.{shown_on}
