@@ -5,3 +5,6 @@ pub mod Printing
 pub mod Progress
 pub mod QueryLines
 pub mod QueryText
+pub mod Responding
+pub mod RespondingLaws
+pub mod Watching

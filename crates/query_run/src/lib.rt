@@ -7,7 +7,11 @@ mod fetching;
 mod finding;
 mod printing;
 mod progress;
+mod prompt;
+mod responding;
+mod told_desk;
 mod unfetched;
 mod values;
 
+pub use told_desk::ToldDesk;
 pub use unfetched::Unfetched;
