@@ -1,6 +1,7 @@
 pub mod Answered
 pub mod Fetched
 pub mod Found
+pub mod Ran
 pub mod Responded
 pub mod Said
 pub mod Showing

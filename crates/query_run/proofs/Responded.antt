@@ -137,3 +137,7 @@ watches-counts lost shown a b c first second =
     watches-then lost shown a b c
     (record { watched = map Some first.counts; shows = subst (λ (text : List ℕ). Shows lost shown text a b) (sym (counts-watched first.counts)) first.shows })
     (record { watched = None ∷ []; shows = subst (λ (text : List ℕ). Shows lost shown text b c) (sym (append-nil prompt)) second })
+
+pub watches-prompt : {P : Type 0} (lost : P → Bool) (shown : P → Option (List ℕ)) (a b c : P) → Shows lost shown prompt a b → Watches lost shown b c → Watches lost shown a c
+watches-prompt lost shown a b c first second =
+    watches-then lost shown a b c (record { watched = None ∷ []; shows = subst (λ (text : List ℕ). Shows lost shown text a b) (sym (append-nil prompt)) first }) second

@@ -7,4 +7,5 @@ pub mod QueryLines
 pub mod QueryText
 pub mod Responding
 pub mod RespondingLaws
+pub mod Running
 pub mod Watching

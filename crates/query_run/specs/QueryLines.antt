@@ -1,7 +1,8 @@
 -- Lines of queries, and what a run prints to them.
-use Rattle.std.specs.Prelude.{ℕ, ◌||◌, nat_lt, Bool, true, false, List, [], ◌∷◌, length, Option, Some, None, Result, Ok, Err, if◌then◌else◌, codes}
+use Rattle.std.specs.Prelude.{ℕ, ◌||◌, nat_lt, Bool, true, false, List, [], ◌∷◌, length, map, Option, Some, None, Result, Ok, Err, if◌then◌else◌, codes}
+use Rattle.std.specs.List.{concat, list_any}
 use Rattle.scql_base.specs.declared.words.StatusWord.{StatusWord}
-use Rattle.scql_model.specs.Lines.{Language}
+use Rattle.scql_model.specs.Lines.{Effect, Language, taken_line}
 use Rattle.scql_model.specs.Machine.{Machine}
 use Rattle.scql_model.specs.Matching.{Values}
 use Rattle.scql_model.specs.Shown.{Shown, shown_on}
@@ -56,3 +57,10 @@ query_lines = record {
     faulty = [] ∷ [];
   };
 }
+
+-- the texts of lines, each from what is shown, and whether one of them was refused
+abbrev pub asked_texts : Shown → List (List ℕ) → List ℕ
+asked_texts s lines = concat (map (λ line. asked_text s (taken_line line)) lines)
+
+abbrev pub some_refused : Shown → List (List ℕ) → Bool
+some_refused s lines = list_any (λ line. asked_refused s (taken_line line)) lines

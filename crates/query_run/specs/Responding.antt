@@ -10,8 +10,7 @@ pub record AsksSo {L : Type 0} (is_at : L → Machine → Type 0) (asking : Aski
   pub reads : ReadsAs is_at asking.machine link
   pub tells : refused ≡ asking.refused
 
--- calls lead from one state of a link to another, and meanwhile a person, who is the same still, was shown how far they came
-pub record LeadsOn {L P : Type 0} (goes_on : L → L → Type 0) (lost : P → Bool) (shown : P → Option (List ℕ)) (old new : L) (person after : P) (was is : ℕ) : Type 0 where
+-- calls lead from one state of a link to another, and meanwhile a person was shown how far they came
+pub record LeadsOn {L P : Type 0} (goes_on : L → L → Type 0) (lost : P → Bool) (shown : P → Option (List ℕ)) (old new : L) (person after : P) : Type 0 where
   pub goes : goes_on old new
-  pub same : is ≡ was
   pub watches : Watches lost shown person after

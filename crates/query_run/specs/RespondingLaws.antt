@@ -33,10 +33,9 @@ watches-then lost shown a b c first second = record {
       (shows-then lost shown (watched_texts first.watched) (watched_texts second.watched) a b c first.shows second.shows);
 }
 
-pub leads-none : {L P : Type 0} (goes_on : L → L → Type 0) (lost : P → Bool) (shown : P → Option (List ℕ)) (link : L) (person : P) (name : ℕ) → goes_on link link → LeadsOn goes_on lost shown link link person person name name
-leads-none goes_on lost shown link person name goes = record { goes = goes; same = refl; watches = watches-none lost shown person }
+pub leads-none : {L P : Type 0} (goes_on : L → L → Type 0) (lost : P → Bool) (shown : P → Option (List ℕ)) (link : L) (person : P) → goes_on link link → LeadsOn goes_on lost shown link link person person
+leads-none goes_on lost shown link person goes = record { goes = goes; watches = watches-none lost shown person }
 
-pub leads-then : {L P : Type 0} (goes_on : L → L → Type 0) (lost : P → Bool) (shown : P → Option (List ℕ)) (old mid new : L) (a b c : P) (was between is : ℕ) → (goes_on old mid → goes_on mid new → goes_on old new)
-    → LeadsOn goes_on lost shown old mid a b was between → LeadsOn goes_on lost shown mid new b c between is → LeadsOn goes_on lost shown old new a c was is
-leads-then goes_on lost shown old mid new a b c was between is goes first second =
-    record { goes = goes first.goes second.goes; same = second.same ∙ first.same; watches = watches-then lost shown a b c first.watches second.watches }
+pub leads-then : {L P : Type 0} (goes_on : L → L → Type 0) (lost : P → Bool) (shown : P → Option (List ℕ)) (old mid new : L) (a b c : P) → (goes_on old mid → goes_on mid new → goes_on old new) → LeadsOn goes_on lost shown old mid a b
+    → LeadsOn goes_on lost shown mid new b c → LeadsOn goes_on lost shown old new a c
+leads-then goes_on lost shown old mid new a b c goes first second = record { goes = goes first.goes second.goes; watches = watches-then lost shown a b c first.watches second.watches }

@@ -9,9 +9,11 @@ mod printing;
 mod progress;
 mod prompt;
 mod responding;
+mod run;
 mod told_desk;
 mod unfetched;
 mod values;
 
+pub use run::answer_queries;
 pub use told_desk::ToldDesk;
 pub use unfetched::Unfetched;

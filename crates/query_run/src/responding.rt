@@ -16,15 +16,14 @@ use line_run::{LineStop, Responder};
 use person::Person;
 
 /// A desk, a person who watches, and whether a line was refused so far.
-#[derive(Drop)]
-pub(crate) struct QueryDesk<'a, D: ToldDesk, P: Person> {
+pub(crate) struct QueryDesk<D: ToldDesk, P: Person> {
     pub(crate) alloc: Heap,
     pub(crate) desk: D,
-    pub(crate) person: &'a mut P,
+    pub(crate) person: P,
     pub(crate) refused: bool,
 }
 
-impl<'a, D: ToldDesk, P: Person> Responder for QueryDesk<'a, D, P> {
+impl<D: ToldDesk, P: Person> Responder for QueryDesk<D, P> {
     ghost use Rattle.std.specs.Prelude.{IsTrue, true};
     ghost use Rattle.query_run.specs.QueryLines.{Asking, query_lines};
     ghost use Rattle.query_run.specs.Responding.{AsksSo, LeadsOn};
@@ -44,10 +43,10 @@ impl<'a, D: ToldDesk, P: Person> Responder for QueryDesk<'a, D, P> {
 
     ghost takes_memory = { true };
 
-    ghost goes_on = { λ old new. LeadsOn D.goes_on P.lost P.shown old.desk new.desk old.person.now new.person.now old.person.ghost_name new.person.ghost_name };
+    ghost goes_on = { λ old new. LeadsOn D.goes_on P.lost P.shown old.desk new.desk old.person new.person };
 
     fn answer_line(&mut self, line: Option<&[u8]>) -> Result<(), LineStop> {
-        let refused = answer_watched(self.alloc, &mut self.desk, line, self.person)?;
+        let refused = answer_watched(self.alloc, &mut self.desk, line, &mut self.person)?;
         self.refused |= refused;
         Ok(())
     }
@@ -56,9 +55,9 @@ impl<'a, D: ToldDesk, P: Person> Responder for QueryDesk<'a, D, P> {
 
     ghost over = { λ r ready asking at. asking-over D.is_at asking r.desk r.refused (D.chip r.desk) (D.opens r.desk) at };
 
-    ghost goes_on_same = { λ r. leads-none D.goes_on P.lost P.shown r.desk r.person.now r.person.ghost_name (D.goes_on_same r.desk) };
+    ghost goes_on_same = { λ r. leads-none D.goes_on P.lost P.shown r.desk r.person (D.goes_on_same r.desk) };
 
-    ghost goes_on_then = { λ old mid new ready first second. leads-then D.goes_on P.lost P.shown old.desk mid.desk new.desk old.person.now mid.person.now new.person.now old.person.ghost_name mid.person.ghost_name new.person.ghost_name (D.goes_on_then old.desk mid.desk new.desk) first second };
+    ghost goes_on_then = { λ old mid new ready first second. leads-then D.goes_on P.lost P.shown old.desk mid.desk new.desk old.person mid.person new.person (D.goes_on_then old.desk mid.desk new.desk) first second };
 }
 
 // Answers a whole line, tells whether it was refused, and waits for the next one.
