@@ -1,15 +1,14 @@
 -- A run over lines of queries: what it printed, and how it ended.
-use Rattle.std.proofs.Common.{◌≡◌, ◌⊎◌, ℕ, ◌<◌, ◌≤◌, ◌||◌, Bool, true, false, List, [], ◌∷◌, ◌++◌, length, map, Option, Some, refl, sym, ◌∙◌, ap, subst, arith}
-use Rattle.std.specs.List.{concat, list_any}
+use Rattle.std.proofs.Common.{◌≡◌, ℕ, ◌||◌, Bool, true, false, List, [], ◌∷◌, ◌++◌, Option, refl, sym, ◌∙◌, ap, subst}
 use Rattle.std.proofs.lemmas.Bool.{false≢true}
 use Rattle.eeprom.specs.Chip.{Becomes, Chip}
 use Rattle.eeprom.specs.Output.{Prints}
 use Rattle.scql_model.specs.Lines.{Language, line_step, line_text, lines, run_text, state_after, taken_line}
 use Rattle.scql_model.specs.Machine.{Machine}
-use Rattle.scql_model.specs.Shown.{Shown, shown_on}
+use Rattle.scql_model.specs.Shown.{shown_on}
 use Rattle.line_input.specs.declared.input.InputEnd.{InputEnd}
 use Rattle.line_input.specs.declared.input.InputEnd.TheVariants as ends
-use Rattle.line_input.specs.Reading.{CountsSource, longest_input}
+use Rattle.line_input.specs.Reading.{CountsSource}
 use Rattle.line_run.specs.declared.line_stop.LineStop.{LineStop}
 use Rattle.line_run.specs.declared.line_stop.LineStop.TheVariants as stops
 use Rattle.line_run.specs.Causes.{CausesEnd, Faults}

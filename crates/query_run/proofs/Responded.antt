@@ -1,7 +1,6 @@
 -- A line that a desk answered, told to the run.
-use Rattle.std.proofs.Common.{◌≡◌, ◌⊎◌, ℕ, ◌+◌, ◌≤◌, ◌<◌, Bool, true, false, List, [], ◌∷◌, ◌++◌, length, map, Option, Some, None, Result, Ok, Err, IfSome, refl, sym, ◌∙◌, ap, subst, arith, inl, inr, length-append, append-nil}
+use Rattle.std.proofs.Common.{◌≡◌, ℕ, ◌+◌, ◌≤◌, Bool, List, [], ◌∷◌, ◌++◌, length, map, Option, Some, None, Result, Ok, Err, IfSome, refl, sym, ap, subst, arith, inl, length-append, append-nil}
 use Rattle.std.specs.Prelude.{OnOk, IfOk, IfErr, IsSome}
-use Rattle.std.specs.List.{concat}
 use Rattle.eeprom.specs.Chip.{Chip}
 use Rattle.eeprom.specs.Output.{Prints}
 use Rattle.eeprom.proofs.Moments.{throughout-weaker}
@@ -15,13 +14,12 @@ use Rattle.line_run.specs.declared.line_stop.LineStop.TheVariants.{Eeprom, Outle
 use Rattle.line_run.specs.Answering.{Answered, Failed}
 use Rattle.line_run.specs.Moments.{IsInAnswered, IsInLine}
 use Rattle.person.specs.Showing.{Shows}
-use Rattle.person.proofs.Texts.{shows-then}
 use Rattle.terminal.specs.Failing.{IsStart}
 use Rattle.terminal.proofs.Went.{prints-none}
 use Rattle.query_run.specs.Answering.{AnswersSo, IsAnswered, IsUnmarked, ShowsCounts}
 use Rattle.query_run.specs.Fetching.{ReadsAs}
 use Rattle.query_run.specs.Progress.{progress_texts}
-use Rattle.query_run.specs.QueryLines.{Asking, asked_refused, asked_text, query_lines}
+use Rattle.query_run.specs.QueryLines.{Asking, asked_text, query_lines}
 use Rattle.query_run.specs.RespondingLaws.{watches-then}
 use Rattle.query_run.specs.Watching.{Watches, prompt, watched_text, watched_texts}
 

@@ -2,7 +2,7 @@
 use Rattle.std.specs.Prelude.{ℕ, ◌||◌, nat_lt, Bool, true, false, List, [], ◌∷◌, length, map, Option, Some, None, Result, Ok, Err, if◌then◌else◌, codes}
 use Rattle.std.specs.List.{concat, list_any}
 use Rattle.scql_base.specs.declared.words.StatusWord.{StatusWord}
-use Rattle.scql_model.specs.Lines.{Effect, Language, taken_line}
+use Rattle.scql_model.specs.Lines.{Language, taken_line}
 use Rattle.scql_model.specs.Machine.{Machine}
 use Rattle.scql_model.specs.Matching.{Values}
 use Rattle.scql_model.specs.Shown.{Shown, shown_on}

@@ -1,5 +1,5 @@
 -- Lemmas, in specs/ since what answers lines cites them as its laws: the language of queries is lawful, the image opens to the database of where a run of it is, and what a person is shown follows on.
-use Rattle.std.proofs.Common.{◌≡◌, ℕ, Bool, List, [], ◌∷◌, ◌++◌, Option, Some, refl, sym, ◌∙◌, ap, subst, map}
+use Rattle.std.proofs.Common.{◌≡◌, ℕ, Bool, List, [], ◌++◌, Option, Some, refl, sym, ◌∙◌, ap, subst, map}
 use Rattle.std.specs.Prelude.{IfSome}
 use Rattle.std.specs.List.{concat}
 use Rattle.std.proofs.lemmas.List.{map-append}

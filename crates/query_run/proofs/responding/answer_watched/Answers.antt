@@ -1,4 +1,3 @@
-use Rattle.std.specs.Prelude.{option_map}
 use Rattle.query_run.proofs.Responded.{heard-answered, heard-failed, heard-refused, watches-counts}
 use Rattle.query_run.proofs.responding.answer_watched.Goals as goal
 

@@ -1,8 +1,7 @@
 -- The run over the input is that of the desk.
-use Rattle.std.proofs.Common.{false, refl, subst, sym, ◌∙◌, rules}
+use Rattle.std.proofs.Common.{false, refl, sym, ◌∙◌}
 use Rattle.query_run.specs.QueryLines.{Asking, query_lines}
 use Rattle.query_run.specs.Responding.{AsksSo}
-use Rattle.query_run.specs.Watching.{Watches}
 use Rattle.query_run.proofs.Responded.{watches-prompt}
 use Rattle.query_run.proofs.Ran.{ends-all, ends-by, ends-long, prints-queries, runs-through}
 use Rattle.query_run.proofs.run.answer_queries.Goals as goal
