@@ -1,0 +1,75 @@
+use Rattle.std.proofs.Common.{◌≡◌, Err, length, arith, refl}
+use Rattle.query_run.specs.Fetching.{IsFetched}
+use Rattle.query_run.proofs.Fetched.{answers-both, ends-closed, ends-then, fetching-ended, fetching-none, holds-both, holds-same, rest-both, rest-same, unless-stopped}
+use Rattle.query_run.proofs.Showing.{counted-fetched, few-left, less-left, none-shown, rows-ended, rows-grown, to_go-few}
+use Rattle.query_run.proofs.fetching.fetch_rows.Goals as goal
+
+pub loop-step-init : goal.loop-step-init
+loop-step-init g c = record {
+  fetches = λ m last closing all gives. fetching-none g.L.CardLink.is_at m closing last all c.args.rows.now.items c.args.plan.now c.args.step.now c.args.link.now c.requires.none gives;
+  still = λ m last closing all gives.
+      holds-same g.L.CardLink.chip g.L.CardLink.mark m.committed gives.machine.committed c.args.link.now (g.met.L.CardLink.marks c.args.link.now) (g.met.L.CardLink.opens c.args.link.now gives.machine gives.at) gives.like.committed;
+  answers = record { live = c.requires.live; same = refl };
+  few = rw c.requires.none (omega arith);
+  shown = rw c.requires.none (none-shown g.P.Person.lost g.P.Person.shown 0 c.args.person.now refl);
+  sendable = c.requires.sendable;
+  rest = rest-same g.L.CardLink.mark g.L.CardLink.keeps g.L.CardLink.goes_on c.args.link.now (g.met.L.CardLink.keeps_same c.args.link.now) (g.met.L.CardLink.goes_on_same c.args.link.now);
+}
+
+pub returns-in-Done-clause-fetches : goal.returns-in-Done-clause-fetches
+returns-in-Done-clause-fetches g c = λ m last closing all gives.
+    fetching-ended g.L.CardLink.is_at m closing last all c.loop-step.rows.items c.loop-step.plan c.loop-step.step c.in-Done.closing c.fetched.result c.loop-step.link c.in-Done.is c.fetched.ensures
+    (c.loop-step.invariant.fetches m last closing all gives)
+
+pub returns-in-Done-clause-ends : goal.returns-in-Done-clause-ends
+returns-in-Done-clause-ends g c = ends-closed g.L.CardLink.is_live g.L.CardLink.faults c.args.link.now c.loop-step.link c.in-Done.closing c.fetched.result c.fetched.ensures c.loop-step.invariant.answers
+
+pub returns-in-Done-clause-shows : goal.returns-in-Done-clause-shows
+returns-in-Done-clause-shows g c =
+    let count : c.len-count.result ≡ length c.loop-step.rows.items = omega (arith, c.len-count.ensures, c.loop-step.rows.ok) in
+    record {
+      count = c.len-count.result;
+      counted = counted-fetched c.fetched.result c.loop-step.rows.items c.len-count.result count;
+      shows = rows-ended g.P.Person.lost g.P.Person.shown c.len-count.result c.args.person.now c.loop-step.person c.end_progress.new.person (rw count c.loop-step.invariant.shown) c.end_progress.ensures;
+    }
+
+pub returns-in-Err : goal.returns-in-Err
+returns-in-Err g c =
+    let count : c.len-count.result ≡ length c.loop-step.rows.items = omega (arith, c.len-count.ensures, c.loop-step.rows.ok) in
+    record {
+      fetches = λ m last closing all gives. unless-stopped (Unit {0}) c.in-Err.end (IsFetched g.L.CardLink.is_at closing last all c.take_row.new.rows.items (Err c.in-Err.end) c.take_row.new.link) c.in-Err.ensures.stops;
+      still = λ m last closing all gives.
+          holds-both g.L.CardLink.chip g.L.CardLink.mark m.committed c.args.link.now c.loop-step.link c.take_row.new.link c.loop-step.invariant.rest.marked (c.loop-step.invariant.still m last closing all gives)
+          (c.take_row.ensures.still m last closing all (c.loop-step.invariant.fetches m last closing all gives));
+      ends = ends-then (Unit {0}) (Unit {0}) g.L.CardLink.is_live g.L.CardLink.faults c.args.link.now c.loop-step.link c.take_row.new.link c.in-Err.end c.loop-step.invariant.answers c.in-Err.ensures.ends;
+      rest = rest-both g.L.CardLink.mark g.L.CardLink.keeps g.L.CardLink.goes_on c.args.link.now c.loop-step.link c.take_row.new.link (g.met.L.CardLink.keeps_then c.args.link.now c.loop-step.link c.take_row.new.link)
+          (g.met.L.CardLink.goes_on_then c.args.link.now c.loop-step.link c.take_row.new.link) c.loop-step.invariant.rest c.take_row.ensures.rest;
+      shows = record {
+        count = c.len-count.result;
+        counted = tt;
+        shows = rows-ended g.P.Person.lost g.P.Person.shown c.len-count.result c.args.person.now c.loop-step.person c.end_progress-in-Err.new.person (rw count c.loop-step.invariant.shown) c.end_progress-in-Err.ensures;
+      };
+    }
+
+pub show_progress-requires : goal.show_progress-requires
+show_progress-requires g c =
+    let few = few-left c.loop-step.step _ _ _ _ _ c.in_default.not-Done c.in_default-take_row.ensures.grows c.loop-step.invariant.few c.in_default-take_row.ensures.less in
+    record { few = omega (arith, few, c.len.ensures, c.take_row.new.rows.ok, to_go-few c.args.plan.now c.args.step.now) }
+
+pub loop-step-preserved : goal.loop-step-preserved
+loop-step-preserved g c = record {
+  fetches = λ m last closing all gives. c.in_default-take_row.ensures.fetches m last closing all (c.loop-step.invariant.fetches m last closing all gives);
+  still = λ m last closing all gives.
+      holds-both g.L.CardLink.chip g.L.CardLink.mark m.committed c.args.link.now c.loop-step.link c.take_row.new.link c.loop-step.invariant.rest.marked (c.loop-step.invariant.still m last closing all gives)
+      (c.take_row.ensures.still m last closing all (c.loop-step.invariant.fetches m last closing all gives));
+  answers = answers-both g.L.CardLink.is_live g.L.CardLink.faults c.args.link.now c.loop-step.link c.take_row.new.link c.loop-step.invariant.answers c.in_default-take_row.ensures.ends;
+  few = few-left c.loop-step.step _ _ _ _ _ c.in_default.not-Done c.in_default-take_row.ensures.grows c.loop-step.invariant.few c.in_default-take_row.ensures.less;
+  shown = rows-grown g.P.Person.lost g.P.Person.shown c.len-count.result c.len.result _ _ c.args.person.now c.loop-step.person c.show_progress.new.person (omega (arith, c.len-count.ensures, c.loop-step.rows.ok))
+      (omega (arith, c.len.ensures, c.take_row.new.rows.ok)) c.in_default-take_row.ensures.grows c.loop-step.invariant.shown c.show_progress.ensures;
+  sendable = c.in_default-take_row.ensures.next_sendable;
+  rest = rest-both g.L.CardLink.mark g.L.CardLink.keeps g.L.CardLink.goes_on c.args.link.now c.loop-step.link c.take_row.new.link (g.met.L.CardLink.keeps_then c.args.link.now c.loop-step.link c.take_row.new.link)
+      (g.met.L.CardLink.goes_on_then c.args.link.now c.loop-step.link c.take_row.new.link) c.loop-step.invariant.rest c.take_row.ensures.rest;
+}
+
+pub loop-step-smaller : goal.loop-step-smaller
+loop-step-smaller g c = less-left c.loop-step.step _ _ c.in_default.not-Done c.in_default-take_row.ensures.less

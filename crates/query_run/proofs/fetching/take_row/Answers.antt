@@ -1,0 +1,10 @@
+use Rattle.query_run.proofs.Fetched.{fetching-on, one-row-more}
+use Rattle.query_run.proofs.fetching.take_row.Goals as goal
+
+pub returns-in-Ok-follow-clause-fetches : goal.returns-in-Ok-follow-clause-fetches
+returns-in-Ok-follow-clause-fetches g c = λ m last closing all f.
+    fetching-on g.L.CardLink.is_at m closing last all c.args.rows.now.items c.add_row.new.rows.items c.args.plan.now c.follow.new.plan c.args.step.now c.follow.new.step c.args.link.now c.follow.new.link f c.in-Ok.ensures.added
+    (c.in-Ok-follow.ensures.gives m last closing f.left f.gives)
+
+pub returns-in-Ok-follow-clause-grows : goal.returns-in-Ok-follow-clause-grows
+returns-in-Ok-follow-clause-grows g c = one-row-more c.args.step.now c.args.plan.now.row c.args.rows.now.items c.add_row.new.rows.items c.in-Ok.ensures.added

@@ -1,0 +1,66 @@
+-- How a desk answers a line of queries.
+use Rattle.std.specs.Prelude.{◌≡◌, ℕ, nat_lt, Bool, List, length, Option, Result, Ok, Err}
+use Rattle.eeprom.specs.Output.{Prints}
+use Rattle.scql_model.specs.Machine.{Machine}
+use Rattle.scql_model.specs.Matching.{Values}
+use Rattle.scql_model.specs.Shown.{shown_on}
+use Rattle.line_run.specs.declared.line_stop.LineStop.{LineStop}
+use Rattle.line_run.specs.declared.line_stop.LineStop.TheVariants.{Eeprom, Outlet, Both, NoMemory}
+use Rattle.person.specs.Showing.{Shows}
+use Rattle.row_join.specs.Joins.{kept}
+use Rattle.terminal.specs.Failing.{IsStart}
+use Rattle.query.specs.Asked.{Asked}
+use Rattle.query_run.specs.declared.answer.Answer.{Answer}
+use Rattle.query_run.specs.declared.unfetched.Unfetched.{Unfetched}
+use Rattle.query_run.specs.declared.unfetched.Unfetched.TheVariants as unfetched
+use Rattle.query_run.specs.Answers.{IsPrintable, found_text, is_refusal}
+use Rattle.query_run.specs.Fetching.{ReadsAs}
+use Rattle.query_run.specs.Progress.{progress_texts}
+use Rattle.query_run.specs.QueryLines.{is_refused}
+use Rattle.query_run.specs.QueryText.{kept_text, most_combinations, query_text}
+
+-- what a query gives of these tables
+pub record JoinsSo (query : Asked) (tables : List (List Values)) (answer : Answer) : Type 0 where
+  pub text : found_text query answer ≡ kept_text query (kept query.equalities tables)
+  pub refused : is_refusal answer ≡ nat_lt most_combinations (length (kept query.equalities tables))
+  pub printable : IsPrintable answer
+
+-- what a query gives follows from what is shown, and the link reads as before
+pub record FindsSo {L : Type 0} (is_at : L → Machine → Type 0) (m : Machine) (query : Asked) (answer : Answer) (now : L) : Type 0 where
+  pub text : found_text query answer ≡ query_text (shown_on m 0) query
+  pub refused : is_refusal answer ≡ is_refused (shown_on m 0) query
+  pub reads : ReadsAs is_at m now
+
+-- a person was shown how many rows were fetched of some objects
+pub record ShowsCounts {P : Type 0} (lost : P → Bool) (shown : P → Option (List ℕ)) (person after : P) : Type 0 where
+  pub counts : List ℕ
+  pub shows : Shows lost shown (progress_texts counts) person after
+
+-- A line was answered that has this text, and is refused or not.
+pub record IsAnswered {L : Type 0} (is_at : L → Machine → Type 0) (given : L → Option (List ℕ)) (m : Machine) (text : List ℕ) (refused was : Bool) (old new : L) : Type 0 where
+  pub tells : was ≡ refused
+  pub printed : Prints text (given old) (given new)
+  pub reads : ReadsAs is_at m new
+
+-- Where a device failed in it, or there was no memory, no more of it was printed than its start, and that only where the outlet failed.
+abbrev pub AnswersSo : {L : Type 0} → (L → Machine → Type 0) → (L → Option (List ℕ)) → Machine → List ℕ → Bool → Result Bool LineStop → L → L → Type 0
+AnswersSo is_at given m text refused (Ok was) old new = IsAnswered is_at given m text refused was old new
+AnswersSo is_at given m text refused (Err Outlet) old new = IsStart text (given old) (given new)
+AnswersSo is_at given m text refused (Err Both) old new = ⊥
+AnswersSo is_at given m text refused (Err stop) old new = given new ≡ given old
+
+-- Where the card failed, or there was no memory, nothing was printed.
+abbrev pub IsUnmarked : {L : Type 0} → (L → ℕ) → Result Bool LineStop → L → L → Type 0
+IsUnmarked mark (Err Eeprom) old new = mark new ≡ mark old
+IsUnmarked mark (Err NoMemory) old new = mark new ≡ mark old
+IsUnmarked mark r old new = Unit {0}
+
+-- a stop of the fetching as one of the line
+abbrev pub stop_of : Unfetched → LineStop
+stop_of unfetched.Mute = Eeprom
+stop_of end = NoMemory
+
+-- whether a line was refused whose text was printed, or the outlet failed
+abbrev pub told_as : {E : Type 0} → Result (Unit {0}) E → Bool → Result Bool LineStop
+told_as (Ok x) refused = Ok refused
+told_as (Err e) refused = Err Outlet

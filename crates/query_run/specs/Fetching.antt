@@ -1,0 +1,95 @@
+-- A card whose rows are fetched: what is there of them, and what becomes of the card.
+use Rattle.std.specs.Prelude.{◌≡◌, ◌⊎◌, ℕ, suc, Bool, true, false, List, [], ◌∷◌, ◌++◌, Result, Ok, Err, IsTrue}
+use Rattle.std.specs.Option.{option_map_or}
+use Rattle.scql_base.specs.Row.{row_from}
+use Rattle.scql_base.specs.declared.words.StatusWord.{StatusWord}
+use Rattle.scql_model.specs.Machine.{Machine}
+use Rattle.scql_model.specs.Matching.{Values}
+use Rattle.scql_model.specs.Shown.{shown_on}
+use Rattle.card_link.specs.Link.{Mutes}
+use Rattle.script.specs.Commands.{CanBeSent}
+use Rattle.script.specs.declared.statement.Statement.TheVariants.{Select}
+use Rattle.planner.specs.declared.closing.Closing.{Closing}
+use Rattle.planner.specs.declared.closing.Closing.TheVariants.{Refused}
+use Rattle.planner.specs.declared.step.Step.{Step}
+use Rattle.planner.specs.declared.step.Step.TheVariants.{Row}
+use Rattle.planner.specs.Planned.{Planned}
+use Rattle.card_asking.specs.Giving.{Gives}
+use Rattle.query.specs.declared.query.AskedObject.{AskedObject}
+use Rattle.query_run.specs.declared.unfetched.Unfetched.{Unfetched}
+use Rattle.query_run.specs.declared.unfetched.Unfetched.TheVariants as unfetched
+
+-- the SELECT of an object's rows can be sent
+abbrev pub CanBeAsked : AskedObject → Type 0
+CanBeAsked asked = CanBeSent 0 (Select asked.object asked.columns [])
+
+-- A link is at a machine on which queries read what they read on this one: the committed database is the same, and channel 0 is shown the same objects.
+pub record ReadsAs {L : Type 0} (is_at : L → Machine → Type 0) (m : Machine) (now : L) : Type 0 where
+  pub machine : Machine
+  pub at : is_at now machine
+  pub committed : machine.committed ≡ m.committed
+  pub objects : (shown_on machine 0).objects ≡ (shown_on m 0).objects
+
+-- What was fetched is what is shown, or the refusal is the one that follows from that; and the link reads as before.
+abbrev pub FetchesSo : {L A B : Type 0} → (L → Machine → Type 0) → Machine → (A → B) → Result B StatusWord → Result A Unfetched → L → Type 0
+FetchesSo is_at m view shown (Ok x) now = (shown ≡ Ok (view x)) × ReadsAs is_at m now
+FetchesSo is_at m view shown (Err (unfetched.Refused word)) now = (shown ≡ Err word) × ReadsAs is_at m now
+FetchesSo is_at m view shown (Err end) now = Unit {0}
+
+-- a card answers, and its count stays
+pub record Answers {L : Type 0} (is_live : L → Bool) (faults : L → ℕ) (old new : L) : Type 0 where
+  pub live : IsTrue (is_live new)
+  pub same : faults new ≡ faults old
+
+-- Fetching ends because the card is mute only where that failed.
+abbrev pub EndsFetching : {L A : Type 0} → (L → Bool) → (L → ℕ) → Result A Unfetched → L → L → Type 0
+EndsFetching is_live faults (Err unfetched.Mute) old new = Mutes is_live faults old new
+EndsFetching is_live faults result old new = Answers is_live faults old new
+
+-- calls left the mark and the rest of a link's object, and lead from one to the other
+pub record HasGoneOn {L : Type 0} (mark : L → ℕ) (keeps goes_on : L → L → Type 0) (old new : L) : Type 0 where
+  pub marked : mark new ≡ mark old
+  pub kept : keeps old new
+  pub goes : goes_on old new
+
+-- how a plan ended: with all rows, or by a refusal
+abbrev pub fetched_by : Closing → Result (Unit {0}) Unfetched
+fetched_by (Refused word) = Err (unfetched.Refused word)
+fetched_by closing = Ok tt
+
+-- whether a step has a row
+abbrev pub has_row : Step → Bool
+has_row (Row command) = true
+has_row step = false
+
+-- the row that a step has, where its octets are a row
+abbrev pub row_at : Step → List ℕ → List Values
+row_at (Row command) octets = option_map_or (λ values. values ∷ []) (row_from octets) []
+row_at step octets = []
+
+-- there is one more, or as many as there were
+abbrev pub GrowsByOne : ℕ → ℕ → Type 0
+GrowsByOne before now = (now ≡ before) ⊎ (now ≡ suc before)
+
+-- Some rows were fetched, and on a link that was at this machine a plan is still to give the others.
+pub record IsFetching {L : Type 0} (is_at : L → Machine → Type 0) (m : Machine) (closing : Closing) (last : Machine) (all fetched : List Values) (p : Planned) (step : Step) (now : L) : Type 0 where
+  pub left : List Values
+  pub split : fetched ++ left ≡ all
+  pub gives : Gives is_at m closing last left p step now
+
+-- All rows were fetched, it ended as it was to, and the link is at that machine.
+pub record IsFetched {L : Type 0} (is_at : L → Machine → Type 0) (closing : Closing) (last : Machine) (all fetched : List Values) (r : Result (Unit {0}) Unfetched) (now : L) : Type 0 where
+  pub rows : fetched ≡ all
+  pub ends : r ≡ fetched_by closing
+  pub at : is_at now last
+
+-- it wasn't refused
+abbrev pub IsStopped : Unfetched → Type 0
+IsStopped (unfetched.Refused word) = ⊥
+IsStopped end = Unit {0}
+
+-- unless the card went mute, or there was no memory
+abbrev pub UnlessStopped : {A : Type 0} → Result A Unfetched → Type 0 → Type 0
+UnlessStopped (Err unfetched.Mute) P = Unit {0}
+UnlessStopped (Err unfetched.NoMemory) P = Unit {0}
+UnlessStopped r P = P

@@ -1,0 +1,11 @@
+pub mod Answering
+pub mod Answers
+pub mod Fetching
+pub mod Printing
+pub mod Progress
+pub mod QueryLines
+pub mod QueryText
+pub mod Responding
+pub mod RespondingLaws
+pub mod Running
+pub mod Watching

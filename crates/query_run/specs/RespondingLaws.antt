@@ -1,0 +1,41 @@
+-- Lemmas, in specs/ since what answers lines cites them as its laws: the language of queries is lawful, the image opens to the database of where a run of it is, and what a person is shown follows on.
+use Rattle.std.proofs.Common.{◌≡◌, ℕ, Bool, List, [], ◌++◌, Option, Some, refl, sym, ◌∙◌, ap, subst, map}
+use Rattle.std.specs.Prelude.{IfSome}
+use Rattle.std.specs.List.{concat}
+use Rattle.std.proofs.lemmas.List.{map-append}
+use Rattle.std.proofs.lemmas.List.Folds.{concat-append}
+use Rattle.eeprom.specs.Chip.{Chip}
+use Rattle.scql_model.specs.Heard.{IsLawful, committed_in}
+use Rattle.scql_model.specs.Machine.{Machine}
+use Rattle.scql_model.specs.Opens.{Opens}
+use Rattle.person.specs.Showing.{Shows}
+use Rattle.person.proofs.Texts.{shows-none, shows-then}
+use Rattle.query_run.specs.QueryLines.{Asking, query_lines}
+use Rattle.query_run.specs.Responding.{AsksSo, LeadsOn}
+use Rattle.query_run.specs.Watching.{Watches, watched_text, watched_texts}
+
+pub queries-lawful : IsLawful query_lines
+queries-lawful = record { last = λ asking line. refl; silent = λ asking line none. refl }
+
+-- the image opens to the database of where the run is
+pub asking-over : {L : Type 0} (is_at : L → Machine → Type 0) (asking : Asking) (link : L) (refused : Bool) (chip : Chip) → ((m : Machine) → is_at link m → IfSome chip.image (λ image. Opens image m.committed)) → AsksSo is_at asking link refused
+    → (image : List ℕ) → chip.image ≡ Some image → Opens image (committed_in query_lines asking)
+asking-over is_at asking link refused chip opens asks image told = subst (Opens image) asks.reads.committed (rw told at (opens asks.reads.machine asks.reads.at))
+
+pub watches-none : {P : Type 0} (lost : P → Bool) (shown : P → Option (List ℕ)) (person : P) → Watches lost shown person person
+watches-none lost shown person = record { watched = []; shows = shows-none lost shown person }
+
+pub watches-then : {P : Type 0} (lost : P → Bool) (shown : P → Option (List ℕ)) (a b c : P) → Watches lost shown a b → Watches lost shown b c → Watches lost shown a c
+watches-then lost shown a b c first second = record {
+  watched = first.watched ++ second.watched;
+  shows = subst (λ (text : List ℕ). Shows lost shown text a c)
+      (sym (ap concat (map-append watched_text first.watched second.watched) ∙ concat-append (map watched_text first.watched) (map watched_text second.watched)))
+      (shows-then lost shown (watched_texts first.watched) (watched_texts second.watched) a b c first.shows second.shows);
+}
+
+pub leads-none : {L P : Type 0} (goes_on : L → L → Type 0) (lost : P → Bool) (shown : P → Option (List ℕ)) (link : L) (person : P) → goes_on link link → LeadsOn goes_on lost shown link link person person
+leads-none goes_on lost shown link person goes = record { goes = goes; watches = watches-none lost shown person }
+
+pub leads-then : {L P : Type 0} (goes_on : L → L → Type 0) (lost : P → Bool) (shown : P → Option (List ℕ)) (old mid new : L) (a b c : P) → (goes_on old mid → goes_on mid new → goes_on old new) → LeadsOn goes_on lost shown old mid a b
+    → LeadsOn goes_on lost shown mid new b c → LeadsOn goes_on lost shown old new a c
+leads-then goes_on lost shown old mid new a b c goes first second = record { goes = goes first.goes second.goes; watches = watches-then lost shown a b c first.watches second.watches }
