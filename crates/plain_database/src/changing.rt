@@ -1,0 +1,81 @@
+// Commands that change a database.
+ghost use Rattle.std.specs.Prelude.{◌≡◌, IfSome, OnErr};
+ghost use Rattle.scql_model.specs.Changing.{change_of};
+ghost use Rattle.scql_model.specs.Creating.{IsActorOf};
+ghost use Rattle.scql_model.specs.Cursors.{IsCursorOf};
+ghost use Rattle.scql_model.specs.Database.{IsValid};
+ghost use Rattle.scql_model.specs.WellFormed.{FitsCard, HasForm};
+ghost use Rattle.plain_database.specs.Effects.{ended};
+
+use crate::PlainDatabase;
+use scql_base::{Actor, Cursor, Operation, StatusWord};
+
+impl PlainDatabase {
+    /// Carries out a changing command for an actor, or refuses it. UPDATE and DELETE are of the row at the cursor. No other operation
+    /// is a changing command.
+    pub fn change(
+        &mut self,
+        actor: Actor,
+        cursor: &Option<Cursor>,
+        operation: &Operation,
+    ) -> Result<(), StatusWord>
+        requires valid { IsValid self.old }
+        requires cursor { IfSome cursor.now (IsCursorOf self.old) }
+        ensures ended { ended result self.new ≡ change_of self.old actor cursor.now operation.now }
+        ensures same { OnErr result (self.new ≡ self.old) }
+        ensures cells { self.new.cells ≡ self.old.cells }
+        ensures valid { IsActorOf self.old actor → HasForm operation.now → FitsCard self.old.limit operation.now → IsValid self.new }
+    {
+        self.carry_out(actor, cursor, operation)
+    }
+
+    // Carries out a changing command, each by its own function.
+    #[tactic(auto, unfolding(scql_model::specs::Changing::change_of, scql_model::specs::Changing::edits_of))]
+    fn carry_out(
+        &mut self,
+        actor: Actor,
+        cursor: &Option<Cursor>,
+        operation: &Operation,
+    ) -> Result<(), StatusWord>
+        requires valid { IsValid self.old }
+        requires cursor { IfSome cursor.now (IsCursorOf self.old) }
+        ensures ended { ended result self.new ≡ change_of self.old actor cursor.now operation.now }
+        ensures same { OnErr result (self.new ≡ self.old) }
+        ensures cells { self.new.cells ≡ self.old.cells }
+    {
+        match operation {
+            Operation::CreateTable { name, columns } => self.create_table(actor, name, columns),
+            Operation::CreateView {
+                name,
+                base,
+                columns,
+                conditions,
+            } => self.create_view(actor, name, base, columns, conditions),
+            Operation::CreateDictionary { name, subject } => {
+                self.create_dictionary(actor, name, *subject)
+            }
+            Operation::DropTable { name } => self.drop_table(actor, name),
+            Operation::DropView { name } => self.drop_view(actor, name),
+            Operation::Grant {
+                privileges,
+                object,
+                grantee,
+            } => self.grant(actor, *privileges, object, grantee),
+            Operation::Revoke {
+                privileges,
+                object,
+                grantee,
+            } => self.revoke(actor, *privileges, object, grantee),
+            Operation::Insert { table, row } => self.insert(actor, table, row),
+            Operation::Update { changes } => self.update(actor, cursor, changes),
+            Operation::Delete => self.delete(actor, cursor),
+            Operation::CreateUser {
+                name,
+                profile,
+                secret,
+            } => self.create_user(actor, name, *profile, secret),
+            Operation::DeleteUser { name } => self.delete_user(actor, name),
+            _ => Err(StatusWord::INSTRUCTION_NOT_SUPPORTED),
+        }
+    }
+}
