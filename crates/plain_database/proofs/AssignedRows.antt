@@ -1,8 +1,8 @@
 -- The values of a row after changes, one column after another.
-use Rattle.std.proofs.Common.{◌≡◌, ℕ, zero, suc, ◌+◌, ◌<◌, ◌≤◌, true, false, ◌||◌, List, [], ◌∷◌, ◌++◌, get_or, length, take, Ok, Err, refl, sym, ap, ◌∙◌, inl, inr, arith}
-use Rattle.std.specs.Prelude.{◌==◌, nat_le, nat_lt}
+use Rattle.std.proofs.Common.{◌≡◌, ℕ, zero, suc, ◌+◌, ◌<◌, ◌≤◌, true, ◌||◌, List, [], ◌∷◌, ◌++◌, get_or, length, take, Ok, Err, sym, ap, ◌∙◌, inl, inr, arith}
+use Rattle.std.specs.Prelude.{◌==◌, nat_lt}
 use Rattle.std.specs.List.{list_all}
-use Rattle.std.proofs.lemmas.Bool.{and_parts, cases_Bool, false≢true, leb-true, le-ltb, ltb-true, ne_eqb}
+use Rattle.std.proofs.lemmas.Bool.{and_parts, cases_Bool, leb-true, le-ltb, ltb-true, ne_eqb}
 use Rattle.std.proofs.lemmas.List.{take_more}
 use Rattle.std.proofs.lemmas.List.Sums.{sum_by_more_le}
 use Rattle.scql_base.specs.Row.{is_narrow, row_size, with_value}
@@ -38,7 +38,7 @@ row-pushed values new value is =
     ]
 
 -- and one that isn't too long is refused only for want of room
-refused-long : (after : Values) (given : List ℕ) (refusal : RowRefusal) → length after < 15 → length given ≤ 200 → with_value after given ≡ Err refusal → 1020 < row_size after + length given + 1
+pub refused-long : (after : Values) (given : List ℕ) (refusal : RowRefusal) → length after < 15 → length given ≤ 200 → with_value after given ≡ Err refusal → 1020 < row_size after + length given + 1
 refused-long after given refusal few short is =
     elim (cases_Bool (nat_lt 1020 (row_size after + length given + 1))) [
       | inl t ↦ ltb-true 1020 (row_size after + length given + 1) t

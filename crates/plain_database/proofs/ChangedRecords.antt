@@ -1,6 +1,6 @@
 -- A database in which a record took the place of another is as the edits have it, where there is room.
-use Rattle.std.proofs.Common.{◌≡◌, ℕ, ◌+◌, ◌-◌, ◌≤◌, ◌<◌, false, List, [], ◌∷◌, Ok, Err, Some, refl, subst, sym, arith}
-use Rattle.std.specs.List.{find, sum_by}
+use Rattle.std.proofs.Common.{◌≡◌, ◌+◌, ◌-◌, ◌≤◌, ◌<◌, [], ◌∷◌, Ok, Err, Some, refl, subst, sym, arith}
+use Rattle.std.specs.List.{find}
 use Rattle.std.proofs.lemmas.Bool.{eqb-true, le-ltb, lt-ltb}
 use Rattle.eeprom.specs.Slots.{has, replaced}
 use Rattle.eeprom.proofs.InOrder.{AreApart-rising}

@@ -1,6 +1,7 @@
 pub mod AssignedRows
 pub mod ChangedRecords
 pub mod ChangesValid
+pub mod CutRows
 pub mod InOrder
 pub mod MadeRecords
 pub mod Reached

@@ -1,9 +1,9 @@
 -- A row that a cursor shows is sought in the table.
-use Rattle.std.proofs.Common.{◌≡◌, ℕ, ◌<◌, suc, Bool, true, false, List, [], ◌∷◌, map, filter, Option, Some, None, refl, sym, ap, subst, ◌∙◌, inl, inr, arith}
+use Rattle.std.proofs.Common.{◌≡◌, ℕ, ◌<◌, suc, Bool, true, List, [], ◌∷◌, map, filter, Option, Some, None, refl, sym, ap, subst, ◌∙◌, inl, inr, arith}
 use Rattle.std.specs.Prelude.{◌==◌, ◌&&◌, IfSome, option_map}
-use Rattle.std.specs.List.{find, AllByRecursion}
+use Rattle.std.specs.List.{find}
 use Rattle.std.proofs.lemmas.Bool.{and_parts, cases_Bool, eqb-true, eq-eqb, ne_eqb}
-use Rattle.std.proofs.lemmas.Option.{none-some, same_Some}
+use Rattle.std.proofs.lemmas.Option.{none-some}
 use Rattle.eeprom.specs.Slots.{Rises}
 use Rattle.scql_base.specs.declared.words.Actor.{Actor}
 use Rattle.scql_base.specs.declared.condition.Condition.{Condition}
@@ -39,7 +39,7 @@ find-image t g p f q (x ∷ xs) =
     ]
 
 -- the columns and conditions of a cursor are named among the columns of its contents
-cursor-named : (db : Database) (c : Cursor) (r : Resolved) → IsCursorOf db c → resolved_of db.objects c.object ≡ Some r → are_named_among (contents_of db c.object).columns c.columns c.conditions ≡ true
+pub cursor-named : (db : Database) (c : Cursor) (r : Resolved) → IsCursorOf db c → resolved_of db.objects c.object ≡ Some r → are_named_among (contents_of db c.object).columns c.columns c.conditions ≡ true
 unfolding resolved_of contents_of
 cursor-named db c r of is = go (object_stamped db.objects c.object) refl of.named is
   where
@@ -72,6 +72,17 @@ found-among {X} key p (x ∷ xs) rises = elim (cases_Bool (p x)) [
         let less : key x < key y = found-each (λ z. key x < key z) p xs y rises.0 is in
         let other = ne_eqb (key x) (key y) (λ (same : key x ≡ key y). omega arith) in
         rw other own
+
+-- and what is sought in a table is in it
+pub found-in_table : (r : Resolved) (conditions : List Condition) (sought : Sought) (rows : List RowRecord) → IfSome (find (is_sought r conditions sought) rows) (λ (s : RowRecord). s.table ≡ r.table)
+found-in_table r conditions sought rows = go (find (is_sought r conditions sought) rows) refl
+  where
+    go : (found : Option RowRecord) → find (is_sought r conditions sought) rows ≡ found → IfSome found (λ (s : RowRecord). s.table ≡ r.table)
+    go None is = tt
+    go (Some s) is =
+        let passes = find-passes (is_sought r conditions sought) rows s is in
+        let parts = and_parts (s.table == r.table) (admits sought s.stamp && (matches r.all conditions s.row && passes_filters r s.row)) passes in
+        eqb-true s.table r.table parts.0
 
 -- so an object that appears is the one of its stamp
 pub seen-there : (db : Database) (actor : Actor) (stamp : ℕ) (o : Object) → IsValid db → seen_stamped db actor stamp ≡ Some o → object_stamped db.objects stamp ≡ Some o

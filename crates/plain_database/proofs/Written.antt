@@ -1,5 +1,5 @@
 -- What is written through a cursor is there.
-use Rattle.std.proofs.Common.{◌≡◌, Bool, true, Option, Some, None, sym, inl, inr}
+use Rattle.std.proofs.Common.{◌≡◌, Bool, true, Some, None, sym, inl, inr}
 use Rattle.std.specs.Prelude.{if◌then◌else◌}
 use Rattle.std.proofs.lemmas.Bool.{cases_Bool}
 use Rattle.std.proofs.lemmas.Option.{none-some, same_Some}

@@ -1,5 +1,5 @@
 -- Which of a cursor's rows is sought.
-use Rattle.std.specs.Prelude.{◌≡◌, ℕ, ◌==◌, ◌&&◌, nat_lt, Bool, true, List, Option}
+use Rattle.std.specs.Prelude.{ℕ, ◌==◌, ◌&&◌, nat_lt, Bool, true, List, Option}
 use Rattle.std.specs.List.{find}
 use Rattle.scql_base.specs.declared.condition.Condition.{Condition}
 use Rattle.scql_base.specs.declared.cursor.Cursor.{Cursor}
@@ -10,6 +10,7 @@ use Rattle.scql_model.specs.Matching.{Columns, matches}
 use Rattle.scql_model.specs.Moves.{chosen}
 use Rattle.scql_model.specs.Objects.{StampedRow}
 use Rattle.scql_model.specs.Resolving.{Resolved, passes_filters}
+use Rattle.plain_database.specs.declared.seen.ShownRow.{ShownRow}
 use Rattle.plain_database.specs.declared.sought.Sought.{Sought}
 use Rattle.plain_database.specs.declared.sought.Sought.TheVariants.{First, Behind, At}
 
@@ -31,3 +32,7 @@ is_sought resolved conditions sought r =
 -- a row of the table as it is shown
 abbrev pub row_through : Resolved → Columns → RowRecord → StampedRow
 row_through resolved wanted r = record { stamp = r.stamp; values = cut_to resolved.all wanted r.row }
+
+-- a row that is shown
+abbrev pub row_shown : ShownRow → StampedRow
+row_shown r = record { stamp = r.stamp; values = r.values }

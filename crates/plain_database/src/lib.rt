@@ -34,4 +34,5 @@ pub use matching::{matches, value_of};
 pub use privilege::Privilege;
 pub use reaching::is_opened;
 pub use resolved::Resolved;
+pub use seen::ShownRow;
 pub use sought::Sought;

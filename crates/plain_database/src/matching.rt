@@ -1,7 +1,9 @@
 // Whether rows meet conditions.
 ghost use Rattle.std.specs.Prelude.{◌≡◌, ◌≤◌, [], get_or, length, position};
 ghost use Rattle.std.specs.Str.{bytes_eq};
-ghost use Rattle.scql_base.specs.declared.row.TheConstants.Row.{LONGEST_VALUE};
+ghost use Rattle.scql_base.specs.Row.{row_size};
+ghost use Rattle.scql_base.specs.declared.row.TheConstants.Row.{LARGEST, LONGEST_VALUE};
+ghost use Rattle.scql_model.specs.Contents as contents;
 ghost use Rattle.scql_model.specs.Matching as matching;
 
 use scql_base::{Comparison, Condition, Name, NameList, Row};
@@ -17,7 +19,8 @@ pub fn matches(columns: &NameList, conditions: &[Condition], row: &Row) -> bool
 
 /// A row's value in a column.
 pub fn value_of<'a>(columns: &NameList, row: &'a Row, column: &Name) -> &'a [u8]
-    ensures { result.now ≡ matching.value_of columns.now row.now column.now }
+    ensures value { result.now ≡ matching.value_of columns.now row.now column.now }
+    ensures short { length result.now ≤ LONGEST_VALUE }
 {
     match place_of(columns, column) {
         Some(place) => value_at(row, place),
@@ -35,6 +38,20 @@ pub(crate) fn value_at(row: &Row, place: usize) -> &[u8]
         Some(value) => value,
         None => &[],
     }
+}
+
+/// A row's values in the wanted columns, in their order.
+pub(crate) fn cut_to(columns: &NameList, wanted: &NameList, row: &Row) -> Row
+    requires { row_size (contents.cut_to columns.now wanted.now row.now) ≤ LARGEST }
+    ensures { result ≡ contents.cut_to columns.now wanted.now row.now }
+{
+    let wanted = wanted.as_slice();
+    let mut cut = Row::new();
+    for name in wanted {
+        let fits = cut.push(value_of(columns, row, name)).is_ok();
+        prove!(fits);
+    }
+    cut
 }
 
 // Whether a row meets a condition.

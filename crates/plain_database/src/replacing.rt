@@ -3,7 +3,8 @@ ghost use Rattle.std.specs.Prelude.{◌≡◌, ◌<◌, ◌∷◌, [], Ok, Some,
 ghost use Rattle.std.specs.List.{find, position};
 ghost use Rattle.eeprom.specs.Slots.{Rises, has, replaced};
 ghost use Rattle.scql_base.specs.declared.records.RowRecord as rows;
-ghost use Rattle.scql_model.specs.Database.{IsValid};
+ghost use Rattle.scql_model.specs.Database.{IsValid, user_stamped};
+ghost use Rattle.scql_model.specs.Step.{with_tries};
 ghost use Rattle.scql_model.specs.Edits.{cells_of_record, changing, of_grant, of_row, record_stamp, with_edits};
 ghost use Rattle.plain_database.specs.Effects.{ended};
 
@@ -13,6 +14,22 @@ use eeprom::Heap;
 use scql_base::{Grant, RowRecord, StatusWord};
 
 impl PlainDatabase {
+    /// Gives the user of a stamp so many tries.
+    pub fn set_tries(&mut self, stamp: u32, tries: u8)
+        requires valid { IsValid self.old }
+        ensures tries { IfSome (user_stamped self.old.users stamp) (λ u. self.new ≡ with_tries self.old u tries) }
+        ensures cells { self.new.cells ≡ self.old.cells }
+    {
+        match self.user_stamped(stamp) {
+            Some(user) => {
+                let mut user = user.copy();
+                user.tries = tries;
+                replace(&mut self.users, user);
+            }
+            None => {}
+        }
+    }
+
     /// A grant takes the place of the one that has its stamp.
     pub(crate) fn change_grant(&mut self, grant: Grant)
         requires valid { IsValid self.old }

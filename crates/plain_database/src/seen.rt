@@ -6,9 +6,16 @@ ghost use Rattle.scql_model.specs.Database.{IsValid};
 ghost use Rattle.scql_model.specs.Resolving as resolving;
 ghost use Rattle.plain_database.specs.Sought as model;
 
-use crate::matching::matches;
+use crate::matching::{cut_to, matches};
 use crate::{PlainDatabase, Resolved, Sought};
-use scql_base::{Condition, Cursor, RowRecord};
+use scql_base::{Condition, Cursor, Row, RowRecord};
+
+/// A row as a cursor shows it, with the stamp of its record.
+#[derive(Drop)]
+pub struct ShownRow {
+    pub stamp: u32,
+    pub values: Row,
+}
 
 impl PlainDatabase {
     /// The record of the row that is sought among those that a cursor shows.
@@ -23,8 +30,28 @@ impl PlainDatabase {
         requires resolved { resolving.resolved_of self.now.objects cursor.now.object ≡ Some resolved.now }
         ensures shown { option_map (model.row_through resolved.now cursor.now.columns) (option_copied result) ≡ model.sought_row self.now cursor.now sought }
         ensures among { IfSome (option_copied result) (λ r. find (λ s. s.stamp == r.stamp) self.now.rows ≡ Some r) }
+        ensures table { IfSome (option_copied result) (λ r. r.table ≡ resolved.now.table) }
     {
         self.find_in_table(resolved, cursor.conditions.as_slice(), sought)
+    }
+
+    /// The row that is sought among those that a cursor shows.
+    pub fn find_through(
+        &self,
+        resolved: &Resolved<'_>,
+        cursor: &Cursor,
+        sought: Sought,
+    ) -> Option<ShownRow>
+        requires valid { IsValid self.now }
+        requires cursor { IsCursorOf self.now cursor.now }
+        requires resolved { resolving.resolved_of self.now.objects cursor.now.object ≡ Some resolved.now }
+        ensures { option_map model.row_shown result ≡ model.sought_row self.now cursor.now sought }
+    {
+        let found = self.find_record(resolved, cursor, sought)?;
+        Some(ShownRow {
+            stamp: found.stamp,
+            values: cut_to(resolved.all(), &cursor.columns, &found.row),
+        })
     }
 
     // The record of the row that is sought in a table.

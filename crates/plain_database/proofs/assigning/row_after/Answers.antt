@@ -1,7 +1,7 @@
 -- Column after column the row takes the value that it is to have, or has no room for it.
-use Rattle.std.proofs.Common.{◌≡◌, ◌<◌, get_or, length, sym, ap, ◌∙◌, arith}
+use Rattle.std.proofs.Common.{◌<◌, length, ap, ◌∙◌, arith}
 use Rattle.std.proofs.lemmas.List.{length-take-le, take_all}
-use Rattle.scql_model.specs.Writing.{all_assigned, assigned}
+use Rattle.scql_model.specs.Writing.{all_assigned}
 use Rattle.scql_model.proofs.Assigning.{length-all_assigned}
 use Rattle.plain_database.proofs.AssignedRows.{assigned-long, assigned-next}
 use Rattle.plain_database.proofs.assigning.row_after.Goals as goal

@@ -1,4 +1,4 @@
-use Rattle.std.proofs.Common.{◌≡◌, sym, ◌∙◌}
+use Rattle.std.proofs.Common.{sym}
 use Rattle.scql_model.specs.Edits.{record_stamp}
 use Rattle.plain_database.proofs.ReplacedRecords.{replaced-None, replaced-Some}
 use Rattle.plain_database.proofs.replacing.replace.Goals as goal

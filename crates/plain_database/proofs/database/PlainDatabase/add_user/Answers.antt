@@ -1,5 +1,5 @@
 -- There is room, and the user stands behind the others.
-use Rattle.std.proofs.Common.{◌≡◌, length, refl, sym, ap, arith}
+use Rattle.std.proofs.Common.{length, refl, sym, ap, arith}
 use Rattle.scql_model.specs.Database.{Database}
 use Rattle.scql_model.specs.Edits.{of_user}
 use Rattle.plain_database.proofs.MadeRecords.{is_made}

@@ -1,4 +1,4 @@
-use Rattle.std.proofs.Common.{◌≡◌, subst, sym}
+use Rattle.std.proofs.Common.{subst, sym}
 use Rattle.scql_model.specs.Database.{IsValid}
 use Rattle.plain_database.proofs.ChangedRecords.{grant-changed}
 use Rattle.plain_database.proofs.database.PlainDatabase.change_grant.Goals as goal

@@ -1,7 +1,6 @@
 -- The table of a row is there, and has as many columns as the row has values.
-use Rattle.std.proofs.Common.{◌≡◌, Some, length, refl, sym, ap, ◌∙◌}
+use Rattle.std.proofs.Common.{◌∙◌}
 use Rattle.std.proofs.lemmas.Option.{none-some}
-use Rattle.scql_model.specs.Objects.{columns_of}
 use Rattle.plain_database.proofs.Reached.{has_its_table, own-columns}
 use Rattle.plain_database.proofs.database.PlainDatabase.columns_of_row.Goals as goal
 

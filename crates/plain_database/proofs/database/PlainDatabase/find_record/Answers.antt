@@ -1,7 +1,6 @@
-use Rattle.std.proofs.Common.{◌≡◌}
 use Rattle.scql_base.specs.declared.records.RowRecord.{RowRecord}
 use Rattle.plain_database.specs.Sought.{is_sought}
-use Rattle.plain_database.proofs.SoughtRows.{found-among, sought-through}
+use Rattle.plain_database.proofs.SoughtRows.{found-among, found-in_table, sought-through}
 use Rattle.plain_database.proofs.database.PlainDatabase.find_record.Goals as goal
 
 pub returns-clause-shown : goal.returns-clause-shown
@@ -13,3 +12,8 @@ pub returns-clause-among : goal.returns-clause-among
 returns-clause-among c =
     rw (c.find_in_table.ensures, c.as_slice.ensures.conditions)
     (found-among (λ (r : RowRecord). r.stamp) (is_sought c.args.resolved.now c.args.cursor.now.conditions c.args.sought) c.args.self.now.rows c.requires.valid.rows.rises)
+
+pub returns-clause-table : goal.returns-clause-table
+returns-clause-table c =
+    rw (c.find_in_table.ensures, c.as_slice.ensures.conditions)
+    (found-in_table c.args.resolved.now c.args.cursor.now.conditions c.args.sought c.args.self.now.rows)

@@ -1,5 +1,5 @@
 -- What is left is as the edits have it.
-use Rattle.std.proofs.Common.{◌≡◌, rules, subst, sym}
+use Rattle.std.proofs.Common.{rules, subst, sym}
 use Rattle.std.specs.Prelude.{◌==◌, not}
 use Rattle.std.proofs.lemmas.Fn.{filter_same}
 use Rattle.scql_base.specs.declared.records.Grant.{Grant}

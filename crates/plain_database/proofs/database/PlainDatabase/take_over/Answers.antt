@@ -1,5 +1,5 @@
 -- The lists have room for as many records as a valid database of so many cells has.
-use Rattle.std.proofs.Common.{◌≡◌, ap, arith}
+use Rattle.std.proofs.Common.{ap, arith}
 use Rattle.scql_model.specs.Database.{Database}
 use Rattle.plain_database.proofs.RoomOfKinds.{few-valid}
 use Rattle.plain_database.proofs.database.PlainDatabase.take_over.Goals as goal

@@ -1,4 +1,4 @@
-use Rattle.std.proofs.Common.{◌≡◌, ap, ◌∙◌, sym, arith}
+use Rattle.std.proofs.Common.{ap, ◌∙◌, sym}
 use Rattle.eeprom.specs.StoreOf.{cells_for}
 use Rattle.plain_database.proofs.SpelledSizes.{row-size}
 use Rattle.plain_database.proofs.record.RowRecordRecord.cells.Goals as goal
