@@ -25,7 +25,7 @@ use Rattle.plain_database.specs.Sought.{admits, is_sought, row_through, sought_r
 use Rattle.plain_database.specs.declared.sought.Sought.{Sought}
 
 -- what is sought among the images of some elements is sought among the elements
-find-image : {X Y Z : Type 0} (t : X → Bool) (g : X → Y) (p : Y → Bool) (f : Y → Z) (q : Z → Bool) (xs : List X)
+pub find-image : {X Y Z : Type 0} (t : X → Bool) (g : X → Y) (p : Y → Bool) (f : Y → Z) (q : Z → Bool) (xs : List X)
     → find q (map f (filter p (map g (filter t xs)))) ≡ option_map (λ x. f (g x)) (find (λ x. t x && (q (f (g x)) && p (g x))) xs)
 find-image t g p f q [] = refl
 find-image t g p f q (x ∷ xs) =

@@ -30,7 +30,7 @@ mod user_deleting;
 
 pub use columns::{are_named_among, wanted_of};
 pub use database::PlainDatabase;
-pub use matching::{matches, value_of};
+pub use matching::{cut_to, matches, value_of};
 pub use privilege::Privilege;
 pub use reaching::is_opened;
 pub use resolved::Resolved;

@@ -41,7 +41,7 @@ pub(crate) fn value_at(row: &Row, place: usize) -> &[u8]
 }
 
 /// A row's values in the wanted columns, in their order.
-pub(crate) fn cut_to(columns: &NameList, wanted: &NameList, row: &Row) -> Row
+pub fn cut_to(columns: &NameList, wanted: &NameList, row: &Row) -> Row
     requires { row_size (contents.cut_to columns.now wanted.now row.now) ≤ LARGEST }
     ensures { result ≡ contents.cut_to columns.now wanted.now row.now }
 {

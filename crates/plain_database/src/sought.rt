@@ -14,7 +14,7 @@ pub enum Sought {
 
 impl Sought {
     /// Whether the row of a stamp may be the one.
-    pub(crate) fn admits(self, stamp: u32) -> bool
+    pub fn admits(self, stamp: u32) -> bool
         ensures { result ≡ model.admits self stamp }
     {
         match self {

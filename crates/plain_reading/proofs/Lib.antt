@@ -1,0 +1,4 @@
+pub mod JoinedNames
+pub mod MovedRows
+pub mod ReadableObjects
+pub mod ToldRows

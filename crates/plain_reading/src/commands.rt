@@ -1,0 +1,54 @@
+// The commands that read.
+ghost use Rattle.std.specs.Prelude.{◌≡◌, IfSome, option_map};
+ghost use Rattle.scql_model.specs.ReadingCommands.{reading_command};
+ghost use Rattle.plain_reading.specs.Commands.{HasLe, IsLe, command_seen};
+
+use scql_base::{Conditions, Name, NameList, Operation};
+
+/// A reading command; those that give octets have an Le, the greatest number of octets wanted.
+#[derive(Drop)]
+pub enum ReadingCommand<'a> {
+    Declare {
+        object: &'a Name,
+        columns: &'a NameList,
+        conditions: &'a Conditions,
+    },
+    OpenCursor,
+    Next,
+    Fetch {
+        le: u16,
+    },
+    FetchNext {
+        le: u16,
+    },
+    GetResponse {
+        le: u16,
+    },
+}
+
+impl<'a> ReadingCommand<'a> {
+    /// The reading command that an operation is with its Le, if it is one.
+    pub fn of(operation: &'a Operation, le: Option<u16>) -> Option<ReadingCommand<'a>>
+        requires { IfSome le IsLe }
+        ensures command { option_map command_seen result ≡ reading_command operation.now le }
+        ensures le { IfSome result HasLe }
+    {
+        match operation {
+            Operation::DeclareCursor {
+                object,
+                columns,
+                conditions,
+            } => Some(ReadingCommand::Declare {
+                object,
+                columns,
+                conditions,
+            }),
+            Operation::OpenCursor => Some(ReadingCommand::OpenCursor),
+            Operation::Next => Some(ReadingCommand::Next),
+            Operation::Fetch => Some(ReadingCommand::Fetch { le: le? }),
+            Operation::FetchNext => Some(ReadingCommand::FetchNext { le: le? }),
+            Operation::GetResponse => Some(ReadingCommand::GetResponse { le: le? }),
+            _ => None,
+        }
+    }
+}

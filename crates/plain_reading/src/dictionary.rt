@@ -1,0 +1,108 @@
+// The rows that a cursor shows of a dictionary.
+ghost use Rattle.std.specs.Prelude.{◌≡◌, ◌&&◌, List, filter, length, map, option_copied, option_map, true};
+ghost use Rattle.std.specs.List.{find};
+ghost use Rattle.scql_model.specs.Contents.{narrowed};
+ghost use Rattle.scql_model.specs.Database.{are_among, are_different};
+ghost use Rattle.scql_model.specs.Dictionaries.{rows_told, tells_of};
+ghost use Rattle.scql_model.specs.Objects as objects;
+ghost use Rattle.plain_database.specs.Sought.{admits, row_shown};
+ghost use Rattle.plain_reading.specs.Found.{is_sought_row};
+
+use crate::texts::dictionary_columns;
+use crate::told::Told;
+use plain_database::{PlainDatabase, ShownRow, Sought, cut_to, matches};
+use scql_base::{Cursor, NameList, Row, Subject};
+
+/// The stamp of OWNER.
+const OWNER: u32 = 1;
+
+/// The row that is sought among those that a cursor shows of a dictionary of this owner.
+pub(crate) fn find_told(
+    database: &PlainDatabase,
+    owner: u32,
+    subject: Subject,
+    cursor: &Cursor,
+    sought: Sought,
+) -> Option<ShownRow>
+    requires different { are_different cursor.now.columns ≡ true }
+    requires among { are_among cursor.now.columns (objects.dictionary_columns subject) ≡ true }
+    ensures { option_map row_shown result ≡ find (λ r. admits sought r.stamp)
+        (narrowed cursor.now.columns cursor.now.conditions (record { columns = objects.dictionary_columns subject; rows = rows_told database.now owner subject })) }
+{
+    let columns = dictionary_columns(subject);
+    let dictionary = Dictionary {
+        database,
+        owner,
+        columns: &columns,
+    };
+    match subject {
+        Subject::Objects => dictionary.find_shown(database.objects(), cursor, sought),
+        Subject::Users => dictionary.find_shown(database.users(), cursor, sought),
+        Subject::Grants => dictionary.find_shown(database.grants(), cursor, sought),
+    }
+}
+
+// A dictionary of a database: whose it is, and its columns.
+#[derive(Drop)]
+struct Dictionary<'a> {
+    database: &'a PlainDatabase,
+    owner: u32,
+    columns: &'a NameList,
+}
+
+impl<'a> Dictionary<'a> {
+    // The row that is sought, cut to a cursor's columns, of records of which the dictionary may tell.
+    fn find_shown<R: Told>(
+        &self,
+        records: &[R],
+        cursor: &Cursor,
+        sought: Sought,
+    ) -> Option<ShownRow>
+        requires different { are_different cursor.now.columns ≡ true }
+        requires among { are_among cursor.now.columns self.now.columns.now ≡ true }
+        requires many { (entry : R) → length (R.told self.now.database.now entry).values ≡ length self.now.columns.now }
+        ensures { option_map row_shown result ≡ find (λ r. admits sought r.stamp)
+            (narrowed cursor.now.columns cursor.now.conditions
+            (record { columns = self.now.columns.now; rows = map (R.told self.now.database.now) (filter (λ r. tells_of self.now.owner (R.owned_by self.now.database.now r)) records.now) })) }
+    {
+        let found = self.find_record(records, cursor, sought)?;
+        let values = found.values(self.database);
+        prove!(values.len() <= Row::MOST);
+        Some(ShownRow {
+            stamp: found.stamp(self.database),
+            values: cut_to(self.columns, &cursor.columns, &values),
+        })
+    }
+
+    // The first record of which the dictionary tells, and whose row is sought.
+    fn find_record<'b, R: Told>(
+        &self,
+        records: &'b [R],
+        cursor: &Cursor,
+        sought: Sought,
+    ) -> Option<&'b R>
+        ensures { option_copied result ≡ find (λ r. tells_of self.now.owner (R.owned_by self.now.database.now r)
+            && is_sought_row self.now.columns.now cursor.now.conditions sought (R.told self.now.database.now r)) records.now }
+    {
+        records.iter().find(|entry| self.tells_of(*entry) && self.is_sought(*entry, cursor, sought))
+    }
+
+    // Whether it tells of a record.
+    fn tells_of<R: Told>(&self, entry: &R) -> bool
+        ensures { result ≡ tells_of self.now.owner (R.owned_by self.now.database.now entry.now) }
+    {
+        self.owner == OWNER || entry.owner(self.database) == self.owner
+    }
+
+    // Whether the row of a record is the one that is sought.
+    fn is_sought<R: Told>(&self, entry: &R, cursor: &Cursor, sought: Sought) -> bool
+        ensures { result ≡ is_sought_row self.now.columns.now cursor.now.conditions sought (R.told self.now.database.now entry.now) }
+    {
+        sought.admits(entry.stamp(self.database))
+            && matches(
+                self.columns,
+                cursor.conditions.as_slice(),
+                &entry.values(self.database),
+            )
+    }
+}
