@@ -1,0 +1,2 @@
+pub mod SeenSessions
+pub mod TakenSessions
