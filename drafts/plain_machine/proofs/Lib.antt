@@ -1,2 +1,0 @@
-pub mod SeenSessions
-pub mod TakenSessions
