@@ -1,0 +1,11 @@
+pub mod AssignedRows
+pub mod ChangedRecords
+pub mod InOrder
+pub mod MadeRecords
+pub mod Reached
+pub mod Removed
+pub mod ReplacedRecords
+pub mod RoomOfKinds
+pub mod SoughtRows
+pub mod SpelledSizes
+pub mod ValuesPlaced

@@ -1,0 +1,4 @@
+use Rattle.plain_database.proofs.database.PlainDatabase.+resolved_below.Given as goal
+
+abbrev pub decreases-resolved_below : goal.decreases-resolved_below
+decreases-resolved_below l = l.most

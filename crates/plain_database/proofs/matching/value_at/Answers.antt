@@ -1,0 +1,9 @@
+use Rattle.std.proofs.Common.{[], sym}
+use Rattle.std.proofs.lemmas.Option.{get_or_from_slice_get}
+use Rattle.plain_database.proofs.AssignedRows.{narrow-at}
+use Rattle.plain_database.proofs.matching.value_at.Goals as goal
+
+pub returns-in-Some-clause-short : goal.returns-in-Some-clause-short
+returns-in-Some-clause-short c =
+    let is = get_or_from_slice_get c.args.row.now c.args.place c.in-Some.value.now [] (sym c.in-Some.ensures.value) in
+    rw (← is) (narrow-at c.args.row.now c.args.place c.len.ensures.row.widths)

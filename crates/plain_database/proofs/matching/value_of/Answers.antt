@@ -1,0 +1,10 @@
+use Rattle.std.proofs.Common.{sym, ◌∙◌}
+use Rattle.scql_model.proofs.CutRows.{value-placed}
+use Rattle.plain_database.proofs.ValuesPlaced.{value-nowhere}
+use Rattle.plain_database.proofs.matching.value_of.Goals as goal
+
+pub returns-in-Some : goal.returns-in-Some
+returns-in-Some c = c.value_at.ensures.value ∙ value-placed c.args.columns.now c.args.row.now c.args.column.now c.in-Some.place (sym c.in-Some.ensures)
+
+pub returns-in-None : goal.returns-in-None
+returns-in-None c = value-nowhere c.args.columns.now c.args.row.now c.args.column.now (sym c.in-None.ensures)

@@ -1,0 +1,4 @@
+pub mod Effects
+pub mod Privileged
+pub mod Roomy
+pub mod Sought

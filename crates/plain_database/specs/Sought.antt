@@ -1,0 +1,33 @@
+-- Which of a cursor's rows is sought.
+use Rattle.std.specs.Prelude.{◌≡◌, ℕ, ◌==◌, ◌&&◌, nat_lt, Bool, true, List, Option}
+use Rattle.std.specs.List.{find}
+use Rattle.scql_base.specs.declared.condition.Condition.{Condition}
+use Rattle.scql_base.specs.declared.cursor.Cursor.{Cursor}
+use Rattle.scql_base.specs.declared.records.RowRecord.{RowRecord}
+use Rattle.scql_model.specs.Contents.{contents_of, cut_to}
+use Rattle.scql_model.specs.Database.{Database}
+use Rattle.scql_model.specs.Matching.{Columns, matches}
+use Rattle.scql_model.specs.Moves.{chosen}
+use Rattle.scql_model.specs.Objects.{StampedRow}
+use Rattle.scql_model.specs.Resolving.{Resolved, passes_filters}
+use Rattle.plain_database.specs.declared.sought.Sought.{Sought}
+use Rattle.plain_database.specs.declared.sought.Sought.TheVariants.{First, Behind, At}
+
+-- whether the row of a stamp may be the one
+abbrev pub admits : Sought → ℕ → Bool
+admits First stamp = true
+admits (Behind before) stamp = nat_lt before stamp
+admits (At place) stamp = stamp == place
+
+-- the first such row among those that a cursor shows
+abbrev pub sought_row : Database → Cursor → Sought → Option StampedRow
+sought_row db c sought = find (λ (r : StampedRow). admits sought r.stamp) (chosen (contents_of db c.object) c)
+
+-- a row of the table, which passes what is resolved and the conditions
+abbrev pub is_sought : Resolved → List Condition → Sought → RowRecord → Bool
+is_sought resolved conditions sought r =
+    r.table == resolved.table && (admits sought r.stamp && (matches resolved.all conditions r.row && passes_filters resolved r.row))
+
+-- a row of the table as it is shown
+abbrev pub row_through : Resolved → Columns → RowRecord → StampedRow
+row_through resolved wanted r = record { stamp = r.stamp; values = cut_to resolved.all wanted r.row }

@@ -1,0 +1,35 @@
+//! A database as plain lists in memory, for whoever goes over what a card did: its rights, its searches and its changing operations.
+#![tactic(auto)]
+
+mod assigning;
+mod columns;
+mod creating;
+mod database;
+mod dropping;
+mod filling;
+mod granting;
+mod inserting;
+mod making;
+mod matching;
+mod privilege;
+mod reaching;
+mod record;
+mod removing;
+mod replacing;
+mod resolved;
+mod rights;
+mod room;
+mod searches;
+mod seen;
+mod sizes;
+mod sought;
+mod user_creating;
+mod user_deleting;
+
+pub use columns::{are_named_among, wanted_of};
+pub use database::PlainDatabase;
+pub use matching::{matches, value_of};
+pub use privilege::Privilege;
+pub use reaching::is_opened;
+pub use resolved::Resolved;
+pub use sought::Sought;

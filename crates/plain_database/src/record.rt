@@ -1,0 +1,90 @@
+// What the records of each kind have in common.
+ghost use Rattle.std.specs.Prelude.{◌≡◌, ◌<◌};
+ghost use Rattle.scql_model.specs.Edits.{AnyRecord, cells_of_record, of_grant, of_object, of_row, of_user, record_stamp};
+
+use crate::sizes::{cells_for, object_size};
+use scql_base::{Grant, Object, Row, RowRecord, User};
+
+/// A record of one kind.
+pub(crate) trait Record: Drop {
+    /// The record among those of all kinds.
+    ghost entry: { Self → AnyRecord };
+
+    /// Its stamp.
+    fn stamp(&self) -> u32
+        ensures { result ≡ record_stamp (entry self.now) };
+
+    /// How many cells it takes.
+    fn cells(&self) -> u32
+        ensures cells { result ≡ cells_of_record (entry self.now) }
+        ensures few { result < 65536 };
+
+    /// The same record once more.
+    fn again(&self) -> Self
+        ensures { result ≡ self.now };
+}
+
+impl Record for User {
+    ghost entry = { λ user. of_user user };
+
+    fn stamp(&self) -> u32 {
+        self.stamp
+    }
+
+    fn cells(&self) -> u32 {
+        cells_for(13 + self.name.octets().len() + self.secret.as_slice().len())
+    }
+
+    fn again(&self) -> User {
+        self.copy()
+    }
+}
+
+impl Record for Object {
+    ghost entry = { λ object. of_object object };
+
+    fn stamp(&self) -> u32 {
+        self.stamp
+    }
+
+    fn cells(&self) -> u32 {
+        cells_for(object_size(self))
+    }
+
+    fn again(&self) -> Object {
+        self.copy()
+    }
+}
+
+impl Record for Grant {
+    ghost entry = { λ grant. of_grant grant };
+
+    fn stamp(&self) -> u32 {
+        self.stamp
+    }
+
+    fn cells(&self) -> u32 {
+        cells_for(14)
+    }
+
+    fn again(&self) -> Grant {
+        *self
+    }
+}
+
+impl Record for RowRecord {
+    ghost entry = { λ row. of_row row };
+
+    fn stamp(&self) -> u32 {
+        self.stamp
+    }
+
+    fn cells(&self) -> u32 {
+        prove!(self.row.len() <= Row::MOST);
+        cells_for(9 + self.row.size())
+    }
+
+    fn again(&self) -> RowRecord {
+        self.copy()
+    }
+}

@@ -1,0 +1,49 @@
+// Searches among the users and the objects.
+ghost use Rattle.std.specs.Prelude.{◌≡◌, option_copied};
+ghost use Rattle.scql_model.specs.Objects as objects;
+ghost use Rattle.scql_model.specs.Rights as rights;
+ghost use Rattle.scql_model.specs.Rules as rules;
+
+use crate::PlainDatabase;
+use scql_base::{Actor, Name, Object, User};
+
+impl PlainDatabase {
+    /// The user of a name.
+    pub fn user_named(&self, name: &Name) -> Option<&User>
+        ensures { option_copied result ≡ rules.user_named self.now.users name.now }
+    {
+        self.users
+            .iter()
+            .find(|user| name.octets() == user.name.octets())
+    }
+
+    /// The user of a stamp.
+    pub fn user_stamped(&self, stamp: u32) -> Option<&User>
+        ensures { option_copied result ≡ rules.user_stamped self.now.users stamp }
+    {
+        self.users.iter().find(|user| user.stamp == stamp)
+    }
+
+    /// The object of a stamp.
+    pub fn object_stamped(&self, stamp: u32) -> Option<&Object>
+        ensures { option_copied result ≡ objects.object_stamped self.now.objects stamp }
+    {
+        self.objects.iter().find(|object| object.stamp == stamp)
+    }
+
+    /// The object of a name, where it appears to an actor.
+    pub fn seen_named(&self, actor: Actor, name: &Name) -> Option<&Object>
+        ensures { option_copied result ≡ rights.seen_named self.now actor name.now }
+    {
+        self.objects.iter().find(|object| {
+            name.octets() == object.name.octets() && self.appears(actor, object)
+        })
+    }
+
+    /// The object of a stamp, where it appears to an actor.
+    pub fn seen_stamped(&self, actor: Actor, stamp: u32) -> Option<&Object>
+        ensures { option_copied result ≡ rights.seen_stamped self.now actor stamp }
+    {
+        self.objects.iter().find(|object| object.stamp == stamp && self.appears(actor, object))
+    }
+}
