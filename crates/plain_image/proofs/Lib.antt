@@ -1,0 +1,3 @@
+mod JournalEntries
+mod Leftover
+mod Walking

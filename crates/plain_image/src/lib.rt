@@ -1,0 +1,12 @@
+//! The plain database to which an image opens, read without a card's store.
+#![tactic(auto)]
+
+mod chains;
+mod header;
+mod journal;
+mod octets;
+mod slot;
+mod slots;
+mod store;
+
+pub use store::PlainStore;
