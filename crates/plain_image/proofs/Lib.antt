@@ -1,3 +1,4 @@
+mod Filled
 mod JournalEntries
 mod Leftover
 mod Walking

@@ -2,6 +2,8 @@
 #![tactic(auto)]
 
 mod chains;
+mod counters;
+mod filling;
 mod header;
 mod journal;
 mod octets;
