@@ -12,7 +12,7 @@ use Rattle.scql_base.specs.declared.records.RowRecord.{RowRecord}
 use Rattle.scql_model.specs.Database.{Database}
 use Rattle.scql_model.specs.Opens.{Holds, counter_stamp, is_spelled}
 use Rattle.scql_model.specs.Records.{counter_in, user_in, object_in, grant_in, row_in}
-use Rattle.plain_image.specs.Found.{put_found, records_in}
+use Rattle.plain_image.specs.Found.{is_admitted, is_short_object, put_found, records_in}
 
 pub length-put : {X : Type 0} (key : X → ℕ) (x : X) (xs : List X) → length (put_in_order key x xs) ≡ suc (length xs)
 length-put key x [] = refl
@@ -60,8 +60,8 @@ records-more cells limit octets rest db is =
     ∙ ap₂ (λ (gs : List Grant) (rs : List RowRecord). of_records cells limit (put_found (λ (u : User). u.stamp) (user_in octets) (kept (λ (u : User). u.stamp) user_in rest)) (put_found (λ (o : Object). o.stamp) (object_in octets) (kept (λ (o : Object). o.stamp) object_in rest)) gs rs) grants rows
     ))
 
-pub spelled-more : (octets : List ℕ) (rest : Slots) → is_spelled (Some octets) ≡ true → list_all is_spelled rest ≡ true → list_all is_spelled (Some octets ∷ rest) ≡ true
-spelled-more octets rest one others = rw (one, others) refl
+pub admitted-more : (octets : List ℕ) (rest : Slots) → is_short_object octets ≡ true → is_spelled (Some octets) ≡ true → list_all is_admitted rest ≡ true → list_all is_admitted (Some octets ∷ rest) ≡ true
+admitted-more octets rest short one others = rw (short, one, others) refl
 
 -- a store holds the database of the records in its slots, where one counter has the next stamp
 pub holds-found : (slots : Slots) (cells limit next : ℕ) (db : Database) → db ≡ record (records_in cells limit slots) { next = next } → length slots ≡ cells

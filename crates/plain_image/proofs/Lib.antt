@@ -1,4 +1,7 @@
+mod Bases
 mod Filled
 mod JournalEntries
 mod Leftover
+mod Limits
+mod OwnerFound
 mod Walking

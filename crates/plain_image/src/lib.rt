@@ -4,11 +4,17 @@
 mod chains;
 mod counters;
 mod filling;
+mod grants;
 mod header;
 mod journal;
+mod objects;
 mod octets;
+mod rows;
 mod slot;
 mod slots;
+mod stamps;
 mod store;
+mod users;
+mod validity;
 
 pub use store::PlainStore;
