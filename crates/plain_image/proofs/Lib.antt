@@ -4,4 +4,6 @@ mod JournalEntries
 mod Leftover
 mod Limits
 mod OwnerFound
+mod Room
+mod Valid
 mod Walking

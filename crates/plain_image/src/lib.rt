@@ -9,6 +9,7 @@ mod header;
 mod journal;
 mod objects;
 mod octets;
+mod opening;
 mod rows;
 mod slot;
 mod slots;
@@ -17,4 +18,5 @@ mod store;
 mod users;
 mod validity;
 
+pub use opening::open;
 pub use store::PlainStore;
