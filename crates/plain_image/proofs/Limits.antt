@@ -35,10 +35,6 @@ put-all p key x (y ∷ ys) all =
           (rest.0, and_from (p y) (list_all p ys) parts.0 rest.1))
     ]
 
--- a record that is read within the limits is put among those that are
-pub found-put : {X : Type 0} (p : X → Bool) (key : X → ℕ) (found : Option X) (x : X) (xs ys : List X) → found ≡ Some x → p x ≡ true → ys ≡ put_in_order key x xs → list_all p xs ≡ true → list_all p ys ≡ true
-found-put p key found x xs ys is one put all = rw put (all-put p key x xs one all)
-
 pub admitted-spelled : (slots : Slots) → list_all is_admitted slots ≡ true → list_all is_spelled slots ≡ true
 admitted-spelled slots all = all-weaker is_admitted is_spelled slots each all
   where
