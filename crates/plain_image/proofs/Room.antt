@@ -1,5 +1,5 @@
 -- The records in a store have room in its cells.
-use Rattle.std.proofs.Common.{◌≡◌, ℕ, zero, suc, ◌+◌, ◌*◌, ◌≤◌, ◌&&◌, Bool, true, false, List, [], ◌∷◌, ◌++◌, length, map, flat_map, nat_le, Option, Some, None, IfSome, option_map, option_and_then, cond, if◌then◌else◌, refl, sym, ap, ◌∙◌, subst, arith, length-append, leb-true}
+use Rattle.std.proofs.Common.{◌≡◌, ℕ, ◌+◌, ◌*◌, ◌≤◌, ◌&&◌, Bool, true, false, List, [], ◌∷◌, length, map, flat_map, nat_le, Option, Some, None, IfSome, option_map, option_and_then, cond, if◌then◌else◌, refl, sym, ap, ◌∙◌, subst, arith, length-append, leb-true}
 use Rattle.std.specs.Prelude.{slice_set}
 use Rattle.std.specs.List.{list_all, sum_by}
 use Rattle.std.proofs.lemmas.Bool.{and_parts}

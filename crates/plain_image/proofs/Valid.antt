@@ -1,5 +1,5 @@
 -- A database is valid exactly where its records are within their limits, have room and meet the rules.
-use Rattle.std.proofs.Common.{◌≡◌, ℕ, ◌+◌, ◌<◌, ◌≤◌, ◌==◌, Bool, true, false, cond, not, ◌&&◌, ◌||◌, List, [], ◌∷◌, ◌++◌, map, filter, nat_le, nat_lt, refl, sym, ap, ap₂, subst, ◌∙◌, inl, inr, arith, append_assoc}
+use Rattle.std.proofs.Common.{◌≡◌, ℕ, ◌<◌, ◌≤◌, ◌==◌, Bool, true, false, not, ◌&&◌, ◌||◌, List, [], ◌∷◌, ◌++◌, map, filter, nat_le, nat_lt, refl, sym, ap, ap₂, ◌∙◌, inl, inr, arith, append_assoc}
 use Rattle.std.specs.List.{list_all, list_any, count_by, AllByRecursion}
 use Rattle.std.specs.Str.{bytes_eq}
 use Rattle.std.proofs.lemmas.Bool.{cases_Bool, and_parts, and_from, not-true, false≢true, leb-true, le-leb, ltb-true, lt-ltb, eqb-true, eqb-false, eq-eqb, ne_eqb}
@@ -13,8 +13,8 @@ use Rattle.scql_base.specs.declared.records.Grant.{Grant}
 use Rattle.scql_base.specs.declared.records.RowRecord.{RowRecord}
 use Rattle.scql_base.specs.declared.row.TheConstants.Row.{LARGEST, LARGEST_UNMIGRATED}
 use Rattle.scql_model.specs.Records.{counter_record, user_record, object_fits, grant_record, row_record}
-use Rattle.scql_model.specs.Stored.{StoredRecord, IsStored, is_storable, is_given_out}
-use Rattle.scql_model.specs.Rules.{AreUsers, AreObjects, AreGrants, AreRows, public_name, are_different, are_apart_by, is_db_o, is_made_by_maker, has_maker, has_all_tries, is_founded, is_short, has_object_and_grantee, is_of_pair, has_table, is_within_limit}
+use Rattle.scql_model.specs.Stored.{StoredRecord, IsStored, is_storable}
+use Rattle.scql_model.specs.Rules.{AreUsers, AreObjects, AreGrants, AreRows, public_name, are_apart_by, is_db_o, is_made_by_maker, has_maker, has_all_tries, is_founded, is_short, has_object_and_grantee, is_of_pair, has_table, is_within_limit}
 use Rattle.scql_model.specs.Database.{Database, IsValid, stored_user, stored_object, stored_grant, stored_row, records_of, counter_cells, weight}
 use Rattle.scql_model.specs.Opens.{Holds}
 use Rattle.scql_model.proofs.Apart.{apart_by-map}

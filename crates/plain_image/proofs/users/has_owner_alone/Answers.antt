@@ -1,5 +1,5 @@
 -- What is left to find after the next user.
-use Rattle.std.proofs.Common.{◌≡◌, ◌∷◌, ◌∙◌, ◌+◌, ◌<◌, List, true, false, drop, length, sym, ap, arith}
+use Rattle.std.proofs.Common.{◌≡◌, ◌∷◌, ◌∙◌, ◌+◌, List, true, false, drop, sym, ap, arith}
 use Rattle.std.proofs.lemmas.List.{drop_more}
 use Rattle.scql_base.specs.declared.records.User.{User}
 use Rattle.scql_model.specs.Rules as model
