@@ -1,0 +1,9 @@
+mod Bases
+mod Filled
+mod JournalEntries
+mod Leftover
+mod Limits
+mod OwnerFound
+mod Room
+mod Valid
+mod Walking

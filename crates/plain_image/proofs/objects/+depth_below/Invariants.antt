@@ -1,0 +1,4 @@
+use Rattle.plain_image.proofs.objects.+depth_below.Given as goal
+
+abbrev pub decreases-depth_below : goal.decreases-depth_below
+decreases-depth_below l = l.most

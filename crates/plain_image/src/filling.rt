@@ -1,0 +1,161 @@
+// The records in the slots of a store, put into a plain database.
+ghost use Rattle.std.specs.Prelude.{◌≡◌, ◌≤◌, [], None, Some, true, IfOk, IfSome, OnOk, is_some, length};
+ghost use Rattle.std.specs.List.{list_all};
+ghost use Rattle.eeprom.specs.StoreOf.{most_cells};
+ghost use Rattle.eeprom.specs.Slots.{kept};
+ghost use Rattle.scql_model.specs.Database as model;
+ghost use Rattle.scql_model.specs.Database.{IsValid};
+ghost use Rattle.scql_model.specs.Opens.{Holds, counter_stamp, is_spelled};
+ghost use Rattle.scql_model.specs.Rules.{is_short};
+ghost use Rattle.scql_model.specs.Records.{counter_in, user_in, object_in, grant_in, row_in, user_record, object_fits, grant_record, row_record};
+ghost use Rattle.plain_image.specs.Found.{AreCounters, AreWithin, is_admitted, is_short_object, put_found, records_in};
+
+use crate::PlainStore;
+use crate::counters::Counters;
+use crate::slot::SlotOctets;
+use catalog_codec::{Counter, Record};
+use eeprom::{Heap, MOST_CELLS};
+use plain_database::PlainDatabase;
+use scql_base::{Grant, Object, RowRecord, User};
+use std::alloc::AllocError;
+
+/// The database whose records are those in the slots of a store, where each slot that isn't empty has a record that isn't too long, and one has
+/// the counter.
+pub(crate) fn database_in(
+    alloc: Heap,
+    store: &PlainStore,
+) -> Result<Option<PlainDatabase>, AllocError>
+    ensures limit { IfOk result (λ found. IfSome found (λ db. db.limit ≡ store.now.row_limit)) }
+    ensures holds { IfOk result (λ found. IfSome found (Holds store.now.slots)) }
+    ensures limits { IfOk result (λ found. IfSome found AreWithin) }
+    ensures short { IfOk result (λ found. IfSome found (λ db. list_all is_short db.objects ≡ true)) }
+    ensures none { IfOk result (λ found. found ≡ None → (db : model.Database) → Holds store.now.slots db → IsValid db → ⊥) }
+{
+    if store.slots.len() > usize::from(MOST_CELLS) {
+        return Ok(None);
+    }
+    let mut database = PlainDatabase::new(alloc, store.slots.len() as u16, store.row_limit)?;
+    let Some(counters) = fill(&mut database, &store.slots)? else {
+        return Ok(None);
+    };
+    let Counters::Single { next } = counters else {
+        return Ok(None);
+    };
+    database.set_next(next);
+    Ok(Some(database))
+}
+
+// Puts the records in slots into an empty database, from the last slot to the first, and tells the counters among them.
+fn fill(
+    database: &mut PlainDatabase,
+    slots: &[Option<SlotOctets>],
+) -> Result<Option<Counters>, AllocError>
+    requires few { length slots.now ≤ most_cells }
+    requires empty { database.old ≡ records_in database.old.cells database.old.limit [] }
+    ensures records { IfOk result (λ found. IfSome found (λ _. database.new ≡ records_in database.old.cells database.old.limit slots.now)) }
+    ensures counters { IfOk result (λ found. IfSome found (λ counters. AreCounters counters (kept counter_stamp counter_in slots.now))) }
+    ensures limits { IfOk result (λ found. IfSome found (λ _. AreWithin database.new)) }
+    ensures admitted { IfOk result (λ found. is_some found ≡ list_all is_admitted slots.now) }
+{
+    let mut counters = Counters::Missing;
+    let mut left = slots.len();
+    while left > 0 {
+        left -= 1;
+        if let Some(entry) = &slots[left] {
+            let octets = entry.as_slice();
+            if !is_short(octets) || !put_record(database, octets)? {
+                return Ok(None);
+            }
+            counters = counters.and_of(octets);
+        }
+    }
+    Ok(Some(counters))
+}
+
+// Whether octets, where they are those of an object, aren't too many.
+fn is_short(octets: &[u8]) -> bool
+    ensures { result ≡ is_short_object octets.now }
+{
+    match Object::decode(octets) {
+        Some(_) => octets.len() <= Object::LONGEST,
+        None => true,
+    }
+}
+
+// Puts a record into a database, and says whether the octets are those of one. That of a counter is put nowhere.
+fn put_record(database: &mut PlainDatabase, octets: &[u8]) -> Result<bool, AllocError>
+    ensures known { IfOk result (λ known. known ≡ is_spelled (Some octets.now)) }
+    ensures put { OnOk result (database.new ≡ record database.old {
+      users = put_found (λ u. u.stamp) (user_in octets.now) database.old.users;
+      objects = put_found (λ o. o.stamp) (object_in octets.now) database.old.objects;
+      grants = put_found (λ g. g.stamp) (grant_in octets.now) database.old.grants;
+      rows = put_found (λ r. r.stamp) (row_in octets.now) database.old.rows;
+    }) }
+    ensures limits { AreWithin database.old → OnOk result (AreWithin database.new) }
+{
+    let is_user = put_user(database, octets)?;
+    let is_object = put_object(database, octets)?;
+    let is_grant = put_grant(database, octets)?;
+    let is_row = put_row(database, octets)?;
+    Ok(Counter::decode(octets).is_some() || is_user || is_object || is_grant || is_row)
+}
+
+// Puts a user into a database, where the octets are those of one.
+fn put_user(database: &mut PlainDatabase, octets: &[u8]) -> Result<bool, AllocError>
+    ensures known { IfOk result (λ known. known ≡ is_some (user_in octets.now)) }
+    ensures put { OnOk result (database.new ≡ record database.old { users = put_found (λ u. u.stamp) (user_in octets.now) database.old.users }) }
+    ensures limits { list_all user_record.fits database.old.users ≡ true → OnOk result (list_all user_record.fits database.new.users ≡ true) }
+{
+    match User::decode(octets) {
+        Some(user) => {
+            database.put_user(user)?;
+            Ok(true)
+        }
+        None => Ok(false),
+    }
+}
+
+// Puts an object into a database, where the octets are those of one.
+fn put_object(database: &mut PlainDatabase, octets: &[u8]) -> Result<bool, AllocError>
+    ensures known { IfOk result (λ known. known ≡ is_some (object_in octets.now)) }
+    ensures put { OnOk result (database.new ≡ record database.old { objects = put_found (λ o. o.stamp) (object_in octets.now) database.old.objects }) }
+    ensures limits { list_all object_fits database.old.objects ≡ true → OnOk result (list_all object_fits database.new.objects ≡ true) }
+{
+    match Object::decode(octets) {
+        Some(object) => {
+            database.put_object(object)?;
+            Ok(true)
+        }
+        None => Ok(false),
+    }
+}
+
+// Puts a grant into a database, where the octets are those of one.
+fn put_grant(database: &mut PlainDatabase, octets: &[u8]) -> Result<bool, AllocError>
+    ensures known { IfOk result (λ known. known ≡ is_some (grant_in octets.now)) }
+    ensures put { OnOk result (database.new ≡ record database.old { grants = put_found (λ g. g.stamp) (grant_in octets.now) database.old.grants }) }
+    ensures limits { list_all grant_record.fits database.old.grants ≡ true → OnOk result (list_all grant_record.fits database.new.grants ≡ true) }
+{
+    match Grant::decode(octets) {
+        Some(grant) => {
+            database.put_grant(grant)?;
+            Ok(true)
+        }
+        None => Ok(false),
+    }
+}
+
+// Puts a row into a database, where the octets are those of one.
+fn put_row(database: &mut PlainDatabase, octets: &[u8]) -> Result<bool, AllocError>
+    ensures known { IfOk result (λ known. known ≡ is_some (row_in octets.now)) }
+    ensures put { OnOk result (database.new ≡ record database.old { rows = put_found (λ r. r.stamp) (row_in octets.now) database.old.rows }) }
+    ensures limits { list_all row_record.fits database.old.rows ≡ true → OnOk result (list_all row_record.fits database.new.rows ≡ true) }
+{
+    match RowRecord::decode(octets) {
+        Some(row) => {
+            database.put_row(row)?;
+            Ok(true)
+        }
+        None => Ok(false),
+    }
+}

@@ -1,0 +1,117 @@
+// The directory in force: as it is written, or with the journal's entries behind an open gate.
+ghost use Rattle.std.specs.Prelude.{◌≡◌, ◌+◌, ◌≤◌, ◌<◌, true, IfOk, length, option_map};
+ghost use Rattle.std.specs.List.{list_all};
+ghost use Rattle.eeprom.specs.StoreOf as image;
+ghost use Rattle.eeprom.specs.StoreOf.{most_cells};
+
+use crate::octets::{number_at, octet_at};
+use eeprom::{Entry, GATE_PLACE, HEADER_SIZE, Heap, NO_CELL, journal_place};
+use std::alloc::AllocError;
+
+/// The first cell of each slot's chain, where the journal behind an open gate is in range.
+pub(crate) fn directory(
+    alloc: Heap,
+    octets: &[u8],
+    cells: u16,
+) -> Result<Option<Vec<u16, Heap>>, AllocError>
+    requires few { cells ≤ most_cells }
+    ensures { IfOk result (λ found. option_map (λ firsts. firsts.items) found ≡ image.directory octets.now cells) }
+{
+    let mut firsts = numbers_at(alloc, octets, HEADER_SIZE, cells)?;
+    if is_gate_open(octets) {
+        let place = journal_place(cells);
+        let count = number_at(octets, place);
+        if count > cells {
+            return Ok(None);
+        }
+        let entries = entries_at(alloc, octets, place + 2, count)?;
+        if !are_entries(cells, &entries) {
+            return Ok(None);
+        }
+        put_entries(cells, &entries, &mut firsts);
+    }
+    Ok(Some(firsts))
+}
+
+// Whether the gate is open.
+fn is_gate_open(octets: &[u8]) -> bool
+    ensures { result ≡ image.is_gate_open octets.now }
+{
+    octet_at(octets, GATE_PLACE) % 2 == 1
+}
+
+// So many numbers from a place on.
+fn numbers_at(
+    alloc: Heap,
+    octets: &[u8],
+    place: usize,
+    count: u16,
+) -> Result<Vec<u16, Heap>, AllocError>
+    requires near { place < 65536 }
+    ensures numbers { IfOk result (λ numbers. numbers.items ≡ image.numbers_at octets.now place count) }
+    ensures count { IfOk result (λ numbers. length numbers.items ≡ count) }
+{
+    let count = usize::from(count);
+    let mut numbers = Vec::with_capacity(alloc, count)?;
+    for index in 0..count {
+        numbers.push(number_at(octets, place + 2 * index))?;
+    }
+    Ok(numbers)
+}
+
+// So many entries from a place on.
+fn entries_at(
+    alloc: Heap,
+    octets: &[u8],
+    place: usize,
+    count: u16,
+) -> Result<Vec<Entry, Heap>, AllocError>
+    requires near { place < 65536 }
+    ensures { IfOk result (λ entries. entries.items ≡ image.entries_at octets.now place count) }
+{
+    let count = usize::from(count);
+    let mut entries = Vec::with_capacity(alloc, count)?;
+    for index in 0..count {
+        entries.push(entry_at(octets, place + 4 * index))?;
+    }
+    Ok(entries)
+}
+
+// The entry in the four octets at a place.
+fn entry_at(octets: &[u8], place: usize) -> Entry
+    requires near { place < 1048576 }
+    ensures slot { result.slot ≡ image.number_at octets.now place }
+    ensures first { result.first ≡ image.number_at octets.now (place + 2) }
+{
+    Entry {
+        slot: number_at(octets, place),
+        first: number_at(octets, place + 2),
+    }
+}
+
+// Whether each entry names a slot, and a cell or none.
+fn are_entries(cells: u16, entries: &[Entry]) -> bool
+    requires few { cells ≤ most_cells }
+    ensures { result ≡ list_all (image.is_entry cells) entries.now }
+{
+    entries.iter().all(|entry| is_entry(cells, *entry))
+}
+
+// Whether an entry names a slot, and a cell or none.
+fn is_entry(cells: u16, entry: Entry) -> bool
+    requires few { cells ≤ most_cells }
+    ensures { result ≡ image.is_entry cells entry }
+{
+    entry.slot < cells && (entry.first < 2 * cells || entry.first == NO_CELL)
+}
+
+// Puts entries into a directory, one after another.
+fn put_entries(cells: u16, entries: &[Entry], firsts: &mut [u16])
+    requires entries { list_all (image.is_entry cells) entries.now ≡ true }
+    requires count { length firsts.old ≡ cells }
+    ensures { firsts.new ≡ image.with_entries entries.now firsts.old }
+{
+    for entry in entries {
+        firsts[usize::from(entry.slot)] = entry.first;
+    }
+}
