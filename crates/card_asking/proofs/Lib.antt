@@ -1,6 +1,9 @@
+pub mod Calls
 pub mod Followed
 pub mod Meant
 pub mod Moments
+pub mod Presented
 pub mod Rows
+pub mod RowsAgain
 pub mod Sent
 pub mod Sound

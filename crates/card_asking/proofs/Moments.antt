@@ -4,7 +4,7 @@ use Rattle.eeprom.specs.Chip.{Chip}
 use Rattle.eeprom.proofs.Moments.{throughout-same, throughout-then, throughout-weaker}
 use Rattle.scql_model.specs.Database.{Database}
 use Rattle.scql_model.specs.Opens.{Opens}
-use Rattle.card_link.specs.Link.{IsOneOf, LeavesOpen}
+use Rattle.card_link.specs.Link.{Holds, IsOneOf, LeavesOpen}
 use Rattle.scql_model.specs.Lives.{after_all}
 
 pub one-behind : (mark : ℕ) (xs ys : List Database) (g : ℕ) (left : Database) → IsOneOf mark ys g left → IsOneOf mark (xs ++ ys) g left
@@ -31,6 +31,12 @@ pub one-mark : (mark : ℕ) (dbs : List Database) (g : ℕ) (left : Database) �
 one-mark mark [] g left is = absurd is
 one-mark mark (db ∷ dbs) g left (inl is) = is.0
 one-mark mark (db ∷ dbs) g left (inr is) = one-mark mark dbs g left is
+
+-- where nothing is committed there is one database
+pub one-alone : (mark : ℕ) (db now : Database) (commits : List Database) (g : ℕ) (left : Database) → commits ≡ [] → db ≡ now → IsOneOf mark (db ∷ commits) g left → Holds mark now g left
+one-alone mark db now [] g left none same (inl holds) = rw same at holds
+one-alone mark db now [] g left none same (inr is) = absurd is
+one-alone mark db now (other ∷ commits) g left none same is = absurd cc
 
 pub leaves-all : {L : Type 0} (chip : L → Chip) (P Q : ℕ → Database → Type 0) (old new : L) → ((g : ℕ) (left : Database) → P g left → Q g left)
     → LeavesOpen P (chip old) (chip new) → LeavesOpen Q (chip old) (chip new)

@@ -1,2 +1,4 @@
+pub mod Calls
 pub mod Following
 pub mod Giving
+pub mod Presenting

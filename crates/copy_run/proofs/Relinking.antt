@@ -16,7 +16,8 @@ use Rattle.reader_rack.specs.Racks.{IsRack, OthersStay, link_at, reader_at}
 use Rattle.reader_rack.specs.Readers.{Holds, IsHeld, lending, with_link}
 use Rattle.reader_rack.specs.Statements.{IsReader}
 use Rattle.table_copy.specs.Copy.{Copy}
-use Rattle.table_copy.specs.Copying.{Answers, CopiesSo, EndsBy, ReadsSo, StandsAt, StaysAt}
+use Rattle.card_asking.specs.Calls.{Answers}
+use Rattle.table_copy.specs.Copying.{CopiesSo, EndsBy, ReadsSo, StandsAt, StaysAt}
 use Rattle.table_copy.specs.declared.copy_end.CopyEnd.{CopyEnd}
 use Rattle.table_copy.specs.declared.copy_end.CopyEnd.TheVariants.{Copied, SourceRefused, DestRefused, SourceMute, DestMute}
 use Rattle.copy_run.specs.Racks.{DestHolds, IsCopied, SitsOn, SourceHolds}

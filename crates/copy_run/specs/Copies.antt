@@ -1,15 +1,12 @@
 -- A copy between two cards for two users, and what is said of it.
 use Rattle.std.specs.Prelude.{ℕ, List, [], ◌∷◌, ◌++◌, Option, Some, None, if◌then◌else◌, codes}
 use Rattle.std.specs.Fmt.{decimal}
-use Rattle.scql_base.specs.declared.operation.Operation.TheVariants.{PresentUser}
 use Rattle.scql_base.specs.Name.{name_of}
 use Rattle.scql_model.specs.Machine.{Machine}
-use Rattle.scql_model.specs.Step.{Answer}
-use Rattle.script.specs.Commands.{asking}
 use Rattle.planner.specs.declared.closing.Closing.TheVariants.{Refused}
-use Rattle.planner.specs.Meaning.{answer_to}
 use Rattle.planner.specs.Text.{closing_text}
 use Rattle.planner.specs.Words.{is_done}
+use Rattle.card_asking.specs.Presenting.{presented}
 use Rattle.program.specs.declared.status.Status.{Status}
 use Rattle.program.specs.declared.status.Status.TheVariants as program
 use Rattle.table_copy.specs.Copy.{Copy, copy}
@@ -27,10 +24,6 @@ named source_user object dest_user table = None
 abbrev pub names_in : List (List ℕ) → Option CopyNames
 names_in (source_user ∷ object ∷ dest_user ∷ table ∷ []) = named (name_of source_user) (name_of object) (name_of dest_user) (name_of table)
 names_in words = None
-
--- the answer to PRESENT USER on channel 0
-abbrev pub presented : Machine → List ℕ → Answer
-presented m user = answer_to m (asking 0 (PresentUser user))
 
 -- The destination's user is presented, and rows are copied that are shown to whoever is presented on the source.
 unfoldable pub copy_to : Machine → Machine → CopyNames → Copy

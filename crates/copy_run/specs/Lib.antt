@@ -1,4 +1,3 @@
 pub mod Copies
-pub mod Presenting
 pub mod Racks
 pub mod Runs

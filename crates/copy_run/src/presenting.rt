@@ -1,63 +1,16 @@
 // Users are presented on two cards, and what is shown to the one is copied for the other.
 ghost use Rattle.std.specs.Prelude.{◌≡◌, ◌∷◌, IsTrue};
 ghost use Rattle.scql_model.specs.Machine.{Machine};
-ghost use Rattle.script.specs.Commands as commands;
 ghost use Rattle.card_link.specs.Link.{Holds, IsOneOf, LeavesOpen};
-ghost use Rattle.scql_base.specs.declared.operation.Operation.TheVariants.{PresentUser};
 ghost use Rattle.table_copy.specs.Copying.{CopiesSo, EndsBy, ReadsSo, UndoneSo};
 ghost use Rattle.table_copy.specs.Progress.{ShowsCopy};
 ghost use Rattle.copy_run.specs.Copies as model;
-ghost use Rattle.copy_run.specs.Presenting.{EndsPresenting, PresentsSo};
 
 use crate::names::CopyNames;
-use apdu::Reply;
-use arrayvec::ArrayVec;
-use card_asking::ask;
+use card_asking::{Unpresented, present};
 use card_link::CardLink;
 use person::Person;
-use scql_base::{Command, Name, Operation, StatusWord};
 use table_copy::{CopyEnd, copy};
-
-/// Why a user isn't presented.
-#[derive(Clone, Copy, PartialEq, Eq, Debug)]
-pub(crate) enum Unpresented {
-    /// The card refused with this word.
-    Refused { word: StatusWord },
-    /// The card failed: it answers no more.
-    Mute,
-}
-
-// PRESENT USER on channel 0.
-fn presenting(user: &Name) -> Command
-    ensures command { result ≡ commands.asking 0 (PresentUser user.now) }
-    ensures sendable { commands.IsSendable result }
-{
-    let _ = user.octets();
-    Command {
-        channel: 0,
-        operation: Operation::PresentUser { name: user.copy() },
-        le: None,
-    }
-}
-
-// Presents a user. Each word but 9000 is a refusal.
-fn present<L: CardLink>(link: &mut L, user: &Name) -> Result<(), Unpresented>
-    requires live { IsTrue (L.is_live link.old) }
-    ensures presents { (m : Machine) → L.is_at link.old m → PresentsSo L.is_at m (model.presented m user.now) result link.new }
-    ensures moments { (m : Machine) → L.is_at link.old m → LeavesOpen (Holds (L.mark link.old) m.committed) (L.chip link.old) (L.chip link.new) }
-    ensures ends { EndsPresenting L.is_live L.faults result link.old link.new }
-    ensures mark { L.mark link.new ≡ L.mark link.old }
-{
-    let mut reply = Reply {
-        body: ArrayVec::new(),
-        word: StatusWord::DONE,
-    };
-    match ask(link, &presenting(user), &mut reply) {
-        Ok(()) if reply.word.word == StatusWord::DONE.word => Ok(()),
-        Ok(()) => Err(Unpresented::Refused { word: reply.word }),
-        Err(_) => Err(Unpresented::Mute),
-    }
-}
 
 // Presents the destination's user, and copies what is shown to whoever is presented on the source.
 fn copy_to<S: CardLink, D: CardLink, P: Person>(

@@ -30,28 +30,23 @@ use Rattle.planner.specs.Meaning.{meaning}
 use Rattle.planner.specs.Planned.{Planned, Turn, next_of, started}
 use Rattle.planner.specs.Selecting.{ShownRows, closing_given, rows_given, select_next, select_shown, shown_behind}
 use Rattle.planner.proofs.SelectsShown.{select-reads}
+use Rattle.card_asking.specs.Calls.{Answers}
 use Rattle.card_asking.specs.Giving.{Gives, GivesShown, IsNextRow, behind_step}
+use Rattle.card_asking.proofs.Calls.{answers-both, holds-both, mutes-then}
 use Rattle.card_asking.proofs.Meant.{base-valid}
 use Rattle.card_asking.proofs.Moments.{leaves-all, leaves-both, leaves-none}
+use Rattle.card_asking.proofs.RowsAgain.{read-again}
 use Rattle.card_asking.proofs.Rows.{all-given, gives-shown, next-row}
 use Rattle.query.specs.declared.query.AskedObject.{AskedObject}
 use Rattle.query_run.specs.declared.unfetched.Unfetched.{Unfetched}
 use Rattle.query_run.specs.declared.unfetched.Unfetched.TheVariants as unfetched
-use Rattle.query_run.specs.Fetching.{Answers, CanBeAsked, EndsFetching, FetchesSo, GrowsByOne, HasGoneOn, IsFetched, IsFetching, IsStopped, ReadsAs, UnlessStopped, fetched_by, row_at}
+use Rattle.query_run.specs.Fetching.{CanBeAsked, EndsFetching, FetchesSo, GrowsByOne, IsFetched, IsFetching, IsStopped, ReadsAs, UnlessStopped, fetched_by, row_at}
 use Rattle.query_run.specs.QueryText.{rows_shown}
 
--- A row is read as the row that its octets are.
-row-again : (row : Values) → is_row row ≡ true → row_from (row_octets row) ≡ Some row
-row-again row is =
-    let parts = and_parts (is_count_of_columns (length row) && list_all is_narrow row) (nat_le (row_size row) 1020) is in
-    let fronts = and_parts (is_count_of_columns (length row)) (list_all is_narrow row) parts.0 in
-    let counts = and_parts (nat_le 1 (length row)) (nat_le (length row) 15) fronts.0 in
-    let short = leb-true (row_size row) 1020 parts.1 in
-    row_from-row (row_octets row) row (params_of-again row) (leb-true (length row) 15 counts.1) (omega (arith, row_size-spelled row, short)) fronts.1
-
+-- The row of a step is the first of those that are left.
 row-first : (c : Command) (rows : List Values) (octets : List ℕ) → IsNextRow rows octets → row_at (Row c) octets ++ behind_step (Row c) rows ≡ rows
 row-first c rows octets is =
-    let read : row_from octets ≡ Some is.values = ap row_from is.octets ∙ row-again is.values is.formed in
+    let read : row_from octets ≡ Some is.values = ap row_from is.octets ∙ read-again is.values is.formed in
     rw (read, is.split) refl
 
 -- the row of a step, and what is left behind it
@@ -102,19 +97,6 @@ fetching-ended is_at m closing last all fetched p step closed r now at ends f =
 
 -- What becomes of the card.
 
-pub rest-same : {L : Type 0} (mark : L → ℕ) (keeps goes_on : L → L → Type 0) (l : L) → keeps l l → goes_on l l → HasGoneOn mark keeps goes_on l l
-rest-same mark keeps goes_on l kept goes = record { marked = refl; kept = kept; goes = goes }
-
-pub rest-both : {L : Type 0} (mark : L → ℕ) (keeps goes_on : L → L → Type 0) (old mid new : L) → (keeps old mid → keeps mid new → keeps old new) → (goes_on old mid → goes_on mid new → goes_on old new) → HasGoneOn mark keeps goes_on old mid
-    → HasGoneOn mark keeps goes_on mid new → HasGoneOn mark keeps goes_on old new
-rest-both mark keeps goes_on old mid new keeps-both goes-both first second =
-    record { marked = second.marked ∙ first.marked; kept = keeps-both first.kept second.kept; goes = goes-both first.goes second.goes }
-
-pub holds-both : {L : Type 0} (chip : L → Chip) (mark : L → ℕ) (db : Database) (old mid new : L) → mark mid ≡ mark old → LeavesOpen (Holds (mark old) db) (chip old) (chip mid) → LeavesOpen (Holds (mark mid) db) (chip mid) (chip new)
-    → LeavesOpen (Holds (mark old) db) (chip old) (chip new)
-holds-both chip mark db old mid new marked first second =
-    leaves-both chip (Holds (mark old) db) old mid new first (leaves-all chip (Holds (mark mid) db) (Holds (mark old) db) mid new (λ n left is. (is.0 ∙ marked, is.1)) second)
-
 -- where a card reads as it did, the same database is committed
 pub reads-moments : {L : Type 0} (is_at : L → Machine → Type 0) (chip : L → Chip) (mark : L → ℕ) (m : Machine) (old mid new : L) → (r : ReadsAs is_at m mid) → mark mid ≡ mark old → LeavesOpen (Holds (mark old) m.committed) (chip old) (chip mid)
     → ((m : Machine) → is_at mid m → LeavesOpen (Holds (mark mid) m.committed) (chip mid) (chip new)) → LeavesOpen (Holds (mark old) m.committed) (chip old) (chip new)
@@ -124,16 +106,6 @@ reads-moments is_at chip mark m old mid new r marked first second =
 -- before any call
 pub holds-same : {L : Type 0} (chip : L → Chip) (mark : L → ℕ) (db now : Database) (l : L) → mark l ≡ (chip l).still.mark → IfSome (chip l).image (λ image. Opens image now) → now ≡ db → LeavesOpen (Holds (mark l) db) (chip l) (chip l)
 holds-same chip mark db now l marks opens same = leaves-none chip mark (Holds (mark l) db) l now marks opens (refl, same)
-
-pub answers-both : {L : Type 0} (is_live : L → Bool) (faults : L → ℕ) (old mid new : L) → Answers is_live faults old mid → Answers is_live faults mid new → Answers is_live faults old new
-answers-both is_live faults old mid new first second = record { live = second.live; same = second.same ∙ first.same }
-
-mutes-then : {L : Type 0} (is_live : L → Bool) (faults : L → ℕ) (old mid new : L) → Answers is_live faults old mid → Mutes is_live faults mid new → Mutes is_live faults old new
-mutes-then is_live faults old mid new first mutes = record {
-  gone = mutes.gone;
-  rose = subst (λ (n : ℕ). Rose n (faults new)) first.same mutes.rose;
-  later = subst (λ (n : ℕ). n ≤ faults new) first.same mutes.later;
-}
 
 pub ends-then : {L : Type 0} (A B : Type 0) (is_live : L → Bool) (faults : L → ℕ) (old mid new : L) (end : Unfetched) → Answers is_live faults old mid → EndsFetching {A = A} is_live faults (Err end) mid new → EndsFetching {A = B} is_live faults (Err end) old new
 ends-then A B is_live faults old mid new (unfetched.Refused word) first second = answers-both is_live faults old mid new first second

@@ -1,5 +1,5 @@
 -- A card whose rows are fetched: what is there of them, and what becomes of the card.
-use Rattle.std.specs.Prelude.{◌≡◌, ◌⊎◌, ℕ, suc, Bool, true, false, List, [], ◌∷◌, ◌++◌, Result, Ok, Err, IsTrue}
+use Rattle.std.specs.Prelude.{◌≡◌, ◌⊎◌, ℕ, suc, Bool, true, false, List, [], ◌∷◌, ◌++◌, Result, Ok, Err}
 use Rattle.std.specs.Option.{option_map_or}
 use Rattle.scql_base.specs.Row.{row_from}
 use Rattle.scql_base.specs.declared.words.StatusWord.{StatusWord}
@@ -14,6 +14,7 @@ use Rattle.planner.specs.declared.closing.Closing.TheVariants.{Refused}
 use Rattle.planner.specs.declared.step.Step.{Step}
 use Rattle.planner.specs.declared.step.Step.TheVariants.{Row}
 use Rattle.planner.specs.Planned.{Planned}
+use Rattle.card_asking.specs.Calls.{Answers}
 use Rattle.card_asking.specs.Giving.{Gives}
 use Rattle.query.specs.declared.query.AskedObject.{AskedObject}
 use Rattle.query_run.specs.declared.unfetched.Unfetched.{Unfetched}
@@ -36,21 +37,10 @@ FetchesSo is_at m view shown (Ok x) now = (shown ≡ Ok (view x)) × ReadsAs is_
 FetchesSo is_at m view shown (Err (unfetched.Refused word)) now = (shown ≡ Err word) × ReadsAs is_at m now
 FetchesSo is_at m view shown (Err end) now = Unit {0}
 
--- a card answers, and its count stays
-pub record Answers {L : Type 0} (is_live : L → Bool) (faults : L → ℕ) (old new : L) : Type 0 where
-  pub live : IsTrue (is_live new)
-  pub same : faults new ≡ faults old
-
 -- Fetching ends because the card is mute only where that failed.
 abbrev pub EndsFetching : {L A : Type 0} → (L → Bool) → (L → ℕ) → Result A Unfetched → L → L → Type 0
 EndsFetching is_live faults (Err unfetched.Mute) old new = Mutes is_live faults old new
 EndsFetching is_live faults result old new = Answers is_live faults old new
-
--- calls left the mark and the rest of a link's object, and lead from one to the other
-pub record HasGoneOn {L : Type 0} (mark : L → ℕ) (keeps goes_on : L → L → Type 0) (old new : L) : Type 0 where
-  pub marked : mark new ≡ mark old
-  pub kept : keeps old new
-  pub goes : goes_on old new
 
 -- how a plan ended: with all rows, or by a refusal
 abbrev pub fetched_by : Closing → Result (Unit {0}) Unfetched

@@ -13,7 +13,8 @@ ghost use Rattle.planner.specs.Turns.{IfGoesOn};
 ghost use Rattle.card_asking.specs.Following.{to_go};
 ghost use Rattle.card_asking.specs.Giving.{Gives};
 ghost use Rattle.query_run.specs.Fetching as model;
-ghost use Rattle.query_run.specs.Fetching.{CanBeAsked, EndsFetching, FetchesSo, HasGoneOn, GrowsByOne, IsFetched, IsFetching, IsStopped, UnlessStopped};
+ghost use Rattle.card_asking.specs.Calls.{HasGoneOn};
+ghost use Rattle.query_run.specs.Fetching.{CanBeAsked, EndsFetching, FetchesSo, GrowsByOne, IsFetched, IsFetching, IsStopped, UnlessStopped};
 ghost use Rattle.query_run.specs.Progress.{ShowsAllFetched, ShowsFetched};
 ghost use Rattle.query_run.specs.QueryText.{rows_shown, tables_shown};
 

@@ -6,7 +6,8 @@ ghost use Rattle.card_link.specs.Link.{Holds, LeavesOpen};
 ghost use Rattle.row_join.specs.Links.{AreWithin};
 ghost use Rattle.query_run.specs.Answering.{FindsSo, JoinsSo, ShowsCounts};
 ghost use Rattle.query_run.specs.Answers.{IsPrintable, refused_by};
-ghost use Rattle.query_run.specs.Fetching.{CanBeAsked, EndsFetching, HasGoneOn, IsStopped, ReadsAs};
+ghost use Rattle.card_asking.specs.Calls.{HasGoneOn};
+ghost use Rattle.query_run.specs.Fetching.{CanBeAsked, EndsFetching, IsStopped, ReadsAs};
 
 use crate::Unfetched;
 use crate::answer::Answer;

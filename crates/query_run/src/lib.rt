@@ -12,7 +12,6 @@ mod responding;
 mod run;
 mod told_desk;
 mod unfetched;
-mod values;
 
 pub use run::answer_queries;
 pub use told_desk::ToldDesk;

@@ -9,12 +9,12 @@ ghost use Rattle.query_run.specs.Printing.{Cuts, Leads, Says};
 ghost use Rattle.query_run.specs.QueryText as model;
 
 use crate::answer::Answer;
-use crate::values::value_at;
+
 use card_link::Desk;
 use eeprom::SinkFault;
 use planner::Closing;
 use query::Query;
-use row_join::{Column, Combination, Fetched};
+use row_join::{Column, Combination, Fetched, value_at};
 use terminal::{closing_text, give_value};
 
 /// Prints a text.

@@ -1,5 +1,10 @@
--- The rows of combinations by their places.
-use Rattle.std.proofs.Common.{◌≡◌, ℕ, zero, suc, ◌<◌, ◌≤◌, List, [], ◌∷◌, length, get_or, refl, sym, ap, arith}
+-- The rows of combinations by their places, and their values.
+use Rattle.std.proofs.Common.{◌≡◌, ℕ, zero, suc, ◌<◌, ◌≤◌, true, List, [], ◌∷◌, length, Some, get_or, refl, sym, ap, subst, arith}
+use Rattle.std.specs.Prelude.{slice_get}
+use Rattle.std.specs.List.{list_all}
+use Rattle.std.proofs.lemmas.Bool.{and_parts, leb-true}
+use Rattle.std.proofs.lemmas.Option.{none-some, same_Some}
+use Rattle.scql_base.specs.Row.{is_narrow}
 use Rattle.scql_model.specs.Matching.{Values}
 use Rattle.row_join.specs.declared.column.Column.{Column}
 use Rattle.row_join.specs.Joins.{value_at}
@@ -25,3 +30,9 @@ value_at-place tables places column h k = ap (λ row. get_or row column.place []
 
 pub value_at-past : (tables : List (List Values)) (places : List ℕ) (column : Column) → length tables ≤ column.object → ◌≡◌ {A = List ℕ} [] (value_at (rows_of tables places) column)
 value_at-past tables places column h = ap (λ row. get_or row column.place []) (sym (rows_of-past tables places column.object h))
+
+-- a row has no longer value
+pub narrow-at : (row : Values) (i : ℕ) (value : List ℕ) → list_all is_narrow row ≡ true → slice_get row i ≡ Some value → length value ≤ 200
+narrow-at [] i value all is = absurd (none-some value is)
+narrow-at (x ∷ row) zero value all is = subst (λ (v : List ℕ). length v ≤ 200) (same_Some x value is) (leb-true (length x) 200 (and_parts (is_narrow x) (list_all is_narrow row) all).0)
+narrow-at (x ∷ row) (suc i) value all is = narrow-at row i value (and_parts (is_narrow x) (list_all is_narrow row) all).1 is

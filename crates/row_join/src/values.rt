@@ -7,23 +7,35 @@ ghost use Rattle.row_join.specs.Places.{row_at, rows_of};
 use crate::{Column, Combination, Fetched};
 use scql_base::Row;
 
-// The value at a place of the row that stands at another, and nothing where there is none.
-pub(crate) fn value_of(rows: &[Row], row: usize, place: usize) -> &[u8]
-    ensures { result.now ≡ value_in (row_at rows.now row) place }
+// The value at a place of a row, and nothing where there is none.
+fn value_among(row: &Row, place: usize) -> &[u8]
+    ensures value { result.now ≡ value_in row.now place }
+    ensures short { length result.now ≤ 200 }
 {
-    match rows.get(row) {
-        Some(values) => match values.get(place) {
-            Some(value) => value,
-            None => &[],
-        },
+    // A row has no longer value.
+    let _ = row.len();
+    match row.get(place) {
+        Some(value) => value,
         None => &[],
     }
 }
 
-/// The value of a column in a combination of objects' rows, and nothing where there is no such column.
+// The value at a place of the row that stands at another, and nothing where there is none.
+pub(crate) fn value_of(rows: &[Row], row: usize, place: usize) -> &[u8]
+    ensures value { result.now ≡ value_in (row_at rows.now row) place }
+    ensures short { length result.now ≤ 200 }
+{
+    match rows.get(row) {
+        Some(row) => value_among(row, place),
+        None => &[],
+    }
+}
+
+/// The value of a column in a combination of objects' rows, and nothing where there is no such column. It has at most 200 octets.
 pub fn value_at<'a>(tables: &'a [Fetched], combination: &Combination, column: Column) -> &'a [u8]
     requires { length tables.now ≤ 3 }
-    ensures { result.now ≡ joins.value_at (rows_of tables.now combination.now.places) column }
+    ensures value { result.now ≡ joins.value_at (rows_of tables.now combination.now.places) column }
+    ensures short { length result.now ≤ 200 }
 {
     match tables.get(column.object) {
         Some(table) => value_of(

@@ -1,7 +1,5 @@
 -- A piece of a copy ends in one of six ways; one of them is that a card is mute.
-use Rattle.std.proofs.Common.{◌≡◌, ℕ, List, [], ◌∷◌, Ok, Err, inl, inr}
-use Rattle.scql_model.specs.Database.{Database}
-use Rattle.card_link.specs.Link.{Holds, IsOneOf}
+use Rattle.std.proofs.Common.{◌≡◌, Ok, Err}
 use Rattle.table_copy.specs.Filling.{Piece}
 use Rattle.table_copy.specs.declared.copy_end.CopyEnd.TheVariants.{Copied, SourceRefused, DestRefused, SourceMute, DestMute}
 
@@ -20,9 +18,3 @@ unless-source_mute P (Err (SourceRefused word)) mute else' = else' (λ is. absur
 unless-source_mute P (Err (DestRefused word)) mute else' = else' (λ is. absurd cc)
 unless-source_mute P (Err DestMute) mute else' = else' (λ is. absurd cc)
 unless-source_mute P (Err SourceMute) mute else' = mute
-
--- where nothing is committed there is one database
-pub one-alone : (mark : ℕ) (db now : Database) (commits : List Database) (g : ℕ) (left : Database) → commits ≡ [] → db ≡ now → IsOneOf mark (db ∷ commits) g left → Holds mark now g left
-one-alone mark db now [] g left none same (inl holds) = rw same at holds
-one-alone mark db now [] g left none same (inr is) = absurd is
-one-alone mark db now (other ∷ commits) g left none same is = absurd cc

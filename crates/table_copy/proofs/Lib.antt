@@ -1,7 +1,7 @@
 pub mod Copied
 pub mod Ending
 pub mod Opening
-pub mod RowsAgain
+pub mod Sent
 pub mod Showing
 pub mod Transacting
 pub mod Turning

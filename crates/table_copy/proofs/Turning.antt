@@ -16,10 +16,12 @@ use Rattle.planner.specs.declared.step.Step.{Step}
 use Rattle.planner.specs.declared.step.Step.TheVariants.{Send, Row, ResetCard, Done}
 use Rattle.planner.specs.Planned.{Planned}
 use Rattle.card_asking.specs.Giving.{Gives, IsNextRow, behind_step}
+use Rattle.card_asking.proofs.Calls.{answers-both, mutes-then}
 use Rattle.card_asking.proofs.Moments.{leaves-all, leaves-both, leaves-none}
 use Rattle.card_asking.proofs.Rows.{next-row, all-given}
 use Rattle.table_copy.specs.Copy.{row_copied, rows_copied}
-use Rattle.table_copy.specs.Copying.{StaysAt, Answers, EndsBy, GoesBy, HasGoneOn}
+use Rattle.card_asking.specs.Calls.{Answers, HasGoneOn}
+use Rattle.table_copy.specs.Copying.{StaysAt, EndsBy, GoesBy}
 use Rattle.table_copy.specs.Filling.{Piece, UnlessSourceMute, OfDest, OfSource, IsFetching, FetchesSo, InsertsSo, HasRow, PutsSo, Together, TurnsSo, IsFilled, IsCommitted, CommitsSo, FillsSo, commits_by, counted_by, fetched_by, goes_on_by, has_row, whether, with_row}
 use Rattle.table_copy.specs.Progress.{IsCounted, IsCountedIn}
 use Rattle.table_copy.specs.declared.copy_end.CopyEnd.{CopyEnd}
@@ -87,30 +89,9 @@ fetches-on is_at is_live faults s q next (Err (DestRefused word)) old now ends f
 pub all-fetched : {L : Type 0} (is_at : L → Machine → Type 0) (s last : Machine) (count : ℕ) (rows : List Values) (p : Planned) (closed : Closing) (now : L) → Gives is_at s (Rows count) last rows p (Done closed) now → rows ≡ []
 all-fetched is_at s last count rows p closed now gives = (all-given is_at s (Rows count) last rows p closed now gives).none
 
--- Calls that follow one another.
-pub rest-both : {L : Type 0} (mark : L → ℕ) (keeps goes_on : L → L → Type 0) (old mid new : L) → (keeps old mid → keeps mid new → keeps old new) → (goes_on old mid → goes_on mid new → goes_on old new) → HasGoneOn mark keeps goes_on old mid
-    → HasGoneOn mark keeps goes_on mid new → HasGoneOn mark keeps goes_on old new
-rest-both mark keeps goes_on old mid new keeps-both goes-both first second =
-    record { marked = second.marked ∙ first.marked; kept = keeps-both first.kept second.kept; goes = goes-both first.goes second.goes }
-
-pub holds-both : {L : Type 0} (chip : L → Chip) (mark : L → ℕ) (db : Database) (old mid new : L) → mark mid ≡ mark old → LeavesOpen (Holds (mark old) db) (chip old) (chip mid) → LeavesOpen (Holds (mark mid) db) (chip mid) (chip new)
-    → LeavesOpen (Holds (mark old) db) (chip old) (chip new)
-holds-both chip mark db old mid new marked first second =
-    leaves-both chip (Holds (mark old) db) old mid new first (leaves-all chip (Holds (mark mid) db) (Holds (mark old) db) mid new (λ n left is. (is.0 ∙ marked, is.1)) second)
-
 -- before any call
 pub holds-same : {L : Type 0} (chip : L → Chip) (mark : L → ℕ) (db now : Database) (l : L) → mark l ≡ (chip l).still.mark → IfSome (chip l).image (λ image. Opens image now) → now ≡ db → LeavesOpen (Holds (mark l) db) (chip l) (chip l)
 holds-same chip mark db now l marks opens same = leaves-none chip mark (Holds (mark l) db) l now marks opens (refl, same)
-
-pub answers-both : {L : Type 0} (is_live : L → Bool) (faults : L → ℕ) (old mid new : L) → Answers is_live faults old mid → Answers is_live faults mid new → Answers is_live faults old new
-answers-both is_live faults old mid new first second = record { live = second.live; faults_same = second.faults_same ∙ first.faults_same }
-
-pub mutes-then : {L : Type 0} (is_live : L → Bool) (faults : L → ℕ) (old mid new : L) → Answers is_live faults old mid → Mutes is_live faults mid new → Mutes is_live faults old new
-mutes-then is_live faults old mid new first mutes = record {
-  gone = mutes.gone;
-  rose = subst (λ n. Rose n (faults new)) first.faults_same mutes.rose;
-  later = subst (λ n. n ≤ faults new) first.faults_same mutes.later;
-}
 
 module _ {S D : Type 0} (s_live : S → Bool) (s_faults : S → ℕ) (d_live : D → Bool) (d_faults : D → ℕ) (source mid next : S) (dest half new : D) (s_first : Answers s_live s_faults source mid) (d_first : Answers d_live d_faults dest half) where
   pub ends-then : (end : CopyEnd) → EndsBy s_live s_faults d_live d_faults end mid next half new → EndsBy s_live s_faults d_live d_faults end source next dest new

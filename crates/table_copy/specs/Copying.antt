@@ -4,6 +4,7 @@ use Rattle.scql_model.specs.Database.{Database}
 use Rattle.scql_model.specs.Lives.{after_all}
 use Rattle.scql_model.specs.Machine.{Machine}
 use Rattle.card_link.specs.Link.{Mutes}
+use Rattle.card_asking.specs.Calls.{Answers}
 use Rattle.card_asking.specs.Giving.{IsLike}
 use Rattle.table_copy.specs.Copy.{Copy}
 use Rattle.table_copy.specs.declared.copy_end.CopyEnd.{CopyEnd}
@@ -35,11 +36,6 @@ UndoneSo is_at d end now = StaysAt is_at d now
 abbrev pub ReadsSo : {L : Type 0} → (L → Machine → Type 0) → (L → Bool) → Machine → L → Type 0
 ReadsSo is_at is_live s now = IsTrue (is_live now) → StaysAt is_at s now
 
--- a card answers still, and its count is as before
-pub record Answers {L : Type 0} (is_live : L → Bool) (faults : L → ℕ) (old new : L) : Type 0 where
-  pub live : IsTrue (is_live new)
-  pub faults_same : faults new ≡ faults old
-
 -- A copy says that a card is mute only where it failed. The destination goes before the source.
 abbrev pub EndsBy : {S D : Type 0} → (S → Bool) → (S → ℕ) → (D → Bool) → (D → ℕ) → CopyEnd → S → S → D → D → Type 0
 EndsBy s_live s_faults d_live d_faults DestMute source next dest new = Mutes d_live d_faults dest new × (Answers s_live s_faults source next ⊎ Mutes s_live s_faults source next)
@@ -51,9 +47,3 @@ abbrev pub GoesBy : {S D A : Type 0} → (S → Bool) → (S → ℕ) → (D →
 GoesBy s_live s_faults d_live d_faults (Ok x) source next dest new = Answers s_live s_faults source next × Answers d_live d_faults dest new
 GoesBy s_live s_faults d_live d_faults (Err (Copied rows)) source next dest new = ⊥
 GoesBy s_live s_faults d_live d_faults (Err end) source next dest new = EndsBy s_live s_faults d_live d_faults end source next dest new
-
--- calls left the mark and the rest of a link's object, and lead from one to the other
-pub record HasGoneOn {L : Type 0} (mark : L → ℕ) (keeps goes_on : L → L → Type 0) (old new : L) : Type 0 where
-  pub marked : mark new ≡ mark old
-  pub kept : keeps old new
-  pub goes : goes_on old new

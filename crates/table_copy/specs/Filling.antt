@@ -19,7 +19,8 @@ use Rattle.planner.specs.Planned.{Planned}
 use Rattle.planner.specs.Words.{is_done}
 use Rattle.card_asking.specs.Giving.{Gives, IsNextRow, behind_step}
 use Rattle.table_copy.specs.Copy.{rows_copied}
-use Rattle.table_copy.specs.Copying.{StaysAt, StandsAt, Answers}
+use Rattle.card_asking.specs.Calls.{Answers}
+use Rattle.table_copy.specs.Copying.{StaysAt, StandsAt}
 use Rattle.table_copy.specs.declared.copy_end.CopyEnd.{CopyEnd}
 use Rattle.table_copy.specs.declared.copy_end.CopyEnd.TheVariants.{SourceRefused, DestRefused, SourceMute, DestMute}
 use Rattle.card_link.specs.Link.{Mutes}

@@ -10,7 +10,8 @@ ghost use Rattle.planner.specs.Planned.{IfSent};
 ghost use Rattle.planner.specs.Turns.{IfGoesOn};
 ghost use Rattle.card_asking.specs.Following.{to_go};
 ghost use Rattle.table_copy.specs.Copy as model;
-ghost use Rattle.table_copy.specs.Copying.{CopiesSo, EndsBy, GoesBy, HasGoneOn, ReadsSo, StaysAt, UndoneSo};
+ghost use Rattle.card_asking.specs.Calls.{HasGoneOn};
+ghost use Rattle.table_copy.specs.Copying.{CopiesSo, EndsBy, GoesBy, ReadsSo, StaysAt, UndoneSo};
 ghost use Rattle.table_copy.specs.Filling.{CopiesAt, FetchesSo, FillsSo, GivesAll, HasRow, IsCommitted, IsFetching, IsFilled, IsFilling, OfDest, PutsSo, Together, TurnsSo, UnlessDestMute, commits_by, counted_by, has_row as model_has_row, with_row};
 ghost use Rattle.table_copy.specs.Progress.{ShowsCopy, ShowsRows};
 

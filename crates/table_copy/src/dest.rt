@@ -11,7 +11,8 @@ ghost use Rattle.script.specs.Commands.{IsSendable};
 ghost use Rattle.card_link.specs.Link.{Answered, Holds, IsOneOf, LeavesOpen};
 ghost use Rattle.planner.specs.Meaning.{answer_to};
 ghost use Rattle.table_copy.specs.Copy.{may_begin, row_copied};
-ghost use Rattle.table_copy.specs.Copying.{HasGoneOn, StaysAt};
+ghost use Rattle.card_asking.specs.Calls.{HasGoneOn};
+ghost use Rattle.table_copy.specs.Copying.{StaysAt};
 ghost use Rattle.table_copy.specs.Filling.{BeginsSo, CommitsSo, CopiesAt, InsertsSo, IsFilling, IsInsertion, OfDest, RollsBackSo, UnlessDestMute, done_by};
 ghost use Rattle.table_copy.specs.declared.copy_end.CopyEnd.TheVariants.{DestMute};
 

@@ -11,7 +11,7 @@ ghost use Rattle.planner.specs.Turns.{IfGoesOn};
 ghost use Rattle.card_asking.specs.Following.{heard_at, to_go, turn_by};
 ghost use Rattle.card_asking.specs.Giving.{Gives, behind_step};
 ghost use Rattle.table_copy.specs.Copy.{source_rows};
-ghost use Rattle.table_copy.specs.Copying.{HasGoneOn};
+ghost use Rattle.card_asking.specs.Calls.{HasGoneOn};
 ghost use Rattle.table_copy.specs.Filling.{OfSource, OpensSo, UnlessSourceMute, fetched_by, goes_on_by};
 
 use crate::CopyEnd;

@@ -1,11 +1,12 @@
 use Rattle.std.proofs.Common.{◌∷◌, sym, ap, subst, inl}
 use Rattle.scql_model.specs.Database.{Database}
 use Rattle.card_link.specs.Link.{Holds, IsOneOf, LeavesOpen}
+use Rattle.card_asking.specs.Presenting.{presented}
 use Rattle.card_asking.proofs.Moments.{leaves-all}
 use Rattle.table_copy.specs.Copy.{Copy, copy}
 use Rattle.table_copy.specs.Copying.{CopiesSo}
 use Rattle.table_copy.proofs.Copied.{begun-moments}
-use Rattle.copy_run.specs.Copies.{copy_to, presented}
+use Rattle.copy_run.specs.Copies.{copy_to}
 use Rattle.copy_run.proofs.Named.{copies-behind, copy_to-done, dest-refused}
 use Rattle.copy_run.proofs.presenting.copy_to.Goals as goal
 
@@ -19,7 +20,7 @@ pub returns-in-Ok-clause-dest_moments : goal.returns-in-Ok-clause-dest_moments
 returns-in-Ok-clause-dest_moments g c = λ s d source_at dest_at.
     let p = c.in-Ok.ensures.presents d dest_at in
     let made = (copy s (presented d c.args.names.now.dest_user).machine c.args.names.now.object c.args.names.now.table).commits in
-    begun-moments g.D.CardLink.chip g.D.CardLink.mark d.committed (copy_to s d c.args.names.now).commits made c.args.dest.now c.present.new.link c.copy.new.dest (ap (λ (x : Copy). x.commits) (copy_to-done s d c.args.names.now p.0)) c.present.ensures.mark
+    begun-moments g.D.CardLink.chip g.D.CardLink.mark d.committed (copy_to s d c.args.names.now).commits made c.args.dest.now c.present.new.link c.copy.new.dest (ap (λ (x : Copy). x.commits) (copy_to-done s d c.args.names.now p.0)) c.present.ensures.rest.marked
     (c.present.ensures.moments d dest_at)
     (subst (λ (db : Database). LeavesOpen (IsOneOf (g.D.CardLink.mark c.present.new.link) (db ∷ made)) (g.D.CardLink.chip c.present.new.link) (g.D.CardLink.chip c.copy.new.dest)) p.1.like.committed
     (c.copy.ensures.dest_moments s (presented d c.args.names.now.dest_user).machine source_at p.1.at))

@@ -7,7 +7,8 @@ use Rattle.query_run.specs.Fetching.{CanBeAsked, FetchesSo}
 use Rattle.query_run.specs.Progress.{ShowsAllFetched}
 use Rattle.query_run.specs.QueryText.{tables_shown}
 use Rattle.scql_model.specs.Shown.{shown_on}
-use Rattle.query_run.proofs.Fetched.{answers-both, reads-moments, rest-both}
+use Rattle.card_asking.proofs.Calls.{answers-both, rest-both}
+use Rattle.query_run.proofs.Fetched.{reads-moments}
 use Rattle.query_run.proofs.Tables.{GivenSoFar, ended-shown, fetched-unadded, given-ended, given-more, left-first, table-shown}
 use Rattle.query_run.proofs.fetching.fetch_all.Goals as goal
 

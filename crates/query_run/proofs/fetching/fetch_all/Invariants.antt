@@ -3,7 +3,8 @@ use Rattle.std.specs.List.{AllByRecursion}
 use Rattle.scql_model.specs.Machine.{Machine}
 use Rattle.card_link.specs.Link.{Holds, LeavesOpen}
 use Rattle.person.specs.Showing.{Shows}
-use Rattle.query_run.specs.Fetching.{Answers, CanBeAsked, HasGoneOn}
+use Rattle.card_asking.specs.Calls.{Answers, HasGoneOn}
+use Rattle.query_run.specs.Fetching.{CanBeAsked}
 use Rattle.query_run.specs.Progress.{progress_texts}
 use Rattle.query_run.proofs.Tables.{GivenSoFar}
 use Rattle.query_run.proofs.fetching.fetch_all.Given as goal

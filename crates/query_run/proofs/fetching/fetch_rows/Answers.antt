@@ -1,6 +1,7 @@
 use Rattle.std.proofs.Common.{◌≡◌, Err, length, arith, refl}
 use Rattle.query_run.specs.Fetching.{IsFetched}
-use Rattle.query_run.proofs.Fetched.{answers-both, ends-closed, ends-then, fetching-ended, fetching-none, holds-both, holds-same, rest-both, rest-same, unless-stopped}
+use Rattle.card_asking.proofs.Calls.{answers-both, holds-both, rest-both, rest-same}
+use Rattle.query_run.proofs.Fetched.{ends-closed, ends-then, fetching-ended, fetching-none, holds-same, unless-stopped}
 use Rattle.query_run.proofs.Showing.{counted-fetched, few-left, less-left, none-shown, rows-ended, rows-grown, to_go-few}
 use Rattle.query_run.proofs.fetching.fetch_rows.Goals as goal
 

@@ -8,7 +8,8 @@ use Rattle.planner.specs.declared.closing.Closing.{Closing}
 use Rattle.planner.specs.Planned.{IfSent}
 use Rattle.card_asking.specs.Following.{to_go}
 use Rattle.card_asking.specs.Giving.{Gives}
-use Rattle.query_run.specs.Fetching.{Answers, HasGoneOn, IsFetching}
+use Rattle.card_asking.specs.Calls.{Answers, HasGoneOn}
+use Rattle.query_run.specs.Fetching.{IsFetching}
 use Rattle.query_run.specs.Progress.{rows_shown}
 use Rattle.query_run.proofs.fetching.fetch_rows.Given as goal
 

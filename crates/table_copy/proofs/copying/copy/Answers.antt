@@ -4,7 +4,8 @@ use Rattle.card_asking.proofs.Moments.{leaves-none}
 use Rattle.std.specs.Prelude.{◌∷◌}
 use Rattle.table_copy.specs.Copy.{copy, source_rows}
 use Rattle.table_copy.proofs.Copied.{copy-given, fetching-all, unopened-copies, unopened-reads}
-use Rattle.table_copy.proofs.Turning.{holds-both, source-counted}
+use Rattle.card_asking.proofs.Calls.{holds-both}
+use Rattle.table_copy.proofs.Turning.{source-counted}
 use Rattle.table_copy.proofs.Showing.{none-copied}
 use Rattle.table_copy.proofs.copying.copy.Goals as goal
 

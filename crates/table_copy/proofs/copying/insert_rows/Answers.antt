@@ -5,7 +5,8 @@ use Rattle.person.specs.Showing.{Shows}
 use Rattle.table_copy.specs.Progress.{rows_shown}
 use Rattle.table_copy.proofs.Opening.{gives-stays}
 use Rattle.table_copy.proofs.Showing.{copy-ended, few-left, none-passed, row-passed, to_go-few}
-use Rattle.table_copy.proofs.Turning.{answers-both, counted-done, fetched-counted, fetched-goes, fetched-reads, filled, goes-of, goes-then, heard-ended, holds-both, holds-same, reads-ended, rest-both, turns-ended}
+use Rattle.card_asking.proofs.Calls.{answers-both, holds-both, rest-both}
+use Rattle.table_copy.proofs.Turning.{counted-done, fetched-counted, fetched-goes, fetched-reads, filled, goes-of, goes-then, heard-ended, holds-same, reads-ended, turns-ended}
 use Rattle.table_copy.proofs.copying.insert_rows.Goals as goal
 
 pub loop-step-init : goal.loop-step-init
@@ -19,8 +20,8 @@ loop-step-init g c = record {
   moments = λ d filling.
       holds-same g.D.CardLink.chip g.D.CardLink.mark d.committed filling.copies.machine.committed c.args.dest.now (g.met.D.CardLink.marks c.args.dest.now)
       (g.met.D.CardLink.opens c.args.dest.now filling.copies.machine filling.copies.at) filling.copies.copies.committed;
-  source = record { live = c.requires.live.0; faults_same = refl };
-  dest = record { live = c.requires.live.1; faults_same = refl };
+  source = record { live = c.requires.live.0; same = refl };
+  dest = record { live = c.requires.live.1; same = refl };
   few = omega (arith, c.new-progress.ensures);
   shown = subst (λ (rows : ℕ). Shows g.P.Person.lost g.P.Person.shown (rows_shown rows) c.args.person.now c.args.person.now) (sym c.new-progress.ensures) (none-passed g.P.Person.lost g.P.Person.shown c.args.person.now);
   sendable = c.requires.sendable;

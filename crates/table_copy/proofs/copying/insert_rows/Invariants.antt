@@ -7,7 +7,7 @@ use Rattle.card_link.specs.Link.{Holds, LeavesOpen}
 use Rattle.person.specs.Showing.{Shows}
 use Rattle.planner.specs.Planned.{IfSent}
 use Rattle.card_asking.specs.Following.{to_go}
-use Rattle.table_copy.specs.Copying.{Answers, HasGoneOn}
+use Rattle.card_asking.specs.Calls.{Answers, HasGoneOn}
 use Rattle.table_copy.specs.Filling.{IsFetching, IsFilling, Together}
 use Rattle.table_copy.specs.Progress.{rows_shown}
 use Rattle.table_copy.proofs.copying.insert_rows.Given as goal

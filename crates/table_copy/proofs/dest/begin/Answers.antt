@@ -1,7 +1,8 @@
 use Rattle.card_asking.proofs.Moments.{leaves-all}
 use Rattle.table_copy.specs.Copy.{may_begin}
 use Rattle.table_copy.specs.Filling.{BeginsSo}
-use Rattle.table_copy.proofs.Ending.{unless-dest_mute, one-alone}
+use Rattle.card_asking.proofs.Moments.{one-alone}
+use Rattle.table_copy.proofs.Ending.{unless-dest_mute}
 use Rattle.table_copy.proofs.Transacting.{begin-sent, begin-silent, begins-so}
 use Rattle.std.proofs.Common.{refl}
 use Rattle.table_copy.proofs.dest.begin.Goals as goal

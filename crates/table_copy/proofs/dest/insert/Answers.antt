@@ -5,7 +5,8 @@ use Rattle.script.specs.Commands.{asking}
 use Rattle.card_asking.proofs.Moments.{leaves-all}
 use Rattle.table_copy.specs.Copy.{row_copied}
 use Rattle.table_copy.specs.Filling.{InsertsSo}
-use Rattle.table_copy.proofs.Ending.{unless-dest_mute, one-alone}
+use Rattle.card_asking.proofs.Moments.{one-alone}
+use Rattle.table_copy.proofs.Ending.{unless-dest_mute}
 use Rattle.table_copy.proofs.Transacting.{filling-after, insert-silent, inserts-so}
 use Rattle.table_copy.proofs.dest.insert.Goals as goal
 

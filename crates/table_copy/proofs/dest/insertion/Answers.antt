@@ -1,6 +1,7 @@
 use Rattle.std.proofs.Common.{◌≡◌, length, Some, None, refl, sym, ◌∙◌, ap, arith}
 use Rattle.scql_base.specs.Row.{row_from}
-use Rattle.table_copy.proofs.RowsAgain.{insert-sent, read-again, row-some}
+use Rattle.card_asking.proofs.RowsAgain.{read-again, row-some}
+use Rattle.table_copy.proofs.Sent.{insert-sent}
 use Rattle.table_copy.proofs.dest.insertion.Goals as goal
 
 pub returns-in_err-row-clause-row : goal.returns-in_err-row-clause-row

@@ -1,4 +1,4 @@
-use Rattle.table_copy.proofs.RowsAgain.{selection-sent}
+use Rattle.table_copy.proofs.Sent.{selection-sent}
 use Rattle.table_copy.proofs.source.selection.Goals as goal
 
 pub returns-clause-sendable : goal.returns-clause-sendable

@@ -2,8 +2,8 @@ use Rattle.std.proofs.Common.{sym, ◌∙◌, ap}
 use Rattle.std.proofs.lemmas.Bool.{eq-eqb, ne_eqb}
 use Rattle.scql_model.specs.Replies.{Reply}
 use Rattle.planner.specs.Words.{is_done}
-use Rattle.copy_run.proofs.Presented.{presented-heard, presented-moments}
-use Rattle.copy_run.proofs.presenting.present.Goals as goal
+use Rattle.card_asking.proofs.Presented.{presented-heard, presented-moments}
+use Rattle.card_asking.proofs.presenting.present.Goals as goal
 
 pub returns-in-Ok-clause-presents : goal.returns-in-Ok-clause-presents
 returns-in-Ok-clause-presents g c = λ m at.

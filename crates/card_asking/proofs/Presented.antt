@@ -25,10 +25,8 @@ use Rattle.planner.proofs.Asking.{answer-whole}
 use Rattle.planner.proofs.StatementsLawful.{last-answer}
 use Rattle.planner.proofs.TransactionKnown.{answer-kept}
 use Rattle.card_asking.specs.Giving.{IsLike}
-use Rattle.card_asking.proofs.Moments.{leaves-all}
-use Rattle.table_copy.proofs.Ending.{one-alone}
-use Rattle.copy_run.specs.Copies.{presented}
-use Rattle.copy_run.specs.Presenting.{IsBehind}
+use Rattle.card_asking.proofs.Moments.{leaves-all, one-alone}
+use Rattle.card_asking.specs.Presenting.{IsBehind, presented}
 
 -- it can be sent
 pub user-sent : (user : List ℕ) → IsName user → length user ≤ 8 → IsSendable (asking 0 (PresentUser user))

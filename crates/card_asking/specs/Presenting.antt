@@ -1,13 +1,20 @@
--- A user is presented on a card.
-use Rattle.std.specs.Prelude.{◌≡◌, ℕ, Bool, true, false, Result, Ok, Err}
+-- A user is presented on a card, on channel 0.
+use Rattle.std.specs.Prelude.{◌≡◌, ℕ, Bool, true, false, List, Result, Ok, Err}
+use Rattle.scql_base.specs.declared.operation.Operation.TheVariants.{PresentUser}
 use Rattle.scql_model.specs.Machine.{Machine}
 use Rattle.scql_model.specs.Step.{Answer}
-use Rattle.card_asking.specs.Giving.{IsLike}
 use Rattle.card_link.specs.Link.{Mutes}
+use Rattle.script.specs.Commands.{asking}
+use Rattle.planner.specs.Meaning.{answer_to}
 use Rattle.planner.specs.Words.{is_done}
-use Rattle.table_copy.specs.Copying.{Answers}
-use Rattle.copy_run.specs.declared.presenting.Unpresented.{Unpresented}
-use Rattle.copy_run.specs.declared.presenting.Unpresented.TheVariants.{Refused, Mute}
+use Rattle.card_asking.specs.Calls.{Answers}
+use Rattle.card_asking.specs.Giving.{IsLike}
+use Rattle.card_asking.specs.declared.presenting.Unpresented.{Unpresented}
+use Rattle.card_asking.specs.declared.presenting.Unpresented.TheVariants.{Refused, Mute}
+
+-- the answer to PRESENT USER on channel 0
+abbrev pub presented : Machine → List ℕ → Answer
+presented m user = answer_to m (asking 0 (PresentUser user))
 
 -- the card is at the machine behind this answer, which has the committed database and the open transaction's channel that it had before
 pub record IsBehind {L : Type 0} (is_at : L → Machine → Type 0) (m : Machine) (answer : Answer) (now : L) : Type 0 where
