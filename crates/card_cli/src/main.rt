@@ -1,9 +1,9 @@
 //! The program `card_cli`: a card whose EEPROM is a file, with standard input and output as its reader.
 #![tactic(auto)]
 
-use card_run::{Prompted, run_card};
+use card_run::run_card;
 use file_bench::{FileBench, StdSource};
-use person::Watcher;
+use person::{Prompted, Watcher};
 use program::{About, Ending, Status, command_line, end_program, hold_streams};
 use std::io::{IsTerminal, Stderr};
 use std::process::ExitCode;

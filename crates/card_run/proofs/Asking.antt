@@ -13,7 +13,8 @@ use Rattle.program.specs.declared.status.Status.TheVariants.{Done, Refused, Usag
 use Rattle.card_run.specs.declared.words.Form.{Form}
 use Rattle.card_run.specs.declared.words.Form.TheVariants.{New, Apdu, Load}
 use Rattle.card_run.specs.Beginning.{BeginsWith}
-use Rattle.card_run.specs.Ends.{AllFaults, EndsBy, ends_opened, ends_opening, has_opened, is_of_opened, may_end}
+use Rattle.program.specs.Ends.{AllFaults, EndsBy}
+use Rattle.card_run.specs.Ends.{ends_opened, ends_opening, has_opened, is_of_opened, may_end}
 use Rattle.card_run.specs.Words.{decimal_in, form_in, in_limits, load_asked, answers_commands, carries_out_statements, makes_card, reads_input, IsWithinLimits}
 
 -- A card that is to be made has as many cells as one may have.

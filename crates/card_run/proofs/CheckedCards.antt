@@ -10,7 +10,8 @@ use Rattle.program.specs.declared.status.Status.{Status}
 use Rattle.program.specs.declared.status.Status.TheVariants.{Done, Eeprom, WriteFault, NoMemory}
 use Rattle.card_run.specs.Beginning.{IsOpenTo}
 use Rattle.card_run.specs.Checking.{Checks, Says}
-use Rattle.card_run.specs.Ends.{AllFaults, EndsBy, ends_opening}
+use Rattle.program.specs.Ends.{AllFaults, EndsBy}
+use Rattle.card_run.specs.Ends.{ends_opening}
 use Rattle.card_run.specs.Migrating.{WritesNothing}
 use Rattle.card_run.specs.Run.{AnswersAll, IsQuiet}
 use Rattle.card_run.proofs.Asking.{unopened}

@@ -34,10 +34,12 @@ use Rattle.line_input.specs.Reading.{CountsSource}
 use Rattle.program.specs.Numbers.{status_at, status_of}
 use Rattle.eeprom.specs.Output.{Prints}
 use Rattle.program.specs.Numbers.{ends_as}
-use Rattle.card_run.specs.Ends.{AllFaults, EndsBy, is_of_opened, ends_opening, reads_all}
+use Rattle.program.specs.Ends.{AllFaults, EndsBy, RunsTo, reads_all}
+use Rattle.program.proofs.Ended.{ends-whole, said-done}
+use Rattle.card_run.specs.Ends.{is_of_opened, ends_opening}
 use Rattle.line_input.specs.Reading.{longest_input}
 use Rattle.line_run.specs.Extent.{Extent, to_end, stopped_in, EndsAt, Runs, RunsInput}
-use Rattle.card_run.specs.Run.{IsQuiet, AnswersAll, RunsLines, RunsTo, TellsRefusals}
+use Rattle.card_run.specs.Run.{IsQuiet, AnswersAll, RunsLines, TellsRefusals}
 use Rattle.card_run.proofs.Asking.{eeprom-rose, limits-asked, unopened}
 
 -- the card that was opened is at the start of the database to which its EEPROM opens
@@ -81,24 +83,6 @@ becomes-at P start now input left from to becomes =
     let b = becomes left to in
     let same : b.0 ≡ input = cc (b.1, from) in
     subst (λ (i : List ℕ). P i left) same b.2
-
--- a run that read its input to its end came to the end of its lines
-not_done : (stop : LineStop) → reads_all (status_of stop) ≡ true → ⊥
-not_done stops.Eeprom whole = false≢true whole
-not_done stops.Outlet whole = false≢true whole
-not_done stops.Both whole = false≢true whole
-not_done stops.NoMemory whole = false≢true whole
-
-ends-whole : (end : InputEnd LineStop) (refused : Bool) → reads_all (status_at end refused) ≡ true → end ≡ ends.Ended
-ends-whole ends.Ended refused whole = refl
-ends-whole ends.ReadFault refused whole = absurd (false≢true whole)
-ends-whole ends.TooLong refused whole = absurd (false≢true whole)
-ends-whole (ends.Stopped stop) refused whole = absurd (not_done stop whole)
-
-said-done : {S X : Type 0} (chip : X → Chip) (eeprom : X → ℕ) (L : Language S) (state : S) (taken : List (List ℕ)) (extent : Extent) (old new : X) → EndsAt chip eeprom L state extent ends.Ended old new → Runs L state taken extent (chip old) (chip new)
-    → Prints (run_text L state taken) (chip old).still.given (chip new).still.given
-said-done chip eeprom L state taken to_end old new ends runs = subst (λ (said : List ℕ). Prints said (chip old).still.given (chip new).still.given) runs.text.1 runs.text.2
-said-done chip eeprom L state taken (stopped_in stop answered line) old new ends runs = absurd cc
 
 -- and said the text of its whole input
 said-whole : {S X : Type 0} (chip : X → Chip) (eeprom : X → ℕ) (L : Language S) (state : S) (status : Status) (input left : List ℕ) (before : Still) (old new : X) → (chip old).still ≡ before → reads_all status ≡ true
@@ -289,39 +273,6 @@ never-tells L state Done start end never whole all = λ left told. let b = whole
 never-tells L state Refused start end never whole all = absurd (never refl)
 never-tells L state status start end never whole all = absurd (false≢true all)
 
--- A run over what has a bench is one over the bench.
-ends-through : {S X Y : Type 0} (bench : X → Y) (chip : Y → Chip) (eeprom : Y → ℕ) (L : Language S) (state : S) (extent : Extent) (end : InputEnd LineStop) (old new : X)
-    → EndsAt (λ (x : X). chip (bench x)) (λ (x : X). eeprom (bench x)) L state extent end old new → EndsAt chip eeprom L state extent end (bench old) (bench new)
-ends-through bench chip eeprom L state to_end end old new ends = ends
-ends-through bench chip eeprom L state (stopped_in stop answered line) end old new ends =
-    let begins = ends.2 in (ends.0, bench ends.1, record { quiet = begins.quiet; text = begins.text; image = begins.image }, ends.3)
-
-pub runs-through : {S X Y : Type 0} (old new : X) (bench : X → Y) (chip : Y → Chip) (eeprom : Y → ℕ) (L : Language S) (state : S) (end : InputEnd LineStop) (refused : Bool) (status : Status) (start now : Option (List ℕ)) → status ≡ status_at end refused
-    → Becomes (λ (input left : List ℕ). RunsInput (λ (x : X). chip (bench x)) (λ (x : X). eeprom (bench x)) L state end input left old new) start now
-    → Becomes (λ (input left : List ℕ). RunsTo chip eeprom L state status input left (bench old) (bench new)) start now
-runs-through old new bench chip eeprom L state end refused status start now is runs = λ left told.
-    let last = runs left told in
-    let ran = last.2 in (
-      last.0,
-      last.1,
-      record {
-        end = end;
-        refused = refused;
-        ends = is;
-        runs = record { taken = ran.taken; are_taken = ran.are_taken; extent = ran.extent; ends = ends-through bench chip eeprom L state ran.extent end old new ran.ends; runs = ran.runs };
-      },
-    )
-
--- How a run over its input ends, by how its lines came to an end.
-
--- no count rose
-same_all : (a b c d s t : ℕ) → (let was : Faults = record { eeprom = a; outlet = c } in let now : Faults = record { eeprom = b; outlet = d } in now ≡ was) → t ≡ s
-    → (let was : AllFaults = record { eeprom = a; source = s; outlet = c } in let now : AllFaults = record { eeprom = b; source = t; outlet = d } in now ≡ was)
-same_all a b c d s t same source =
-    let eeprom : b ≡ a = ap (λ (f : Faults). f.eeprom) same in
-    let outlet : d ≡ c = ap (λ (f : Faults). f.outlet) same in
-    rw (eeprom, outlet, source) refl
-
 -- commands aren't refused
 pub never-refused : (end : InputEnd LineStop) → status_at end false ≡ Refused → ⊥
 never-refused ends.Ended is = absurd cc
@@ -340,21 +291,6 @@ tells-refused L state refused_in end refused at start now tells ended whole = λ
     let last = ended is left told in
     (last.0, last.1, ap (λ (e : InputEnd LineStop). status_at e refused) is ∙ ap ends_as (tells (state_after L state (lines last.0 true)) last.2))
 
--- all of its input was read
-pub at-whole : {P : List ℕ → List ℕ → Type 0} (end : InputEnd LineStop) (refused : Bool) (start now : Option (List ℕ)) → (end ≡ ends.Ended → Becomes P start now) → reads_all (status_at end refused) ≡ true → Becomes P start now
-at-whole end refused start now becomes whole = becomes (ends-whole end refused whole)
-
--- or more came than is taken
-pub at-longer : {P : List ℕ → List ℕ → Type 0} (end : InputEnd LineStop) (refused : Bool) (start now : Option (List ℕ)) → (end ≡ ends.TooLong → Becomes P start now) → status_at end refused ≡ TooLong → Becomes P start now
-at-longer ends.TooLong refused start now becomes long = becomes refl
-at-longer ends.Ended true start now becomes long = absurd cc
-at-longer ends.Ended false start now becomes long = absurd cc
-at-longer ends.ReadFault refused start now becomes long = absurd cc
-at-longer (ends.Stopped stops.Eeprom) refused start now becomes long = absurd cc
-at-longer (ends.Stopped stops.Outlet) refused start now becomes long = absurd cc
-at-longer (ends.Stopped stops.Both) refused start now becomes long = absurd cc
-at-longer (ends.Stopped stops.NoMemory) refused start now becomes long = absurd cc
-
 -- its end is one of a run whose card was opened, where memory isn't wanting in a line
 pub of-opened : (end : InputEnd LineStop) (refused : Bool) → (end ≡ ends.Stopped stops.NoMemory → false ≡ true) → is_of_opened (status_at end refused) ≡ true
 of-opened ends.Ended true memory = refl
@@ -365,15 +301,3 @@ of-opened (ends.Stopped stops.Eeprom) refused memory = refl
 of-opened (ends.Stopped stops.Outlet) refused memory = refl
 of-opened (ends.Stopped stops.Both) refused memory = refl
 of-opened (ends.Stopped stops.NoMemory) refused memory = absurd (false≢true (memory refl))
-
--- each fault has its cause
-pub input-causes : (end : InputEnd LineStop) (refused : Bool) (eeprom eeprom_now outlet outlet_now source source_now : ℕ) → CausesEnd end (record { eeprom = eeprom; outlet = outlet }) (record { eeprom = eeprom_now; outlet = outlet_now }) → CountsSource end source source_now
-    → EndsBy (status_at end refused) (record { eeprom = eeprom; source = source; outlet = outlet }) (record { eeprom = eeprom_now; source = source_now; outlet = outlet_now })
-input-causes ends.Ended true eeprom eeprom_now outlet outlet_now source source_now causes counts = same_all eeprom eeprom_now outlet outlet_now source source_now causes counts
-input-causes ends.Ended false eeprom eeprom_now outlet outlet_now source source_now causes counts = same_all eeprom eeprom_now outlet outlet_now source source_now causes counts
-input-causes ends.ReadFault refused eeprom eeprom_now outlet outlet_now source source_now causes counts = (counts.1, ap (λ (f : Faults). f.eeprom) causes, ap (λ (f : Faults). f.outlet) causes)
-input-causes ends.TooLong refused eeprom eeprom_now outlet outlet_now source source_now causes counts = same_all eeprom eeprom_now outlet outlet_now source source_now causes counts
-input-causes (ends.Stopped stops.Eeprom) refused eeprom eeprom_now outlet outlet_now source source_now causes counts = (causes.eeprom refl, counts, causes.outlet_stays refl)
-input-causes (ends.Stopped stops.Outlet) refused eeprom eeprom_now outlet outlet_now source source_now causes counts = (causes.outlet refl, counts, causes.eeprom_later)
-input-causes (ends.Stopped stops.Both) refused eeprom eeprom_now outlet outlet_now source source_now causes counts = ((causes.both refl).1, counts, causes.eeprom_later)
-input-causes (ends.Stopped stops.NoMemory) refused eeprom eeprom_now outlet outlet_now source source_now causes counts = same_all eeprom eeprom_now outlet outlet_now source source_now (causes.both_stay refl) counts

@@ -31,7 +31,7 @@ use Rattle.card_run.specs.declared.words.Form.{Form}
 use Rattle.card_run.specs.declared.words.Form.TheVariants.{New, Apdu, Term, Check, Load, Migrate}
 use Rattle.card_run.specs.Beginning.{Begins, EndsUnread, IsOpenTo, LeavesUntilOpen}
 use Rattle.card_run.specs.Checking.{Checks}
-use Rattle.card_run.specs.Ends.{AllFaults}
+use Rattle.program.specs.Ends.{AllFaults}
 use Rattle.eeprom.specs.Output.{Prints}
 use Rattle.line_input.specs.declared.input.InputEnd.{InputEnd}
 use Rattle.line_run.specs.declared.line_stop.LineStop.{LineStop}

@@ -21,7 +21,8 @@ use Rattle.line_run.specs.Answering.{Failed}
 use Rattle.card_run.specs.Beginning.{IsOpenTo}
 use Rattle.line_run.specs.CutOff.{IsCutShort}
 use Rattle.program.specs.Numbers.{ends_as}
-use Rattle.card_run.specs.Ends.{AllFaults, EndsBy, ends_opened, ends_opening}
+use Rattle.program.specs.Ends.{AllFaults, EndsBy}
+use Rattle.card_run.specs.Ends.{ends_opened, ends_opening}
 use Rattle.card_run.specs.Loading.{CarriesOut, FailsAmong, IsIn, IsInLines, IsLoaded, Loader, Loads, LoadsTo, script_effect, script_lines, script_refused}
 use Rattle.line_run.specs.Moments.{IfGiven, IsInAnswered}
 use Rattle.card_run.specs.Run.{AnswersAll, IsQuiet}

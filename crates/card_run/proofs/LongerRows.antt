@@ -21,7 +21,8 @@ use Rattle.card.proofs.Starting.{opens-same}
 use Rattle.program.specs.declared.status.Status.{Status}
 use Rattle.program.specs.declared.status.Status.TheVariants.{Done, Eeprom, WriteFault, NoMemory}
 use Rattle.card_run.specs.Beginning.{IsOpenTo}
-use Rattle.card_run.specs.Ends.{AllFaults, EndsBy, ends_opening}
+use Rattle.program.specs.Ends.{AllFaults, EndsBy}
+use Rattle.card_run.specs.Ends.{ends_opening}
 use Rattle.card_run.specs.Migrating.{IsInMigration, IsMigratedFrom, KeepsOthers, LeavesLongRows, WritesNothing, MigratesTo, Migrates, StaysMigrating}
 use Rattle.card_run.specs.Run.{IsQuiet, AnswersAll}
 use Rattle.card.specs.GivenMoments.{behind-then}

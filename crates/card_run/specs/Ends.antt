@@ -1,23 +1,9 @@
 -- How a run over its input ends.
-use Rattle.std.specs.Prelude.{◌≡◌, ◌≤◌, ℕ, ◌&&◌, Bool, true, false}
-use Rattle.eeprom.specs.Fault.{Rose}
+use Rattle.std.specs.Prelude.{◌&&◌, Bool, true, false}
 use Rattle.program.specs.declared.status.Status.{Status}
 use Rattle.card_run.specs.declared.words.Form.{Form}
 use Rattle.card_run.specs.Words.{carries_out_statements, makes_card, reads_input}
 use Rattle.program.specs.declared.status.Status.TheVariants.{Done, Refused, Usage, Eeprom, ReadFault, WriteFault, NotACard, NoMemory, TooLong, TooSmall}
-
--- the counts of faults of all devices
-pub record AllFaults : Type 0 where
-  pub eeprom : ℕ
-  pub source : ℕ
-  pub outlet : ℕ
-
--- How the counts of faults move where a run ends so: a device that failed counted it, and else they stay. Of several faults the last one tells: before the outlet the EEPROM may have failed.
-abbrev pub EndsBy : Status → AllFaults → AllFaults → Type 0
-EndsBy Eeprom old new = Rose old.eeprom new.eeprom × (new.source ≡ old.source) × (new.outlet ≡ old.outlet)
-EndsBy ReadFault old new = Rose old.source new.source × (new.eeprom ≡ old.eeprom) × (new.outlet ≡ old.outlet)
-EndsBy WriteFault old new = Rose old.outlet new.outlet × (new.source ≡ old.source) × (old.eeprom ≤ new.eeprom)
-EndsBy status old new = new ≡ old
 
 -- A run of this form may end so. An EEPROM that tells nothing may lose what is written to it, and so what was just made may be no card.
 abbrev pub may_end : Form → Status → Bool
@@ -62,9 +48,3 @@ has_opened TooLong = true
 has_opened ReadFault = true
 has_opened WriteFault = true
 has_opened status = false
-
--- the ends of a run that read its input to its end
-abbrev pub reads_all : Status → Bool
-reads_all Done = true
-reads_all Refused = true
-reads_all status = false

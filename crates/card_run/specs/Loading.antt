@@ -20,7 +20,8 @@ use Rattle.card_run.specs.declared.words.Form.TheVariants.{Load}
 use Rattle.line_run.specs.Answering.{Failed}
 use Rattle.card_run.specs.Beginning.{EndsUnread, IsOpenTo}
 use Rattle.program.specs.Numbers.{ends_as}
-use Rattle.card_run.specs.Ends.{AllFaults, has_opened}
+use Rattle.program.specs.Ends.{AllFaults}
+use Rattle.card_run.specs.Ends.{has_opened}
 use Rattle.line_run.specs.Moments.{IfGiven, IsAnswered}
 use Rattle.card_run.specs.Run.{AnswersAll, IsQuiet}
 use Rattle.eeprom.specs.Output.{Prints}

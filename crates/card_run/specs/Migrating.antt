@@ -12,7 +12,8 @@ use Rattle.program.specs.declared.status.Status.{Status}
 use Rattle.program.specs.declared.status.Status.TheVariants.{Done, Eeprom, WriteFault, NoMemory}
 use Rattle.card_run.specs.Beginning.{IsOpenTo}
 use Rattle.line_run.specs.CutOff.{IsCutShort}
-use Rattle.card_run.specs.Ends.{AllFaults, has_opened}
+use Rattle.program.specs.Ends.{AllFaults}
+use Rattle.card_run.specs.Ends.{has_opened}
 use Rattle.line_run.specs.Moments.{IfGiven}
 use Rattle.card_run.specs.Run.{IsQuiet, AnswersAll}
 use Rattle.eeprom.specs.Output.{Prints}

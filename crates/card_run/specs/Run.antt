@@ -10,12 +10,9 @@ use Rattle.program.specs.declared.status.Status.TheVariants.{Eeprom, NotACard, N
 use Rattle.card_run.specs.declared.words.Form.{Form}
 use Rattle.card_run.specs.Beginning.{Begins, EndsUnread, LeavesUntilOpen}
 use Rattle.program.specs.Numbers.{ends_as}
-use Rattle.card_run.specs.Ends.{AllFaults, has_opened, reads_all}
+use Rattle.program.specs.Ends.{AllFaults, RunsTo, reads_all}
+use Rattle.card_run.specs.Ends.{has_opened}
 use Rattle.line_input.specs.Reading.{longest_input}
-use Rattle.line_input.specs.declared.input.InputEnd.{InputEnd}
-use Rattle.line_run.specs.declared.line_stop.LineStop.{LineStop}
-use Rattle.line_run.specs.Extent.{RunsInput}
-use Rattle.program.specs.Numbers.{status_at}
 use Rattle.eeprom.specs.Output.{Prints}
 
 -- no count of faults rose
@@ -36,13 +33,6 @@ TellsRefusals language refused state status start end =
 -- there was no card; or the EEPROM failed, or there was no memory to see whether there is one
 abbrev pub IsWithoutCard : Status → Type 0
 IsWithoutCard status = (status ≡ NotACard) ⊎ ((status ≡ NoMemory) ⊎ (status ≡ Eeprom))
-
--- A run over its input, of which this is left, ended so: its lines came to an end, in which one was refused or none.
-pub record RunsTo {S X : Type 0} (chip : X → Chip) (eeprom : X → ℕ) (language : Language S) (state : S) (status : Status) (input left : List ℕ) (old new : X) : Type 0 where
-  pub end : InputEnd LineStop
-  pub refused : Bool
-  pub ends : status ≡ status_at end refused
-  pub runs : RunsInput chip eeprom language state end input left old new
 
 -- The card of this form was opened at this database, without a fault of the EEPROM, and from this state on its run over the input ended so. Until it was open a power loss leaves what it leaves in that form.
 pub record OpensAndRuns {S X : Type 0} (chip : X → Chip) (eeprom : X → ℕ) (language : Language S) (form : Form) (db : Database) (state : S) (status : Status) (input left : List ℕ) (old new : X) : Type 0 where

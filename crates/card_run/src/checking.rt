@@ -6,7 +6,8 @@ ghost use Rattle.card.specs.Behind.{KeepsBehind};
 ghost use Rattle.card.specs.Card.{IsReady, IsAt};
 ghost use Rattle.card.specs.Counting as model;
 ghost use Rattle.card_run.specs.Checking.{Says};
-ghost use Rattle.card_run.specs.Ends.{AllFaults, EndsBy, ends_opened};
+ghost use Rattle.program.specs.Ends.{AllFaults, EndsBy};
+ghost use Rattle.card_run.specs.Ends.{ends_opened};
 ghost use Rattle.card_run.specs.Migrating.{WritesNothing};
 
 use crate::output::give;

@@ -11,10 +11,11 @@ ghost use Rattle.line_run.specs.Causes.{Faults, Causes};
 ghost use Rattle.line_run.specs.CutOff.{FailsIn};
 ghost use Rattle.line_run.specs.Moments.{IsInStopped, IsAnswered, IfGiven};
 ghost use Rattle.eeprom.specs.Chip.{Becomes, Throughout};
-ghost use Rattle.card_run.specs.Ends.{AllFaults, EndsBy, is_of_opened, reads_all};
+ghost use Rattle.program.specs.Ends.{AllFaults, EndsBy, reads_all};
+ghost use Rattle.card_run.specs.Ends.{is_of_opened};
 ghost use Rattle.line_input.specs.Reading.{longest_input};
 ghost use Rattle.card_run.specs.Behind.{StaysBehind};
-ghost use Rattle.card_run.specs.Run.{RunsTo};
+ghost use Rattle.program.specs.Ends.{RunsTo};
 
 use crate::output::give;
 use apdu::{LONGEST_COMMAND, LONGEST_REPLY_LINE, LineContent, Reply, read_line, write_reply};

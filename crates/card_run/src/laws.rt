@@ -10,7 +10,7 @@ ghost use Rattle.scql_model.specs.Opens.{Opens};
 ghost use Rattle.scql_model.specs.Tries.{IsRestoredBetween, SparesTries};
 ghost use Rattle.card_run.specs.Beginning.{Begins, EndsUnread, IsOpenTo};
 ghost use Rattle.card_run.specs.Checking.{Checks};
-ghost use Rattle.card_run.specs.Ends.{AllFaults};
+ghost use Rattle.program.specs.Ends.{AllFaults};
 ghost use Rattle.card_run.specs.Living.{CardState, IsCycle, MakesAndLives, ReadInEach, card_lines};
 ghost use Rattle.card_run.specs.Loading.{Loads};
 ghost use Rattle.card_run.specs.Migrating.{Migrates};

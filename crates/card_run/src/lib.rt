@@ -10,12 +10,10 @@ mod migration;
 mod opening;
 mod output;
 mod progress;
-mod prompt;
 mod run;
 mod statements;
 mod words;
 
-pub use prompt::Prompted;
 pub use run::run_card;
 
 #[cfg(test)]

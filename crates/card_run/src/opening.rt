@@ -12,7 +12,8 @@ ghost use Rattle.card.specs.Making.{OpensToNone};
 ghost use Rattle.card_run.specs.Words.{IsWithinLimits};
 ghost use Rattle.card_run.specs.Behind.{run_cells};
 ghost use Rattle.card_run.specs.Beginning.{IsOpenTo, IsThere, Begins, LacksCard, LeavesUntilOpen, WantsMemory};
-ghost use Rattle.card_run.specs.Ends.{AllFaults, EndsBy, ends_opening};
+ghost use Rattle.program.specs.Ends.{AllFaults, EndsBy};
+ghost use Rattle.card_run.specs.Ends.{ends_opening};
 ghost use Rattle.card_run.specs.Run.{IsWithoutCard};
 
 use crate::words::Form;

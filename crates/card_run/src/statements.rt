@@ -9,9 +9,11 @@ ghost use Rattle.card.specs.Behind.{KeepsBehind};
 ghost use Rattle.card.specs.Card.{IsReady, IsAt};
 ghost use Rattle.card.specs.LiveCard.{IsReadyAt, LastsOn};
 ghost use Rattle.line_run.specs.Answering.{Answered, Failed};
-ghost use Rattle.card_run.specs.Ends.{AllFaults, EndsBy, is_of_opened, reads_all};
+ghost use Rattle.program.specs.Ends.{AllFaults, EndsBy, reads_all};
+ghost use Rattle.card_run.specs.Ends.{is_of_opened};
 ghost use Rattle.line_input.specs.Reading.{longest_input};
-ghost use Rattle.card_run.specs.Run.{RunsTo, TellsRefusals};
+ghost use Rattle.program.specs.Ends.{RunsTo};
+ghost use Rattle.card_run.specs.Run.{TellsRefusals};
 ghost use Rattle.line_run.specs.Causes.{Causes, Faults};
 ghost use Rattle.card_run.specs.Statements.{Sitting, heard_as, is_refused, opened, term_lines, was_refused};
 

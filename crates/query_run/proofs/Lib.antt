@@ -6,4 +6,5 @@ pub mod Responded
 pub mod Said
 pub mod Showing
 pub mod Tables
+pub mod UserRan
 mod WorkedQueries

@@ -14,10 +14,12 @@ use Rattle.line_run.specs.declared.line_stop.LineStop.TheVariants as stops
 use Rattle.line_run.specs.Causes.{CausesEnd, Faults}
 use Rattle.line_run.specs.Extent.{EndsAt, Extent, Runs, RunsInput, stopped_in, to_end}
 use Rattle.program.specs.declared.status.Status.{Status}
-use Rattle.program.specs.declared.status.Status.TheVariants.{TooLong}
+use Rattle.program.specs.declared.status.Status.TheVariants.{NotACard, TooLong}
 use Rattle.program.specs.Numbers.{ends_as, status_at, status_of}
+use Rattle.program.proofs.Ended.{ends-whole, input-causes, said-done}
 use Rattle.query_run.specs.QueryLines.{Asking, asked_refused, asked_text, asked_texts, query_lines, some_refused}
-use Rattle.query_run.specs.Running.{AllFaults, EndsBy, PrintsQueries, RunsTo, reads_all}
+use Rattle.program.specs.Ends.{AllFaults, EndsBy, RunsTo, reads_all}
+use Rattle.query_run.specs.Running.{PrintsQueries}
 
 -- No line changes what later ones are answered from.
 texts-asked : (m : Machine) (refused : Bool) (lines : List (List ℕ)) → run_text query_lines (record { machine = m; refused = refused }) lines ≡ asked_texts (shown_on m 0) lines
@@ -39,42 +41,7 @@ refused-asked m refused [] = sym (or-false refused)
 refused-asked m refused (line ∷ lines) =
     refused-asked m (refused || asked_refused (shown_on m 0) (taken_line line)) lines ∙ or-then refused (asked_refused (shown_on m 0) (taken_line line)) (some_refused (shown_on m 0) lines)
 
--- A run over what has a desk is one over the desk.
-ends-through : {S X Y : Type 0} (desk : X → Y) (chip : Y → Chip) (eeprom : Y → ℕ) (L : Language S) (state : S) (extent : Extent) (end : InputEnd LineStop) (old new : X)
-    → EndsAt (λ (x : X). chip (desk x)) (λ (x : X). eeprom (desk x)) L state extent end old new → EndsAt chip eeprom L state extent end (desk old) (desk new)
-ends-through desk chip eeprom L state to_end end old new ends = ends
-ends-through desk chip eeprom L state (stopped_in stop answered line) end old new ends =
-    let begins = ends.2 in (ends.0, desk ends.1, record { quiet = begins.quiet; text = begins.text; image = begins.image }, ends.3)
-
-pub runs-through : {S X Y : Type 0} (old new : X) (desk : X → Y) (chip : Y → Chip) (eeprom : Y → ℕ) (L : Language S) (state : S) (end : InputEnd LineStop) (refused : Bool) (status : Status) (start now : Option (List ℕ)) → status ≡ status_at end refused
-    → Becomes (λ (input left : List ℕ). RunsInput (λ (x : X). chip (desk x)) (λ (x : X). eeprom (desk x)) L state end input left old new) start now
-    → Becomes (λ (input left : List ℕ). RunsTo chip eeprom L state status input left (desk old) (desk new)) start now
-runs-through old new desk chip eeprom L state end refused status start now is runs = λ left told.
-    let last = runs left told in
-    let ran = last.2 in (
-      last.0,
-      last.1,
-      record {
-        end = end;
-        refused = refused;
-        ends = is;
-        runs = record { taken = ran.taken; are_taken = ran.are_taken; extent = ran.extent; ends = ends-through desk chip eeprom L state ran.extent end old new ran.ends; runs = ran.runs };
-      },
-    )
-
 -- it read its input to its end
-not-done : (stop : LineStop) → reads_all (status_of stop) ≡ true → ⊥
-not-done stops.Eeprom whole = false≢true whole
-not-done stops.Outlet whole = false≢true whole
-not-done stops.Both whole = false≢true whole
-not-done stops.NoMemory whole = false≢true whole
-
-ends-whole : (end : InputEnd LineStop) (refused : Bool) → reads_all (status_at end refused) ≡ true → end ≡ ends.Ended
-ends-whole ends.Ended refused whole = refl
-ends-whole ends.ReadFault refused whole = absurd (false≢true whole)
-ends-whole ends.TooLong refused whole = absurd (false≢true whole)
-ends-whole (ends.Stopped stop) refused whole = absurd (not-done stop whole)
-
 pub ends-all : (end : InputEnd LineStop) (refused : Bool) (status : Status) → status ≡ status_at end refused → reads_all status ≡ true → end ≡ ends.Ended
 ends-all end refused status is whole = ends-whole end refused (subst (λ (s : Status). reads_all s ≡ true) is whole)
 
@@ -95,11 +62,6 @@ ends-long ends.TooLong refused is = refl
 ends-long (ends.Stopped stop) refused is = absurd (stop-short stop is)
 
 -- and said the texts of its lines
-said-done : {X : Type 0} (chip : X → Chip) (eeprom : X → ℕ) (state : Asking) (taken : List (List ℕ)) (extent : Extent) (old new : X) → EndsAt chip eeprom query_lines state extent ends.Ended old new → Runs query_lines state taken extent (chip old) (chip new)
-    → Prints (run_text query_lines state taken) (chip old).still.given (chip new).still.given
-said-done chip eeprom state taken to_end old new ends runs = subst (λ (said : List ℕ). Prints said (chip old).still.given (chip new).still.given) runs.text.1 runs.text.2
-said-done chip eeprom state taken (stopped_in stop answered line) old new ends runs = absurd cc
-
 pub prints-queries : {X : Type 0} (chip : X → Chip) (eeprom : X → ℕ) (at : Asking → Type 0) (m : Machine) (end : InputEnd LineStop) (refused : Bool) (status : Status) (start now : Option (List ℕ)) (old new : X) → end ≡ ends.Ended → status ≡ status_at end refused
     → ((asking : Asking) → at asking → refused ≡ asking.refused)
     → Becomes (λ (input left : List ℕ). RunsInput chip eeprom query_lines (record { machine = m; refused = false }) end input left old new) start now
@@ -117,31 +79,24 @@ prints-queries chip eeprom at m end refused status start now old new done is tel
       ran.1,
       record {
         printed = subst (λ (text : List ℕ). Prints text (chip old).still.given (chip new).still.given)
-            (ap (run_text query_lines state) finished.are_taken ∙ texts-asked m false (lines input true)) (said-done chip eeprom state finished.taken finished.extent old new finished.ends finished.runs);
+            (ap (run_text query_lines state) finished.are_taken ∙ texts-asked m false (lines input true)) (said-done chip eeprom query_lines state finished.taken finished.extent old new finished.ends finished.runs);
         tells = is ∙ (ap (λ (end : InputEnd LineStop). status_at end refused) done ∙ ap ends_as (tells (state_after query_lines state (lines input true)) there ∙ refused-asked m false (lines input true)));
       },
     )
 
 -- How the counts of faults move.
-same-all : (a b c d s t : ℕ) → (let was : Faults = record { eeprom = a; outlet = c } in let now : Faults = record { eeprom = b; outlet = d } in now ≡ was) → t ≡ s
-    → (let was : AllFaults = record { eeprom = a; source = s; outlet = c } in let now : AllFaults = record { eeprom = b; source = t; outlet = d } in now ≡ was)
-same-all a b c d s t same source =
-    let eeprom : b ≡ a = ap (λ (f : Faults). f.eeprom) same in
-    let outlet : d ≡ c = ap (λ (f : Faults). f.outlet) same in
-    rw (eeprom, outlet, source) refl
-
 pub ends-by : (end : InputEnd LineStop) (refused : Bool) (status : Status) (a b c d s t : ℕ) → status ≡ status_at end refused → CausesEnd end (record { eeprom = a; outlet = c }) (record { eeprom = b; outlet = d }) → CountsSource end s t
     → EndsBy status (record { eeprom = a; source = s; outlet = c }) (record { eeprom = b; source = t; outlet = d })
 ends-by end refused status a b c d s t is causes counts =
-    subst (λ (status : Status). EndsBy status (record { eeprom = a; source = s; outlet = c }) (record { eeprom = b; source = t; outlet = d })) (sym is) (go end refused causes counts)
-  where
-    go : (end : InputEnd LineStop) (refused : Bool) → CausesEnd end (record { eeprom = a; outlet = c }) (record { eeprom = b; outlet = d }) → CountsSource end s t
-        → EndsBy (status_at end refused) (record { eeprom = a; source = s; outlet = c }) (record { eeprom = b; source = t; outlet = d })
-    go ends.Ended true causes counts = same-all a b c d s t causes counts
-    go ends.Ended false causes counts = same-all a b c d s t causes counts
-    go ends.ReadFault refused causes counts = (counts.1, ap (λ (f : Faults). f.eeprom) causes, ap (λ (f : Faults). f.outlet) causes)
-    go ends.TooLong refused causes counts = same-all a b c d s t causes counts
-    go (ends.Stopped stops.Eeprom) refused causes counts = (causes.eeprom refl, counts, causes.outlet_stays refl)
-    go (ends.Stopped stops.Outlet) refused causes counts = (causes.outlet refl, counts, causes.eeprom_later)
-    go (ends.Stopped stops.Both) refused causes counts = ((causes.both refl).1, counts, causes.eeprom_later)
-    go (ends.Stopped stops.NoMemory) refused causes counts = same-all a b c d s t (causes.both_stay refl) counts
+    subst (λ (status : Status). EndsBy status (record { eeprom = a; source = s; outlet = c }) (record { eeprom = b; source = t; outlet = d })) (sym is) (input-causes end refused a b c d s t causes counts)
+
+-- its card was opened
+pub ends-opened : (end : InputEnd LineStop) (refused : Bool) → status_at end refused ≡ NotACard → ⊥
+ends-opened ends.Ended true is = absurd cc
+ends-opened ends.Ended false is = absurd cc
+ends-opened ends.ReadFault refused is = absurd cc
+ends-opened ends.TooLong refused is = absurd cc
+ends-opened (ends.Stopped stops.Eeprom) refused is = absurd cc
+ends-opened (ends.Stopped stops.Outlet) refused is = absurd cc
+ends-opened (ends.Stopped stops.Both) refused is = absurd cc
+ends-opened (ends.Stopped stops.NoMemory) refused is = absurd cc

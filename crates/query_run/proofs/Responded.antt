@@ -13,15 +13,11 @@ use Rattle.line_run.specs.declared.line_stop.LineStop.{LineStop}
 use Rattle.line_run.specs.declared.line_stop.LineStop.TheVariants.{Eeprom, Outlet, Both, NoMemory}
 use Rattle.line_run.specs.Answering.{Answered, Failed}
 use Rattle.line_run.specs.Moments.{IsInAnswered, IsInLine}
-use Rattle.person.specs.Showing.{Shows}
 use Rattle.terminal.specs.Failing.{IsStart}
 use Rattle.terminal.proofs.Went.{prints-none}
-use Rattle.query_run.specs.Answering.{AnswersSo, IsAnswered, IsUnmarked, ShowsCounts}
+use Rattle.query_run.specs.Answering.{AnswersSo, IsAnswered, IsUnmarked}
 use Rattle.query_run.specs.Fetching.{ReadsAs}
-use Rattle.query_run.specs.Progress.{progress_texts}
 use Rattle.query_run.specs.QueryLines.{Asking, asked_text, query_lines}
-use Rattle.query_run.specs.RespondingLaws.{watches-then}
-use Rattle.query_run.specs.Watching.{Watches, prompt, watched_text, watched_texts}
 
 -- the marks rise by the text
 mark-rises : (text : List ℕ) (before now : Option (List ℕ)) (was is : ℕ) → IfSome before (λ given. was ≡ length given) → IfSome now (λ given. is ≡ length given) → Prints text before now → IsSome now → is ≡ was + length text
@@ -124,18 +120,3 @@ module _ {L : Type 0} (is_at : L → Machine → Type 0) (given : L → Option (
 pub heard-refused : {L : Type 0} (is_at : L → Machine → Type 0) (given : L → Option (List ℕ)) (m : Machine) (text : List ℕ) (refused : Bool) (r : Result Bool LineStop) (old new : L) → AnswersSo is_at given m text refused r old new → IfOk r (λ was. was ≡ refused)
 heard-refused is_at given m said refused (Ok was) old new a = a.tells
 heard-refused is_at given m said refused (Err stop) old new a = tt
-
--- What a person was shown.
-counts-watched : (counts : List ℕ) → watched_texts (map Some counts) ≡ progress_texts counts
-counts-watched [] = refl
-counts-watched (count ∷ counts) = ap (λ (text : List ℕ). watched_text (Some count) ++ text) (counts-watched counts)
-
-pub watches-counts : {P : Type 0} (lost : P → Bool) (shown : P → Option (List ℕ)) (a b c : P) → ShowsCounts lost shown a b → Shows lost shown prompt b c → Watches lost shown a c
-watches-counts lost shown a b c first second =
-    watches-then lost shown a b c
-    (record { watched = map Some first.counts; shows = subst (λ (text : List ℕ). Shows lost shown text a b) (sym (counts-watched first.counts)) first.shows })
-    (record { watched = None ∷ []; shows = subst (λ (text : List ℕ). Shows lost shown text b c) (sym (append-nil prompt)) second })
-
-pub watches-prompt : {P : Type 0} (lost : P → Bool) (shown : P → Option (List ℕ)) (a b c : P) → Shows lost shown prompt a b → Watches lost shown b c → Watches lost shown a c
-watches-prompt lost shown a b c first second =
-    watches-then lost shown a b c (record { watched = None ∷ []; shows = subst (λ (text : List ℕ). Shows lost shown text a b) (sym (append-nil prompt)) first }) second

@@ -8,4 +8,5 @@ pub mod QueryText
 pub mod Responding
 pub mod RespondingLaws
 pub mod Running
-pub mod Watching
+pub mod Statuses
+pub mod UserRuns

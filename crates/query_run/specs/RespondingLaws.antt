@@ -10,9 +10,10 @@ use Rattle.scql_model.specs.Machine.{Machine}
 use Rattle.scql_model.specs.Opens.{Opens}
 use Rattle.person.specs.Showing.{Shows}
 use Rattle.person.proofs.Texts.{shows-none, shows-then}
+use Rattle.query_run.specs.Answering.{ShowsCounts}
+use Rattle.query_run.specs.Progress.{progress_text, progress_texts}
 use Rattle.query_run.specs.QueryLines.{Asking, query_lines}
 use Rattle.query_run.specs.Responding.{AsksSo, LeadsOn}
-use Rattle.query_run.specs.Watching.{Watches, watched_text, watched_texts}
 
 pub queries-lawful : IsLawful query_lines
 queries-lawful = record { last = λ asking line. refl; silent = λ asking line none. refl }
@@ -22,20 +23,20 @@ pub asking-over : {L : Type 0} (is_at : L → Machine → Type 0) (asking : Aski
     → (image : List ℕ) → chip.image ≡ Some image → Opens image (committed_in query_lines asking)
 asking-over is_at asking link refused chip opens asks image told = subst (Opens image) asks.reads.committed (rw told at (opens asks.reads.machine asks.reads.at))
 
-pub watches-none : {P : Type 0} (lost : P → Bool) (shown : P → Option (List ℕ)) (person : P) → Watches lost shown person person
-watches-none lost shown person = record { watched = []; shows = shows-none lost shown person }
+pub counts-none : {P : Type 0} (lost : P → Bool) (shown : P → Option (List ℕ)) (person : P) → ShowsCounts lost shown person person
+counts-none lost shown person = record { counts = []; shows = shows-none lost shown person }
 
-pub watches-then : {P : Type 0} (lost : P → Bool) (shown : P → Option (List ℕ)) (a b c : P) → Watches lost shown a b → Watches lost shown b c → Watches lost shown a c
-watches-then lost shown a b c first second = record {
-  watched = first.watched ++ second.watched;
+pub counts-then : {P : Type 0} (lost : P → Bool) (shown : P → Option (List ℕ)) (a b c : P) → ShowsCounts lost shown a b → ShowsCounts lost shown b c → ShowsCounts lost shown a c
+counts-then lost shown a b c first second = record {
+  counts = first.counts ++ second.counts;
   shows = subst (λ (text : List ℕ). Shows lost shown text a c)
-      (sym (ap concat (map-append watched_text first.watched second.watched) ∙ concat-append (map watched_text first.watched) (map watched_text second.watched)))
-      (shows-then lost shown (watched_texts first.watched) (watched_texts second.watched) a b c first.shows second.shows);
+      (sym (ap concat (map-append progress_text first.counts second.counts) ∙ concat-append (map progress_text first.counts) (map progress_text second.counts)))
+      (shows-then lost shown (progress_texts first.counts) (progress_texts second.counts) a b c first.shows second.shows);
 }
 
 pub leads-none : {L P : Type 0} (goes_on : L → L → Type 0) (lost : P → Bool) (shown : P → Option (List ℕ)) (link : L) (person : P) → goes_on link link → LeadsOn goes_on lost shown link link person person
-leads-none goes_on lost shown link person goes = record { goes = goes; watches = watches-none lost shown person }
+leads-none goes_on lost shown link person goes = record { goes = goes; watches = counts-none lost shown person }
 
 pub leads-then : {L P : Type 0} (goes_on : L → L → Type 0) (lost : P → Bool) (shown : P → Option (List ℕ)) (old mid new : L) (a b c : P) → (goes_on old mid → goes_on mid new → goes_on old new) → LeadsOn goes_on lost shown old mid a b
     → LeadsOn goes_on lost shown mid new b c → LeadsOn goes_on lost shown old new a c
-leads-then goes_on lost shown old mid new a b c goes first second = record { goes = goes first.goes second.goes; watches = watches-then lost shown a b c first.watches second.watches }
+leads-then goes_on lost shown old mid new a b c goes first second = record { goes = goes first.goes second.goes; watches = counts-then lost shown a b c first.watches second.watches }

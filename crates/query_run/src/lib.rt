@@ -7,12 +7,15 @@ mod fetching;
 mod finding;
 mod printing;
 mod progress;
-mod prompt;
 mod responding;
 mod run;
+mod status;
 mod told_desk;
 mod unfetched;
+mod user_run;
 
 pub use run::answer_queries;
+pub use status::QueryStatus;
 pub use told_desk::ToldDesk;
 pub use unfetched::Unfetched;
+pub use user_run::run_query;

@@ -4,13 +4,12 @@ ghost use Rattle.scql_model.specs.Lines.{longest_line};
 ghost use Rattle.scql_model.specs.Shown.{shown_on};
 ghost use Rattle.line_run.specs.Answering.{Answered, Failed};
 ghost use Rattle.line_run.specs.Causes.{Causes, Faults};
+ghost use Rattle.query_run.specs.Answering.{ShowsCounts};
 ghost use Rattle.query_run.specs.Fetching.{ReadsAs};
 ghost use Rattle.query_run.specs.QueryLines.{Asking, asked_refused, query_lines};
-ghost use Rattle.query_run.specs.Watching.{Watches};
 
 use crate::ToldDesk;
 use crate::answering::answer_line;
-use crate::prompt::show_prompt;
 use eeprom::Heap;
 use line_run::{LineStop, Responder};
 use person::Person;
@@ -46,7 +45,7 @@ impl<D: ToldDesk, P: Person> Responder for QueryDesk<D, P> {
     ghost goes_on = { λ old new. LeadsOn D.goes_on P.lost P.shown old.desk new.desk old.person new.person };
 
     fn answer_line(&mut self, line: Option<&[u8]>) -> Result<(), LineStop> {
-        let refused = answer_watched(self.alloc, &mut self.desk, line, &mut self.person)?;
+        let refused = respond(self.alloc, &mut self.desk, line, &mut self.person)?;
         self.refused |= refused;
         Ok(())
     }
@@ -60,8 +59,8 @@ impl<D: ToldDesk, P: Person> Responder for QueryDesk<D, P> {
     ghost goes_on_then = { λ old mid new ready first second. leads-then D.goes_on P.lost P.shown old.desk mid.desk new.desk old.person mid.person new.person (D.goes_on_then old.desk mid.desk new.desk) first second };
 }
 
-// Answers a whole line, tells whether it was refused, and waits for the next one.
-fn answer_watched<D: ToldDesk, P: Person>(
+// Answers a whole line, as a run hears it, and tells whether it was refused.
+fn respond<D: ToldDesk, P: Person>(
     alloc: Heap,
     desk: &mut D,
     line: Option<&[u8]>,
@@ -78,9 +77,7 @@ fn answer_watched<D: ToldDesk, P: Person>(
     ensures live { OnOk result (IsTrue (D.is_live desk.new)) }
     ensures causes { Causes (record { eeprom = D.faults desk.old; outlet = D.sink_faults desk.old }) (record { eeprom = D.faults desk.new; outlet = D.sink_faults desk.new }) result }
     ensures goes_on { D.goes_on desk.old desk.new }
-    ensures watches { Watches P.lost P.shown person.old person.new }
+    ensures shows { ShowsCounts P.lost P.shown person.old person.new }
 {
-    let answered = answer_line(alloc, desk, line, person);
-    show_prompt(person);
-    answered
+    answer_line(alloc, desk, line, person)
 }

@@ -3,43 +3,43 @@ ghost use Rattle.std.specs.Prelude.{◌≡◌, ◌<◌, ◌≤◌, [], true, fal
 ghost use Rattle.eeprom.specs.Chip.{Becomes};
 ghost use Rattle.line_input.specs.Reading.{longest_input};
 ghost use Rattle.scql_model.specs.Machine.{Machine};
+ghost use Rattle.query_run.specs.Answering.{ShowsCounts};
 ghost use Rattle.query_run.specs.Fetching.{ReadsAs};
 ghost use Rattle.query_run.specs.QueryLines.{Asking, query_lines};
-ghost use Rattle.query_run.specs.Running.{AllFaults, EndsBy, PrintsQueries, RunsTo, reads_all};
-ghost use Rattle.query_run.specs.Watching.{Watches};
+ghost use Rattle.program.specs.Ends.{AllFaults, EndsBy, RunsTo, reads_all};
+ghost use Rattle.query_run.specs.Running.{PrintsQueries};
+ghost use Rattle.query_run.specs.Statuses.{program_status};
 
-use crate::ToldDesk;
-use crate::prompt::show_prompt;
+use crate::{QueryStatus, ToldDesk};
 use crate::responding::QueryDesk;
 use eeprom::{Heap, Source};
 use line_run::run_lines;
 use person::Person;
-use program::Status;
 
 /// Answers the lines of the input as queries on channel 0 of a card, and gives back its desk and the person who watched.
 pub fn answer_queries<S: Source, D: ToldDesk, P: Person>(
     alloc: Heap,
     source: &mut S,
     desk: D,
-    mut person: P,
-) -> (Status, D, P)
+    person: P,
+) -> (QueryStatus, D, P)
     requires { IsTrue (D.is_live desk) }
     // One extent says which of the lines were answered and in which the run stopped. At each moment the image opens to what it opened to.
     ensures runs { (m : Machine) → ReadsAs D.is_at m desk
-        → Becomes (λ input left. RunsTo D.chip D.faults query_lines (record { machine = m; refused = false }) result.0 input left desk result.1) (S.left source.old) (S.left source.new) }
+        → Becomes (λ input left. RunsTo D.chip D.faults query_lines (record { machine = m; refused = false }) (program_status result.0) input left desk result.1) (S.left source.old) (S.left source.new) }
     // Where it read its input to its end each line printed what follows from what is shown to channel 0 where the lines begin.
-    ensures prints { (m : Machine) → ReadsAs D.is_at m desk → reads_all result.0 ≡ true
-        → Becomes (λ input left. PrintsQueries m input result.0 (D.chip desk).still.given (D.chip result.1).still.given) (S.left source.old) (S.left source.new) }
-    ensures whole { reads_all result.0 ≡ true → Becomes (λ input left. (left ≡ []) × (length input ≤ longest_input)) (S.left source.old) (S.left source.new) }
-    ensures too_long { result.0 ≡ Status.TooLong → Becomes (λ input left. longest_input < length input) (S.left source.old) (S.left source.new) }
+    ensures prints { (m : Machine) → ReadsAs D.is_at m desk → reads_all (program_status result.0) ≡ true
+        → Becomes (λ input left. PrintsQueries m input (program_status result.0) (D.chip desk).still.given (D.chip result.1).still.given) (S.left source.old) (S.left source.new) }
+    ensures whole { reads_all (program_status result.0) ≡ true → Becomes (λ input left. (left ≡ []) × (length input ≤ longest_input)) (S.left source.old) (S.left source.new) }
+    ensures too_long { result.0 ≡ QueryStatus.TooLong → Becomes (λ input left. longest_input < length input) (S.left source.old) (S.left source.new) }
     // Each fault has its cause, and without one the counts stay.
-    ensures ends { EndsBy result.0
+    ensures ends { EndsBy (program_status result.0)
         (record { eeprom = D.faults desk; source = S.source_faults source.old; outlet = D.sink_faults desk })
         (record { eeprom = D.faults result.1; source = S.source_faults source.new; outlet = D.sink_faults result.1 }) }
+    ensures opened { ¬ (result.0 ≡ QueryStatus.NotACard) }
     ensures goes_on { D.goes_on desk result.1 }
-    ensures watches { Watches P.lost P.shown person result.2 }
+    ensures watches { ShowsCounts P.lost P.shown person result.2 }
 {
-    show_prompt(&mut person);
     let queries = QueryDesk {
         alloc,
         desk,
@@ -53,6 +53,6 @@ pub fn answer_queries<S: Source, D: ToldDesk, P: Person>(
         person,
         refused,
     } = queries;
-    let status = Status::of_input(end, refused);
+    let status = QueryStatus::of_input(end, refused);
     (status, desk, person)
 }

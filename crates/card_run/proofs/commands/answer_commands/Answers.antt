@@ -4,9 +4,9 @@ use Rattle.eeprom.specs.Chip.{Becomes}
 use Rattle.scql_model.specs.Lines.{command_lines}
 use Rattle.card.specs.Behind.{KeepsBehind}
 use Rattle.program.specs.declared.status.Status.{Status}
-use Rattle.card_run.specs.Ends.{AllFaults, EndsBy}
-use Rattle.card_run.specs.Run.{RunsTo}
-use Rattle.card_run.proofs.Finishing.{at-longer, input-causes, runs-through}
+use Rattle.program.specs.Ends.{AllFaults, EndsBy}
+use Rattle.program.specs.Ends.{RunsTo}
+use Rattle.program.proofs.Ended.{at-longer, input-causes, runs-through}
 use Rattle.card_run.proofs.commands.answer_commands.Goals as goal
 
 pub returns-clause-runs : goal.returns-clause-runs

@@ -16,7 +16,8 @@ use Rattle.line_run.specs.declared.line_stop.LineStop.TheVariants.{Eeprom, Outle
 use Rattle.line_run.specs.Answering.{Failed}
 use Rattle.line_run.specs.CutOff.{IsCutShort}
 use Rattle.program.specs.declared.status.Status.TheVariants as status
-use Rattle.card_run.specs.Ends.{AllFaults, EndsBy, has_opened}
+use Rattle.program.specs.Ends.{AllFaults, EndsBy}
+use Rattle.card_run.specs.Ends.{has_opened}
 use Rattle.card_run.specs.Loading.{IsIn, IsLoaded, Loader, LoadsTo, script_effect, script_lines}
 use Rattle.line_run.specs.Moments.{IfGiven}
 use Rattle.card_run.specs.Progress.{Reached, ShowsLoad}

@@ -14,7 +14,8 @@ use Rattle.card_run.specs.Behind.{run_cells}
 use Rattle.program.specs.declared.status.Status.{Status}
 use Rattle.card_run.specs.Beginning.{IsOpenTo, BeginsWith, Begins, LacksCard, LeavesUntilOpen, FindsNoCard, WantsMemory}
 use Rattle.card_run.specs.Checking.{Says}
-use Rattle.card_run.specs.Ends.{AllFaults, EndsBy, may_end}
+use Rattle.program.specs.Ends.{AllFaults, EndsBy}
+use Rattle.card_run.specs.Ends.{may_end}
 use Rattle.card_run.specs.Progress.{ShowsLoad}
 use Rattle.card_run.specs.Selecting.{TermLinesSelectShown}
 use Rattle.card_run.specs.Showing.{LinesReadShown}

@@ -7,9 +7,11 @@ use Rattle.card.specs.Behind.{KeepsBehind}
 use Rattle.card.specs.Card.{IsAt}
 use Rattle.card.specs.LiveCard.{IsReadyAt, OnBench}
 use Rattle.program.specs.declared.status.Status.{Status}
-use Rattle.card_run.specs.Run.{RunsTo, TellsRefusals}
+use Rattle.program.specs.Ends.{RunsTo}
+use Rattle.card_run.specs.Run.{TellsRefusals}
 use Rattle.card_run.specs.Statements.{Sitting, SitsSo, opened, term_lines, was_refused}
-use Rattle.card_run.proofs.Finishing.{at-longer, runs-through, tells-refused}
+use Rattle.program.proofs.Ended.{at-longer, runs-through}
+use Rattle.card_run.proofs.Finishing.{tells-refused}
 use Rattle.card_run.proofs.Sittings.{sits-opened}
 use Rattle.card_run.proofs.statements.answer_statements.Goals.{After-of_input-status as Ran}
 use Rattle.card_run.proofs.statements.answer_statements.Goals as goal

@@ -1,4 +1,4 @@
-// A person at the terminal, who types lines.
+// A person at a terminal, who types lines.
 ghost use Rattle.std.specs.Prelude.{◌≡◌};
 
 use eeprom::{Source, SourceFault};
