@@ -9,7 +9,6 @@ ghost use Rattle.query_run.specs.Printing.{Cuts, Leads, Says};
 ghost use Rattle.query_run.specs.QueryText as model;
 
 use crate::answer::Answer;
-
 use card_link::Desk;
 use eeprom::SinkFault;
 use planner::Closing;

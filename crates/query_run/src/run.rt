@@ -10,8 +10,8 @@ ghost use Rattle.program.specs.Ends.{AllFaults, EndsBy, RunsTo, reads_all};
 ghost use Rattle.query_run.specs.Running.{PrintsQueries};
 ghost use Rattle.query_run.specs.Statuses.{program_status};
 
-use crate::{QueryStatus, ToldDesk};
 use crate::responding::QueryDesk;
+use crate::{QueryStatus, ToldDesk};
 use eeprom::{Heap, Source};
 use line_run::run_lines;
 use person::Person;
