@@ -38,7 +38,7 @@ pub fn answer_queries<S: Source, D: ToldDesk, P: Person>(
         (record { eeprom = D.faults result.1; source = S.source_faults source.new; outlet = D.sink_faults result.1 }) }
     ensures opened { ¬ (result.0 ≡ QueryStatus.NotACard) }
     ensures goes_on { D.goes_on desk result.1 }
-    ensures watches { ShowsCounts P.lost P.shown person result.2 }
+    ensures shows { ShowsCounts P.lost P.shown person result.2 }
 {
     let queries = QueryDesk {
         alloc,

@@ -60,7 +60,7 @@ fn answer_for<S: Source, D: ToldDesk, P: Person>(
         (record { eeprom = D.faults result.1; source = S.source_faults source.new; outlet = D.sink_faults result.1 }) }
     ensures opened { ¬ (result.0 ≡ QueryStatus.NotACard) }
     ensures goes_on { D.goes_on desk result.1 }
-    ensures watches { ShowsCounts P.lost P.shown person result.2 }
+    ensures shows { ShowsCounts P.lost P.shown person result.2 }
 {
     match present(&mut desk, user) {
         Ok(()) => answer_queries(alloc, source, desk, person),
@@ -112,7 +112,7 @@ pub fn run_query<S: Source, B: Bench, P: Person>(
     ensures ends { EndsBy (program_status result.0)
         (record { eeprom = B.faults bench.old; source = S.source_faults source.old; outlet = B.sink_faults bench.old })
         (record { eeprom = B.faults bench.new; source = S.source_faults source.new; outlet = B.sink_faults bench.new }) }
-    ensures watches { ShowsCounts P.lost P.shown person result.1 }
+    ensures shows { ShowsCounts P.lost P.shown person result.1 }
 {
     match Card::open(alloc, bench) {
         Ok(card) => {
