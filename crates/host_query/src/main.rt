@@ -34,10 +34,7 @@ fn answer(rt: &HostRuntime) -> Result<Status, Ending> {
 fn run_over(rt: &HostRuntime, path: &str, user: Name) -> Result<Status, Ending> {
     let _streams = hold_streams(rt);
     let mut bench = FileBench::open(rt.clone()?, path, false)?;
-    let mut source = Prompted::new(
-        StdSource::new(rt.clone()?),
-        stderr_where(rt, is_typed(rt)),
-    );
+    let mut source = Prompted::new(StdSource::new(rt.clone()?), stderr_where(rt, is_typed(rt)));
     let person = Watcher::new(stderr_where(rt, rt.stderr().is_terminal()));
     let (status, _) = run_query(rt.alloc(), user, &mut source, &mut bench, person);
     Ok(status.into())

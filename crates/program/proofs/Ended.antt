@@ -57,21 +57,21 @@ ends-through desk chip eeprom L state to_end end old new ends = ends
 ends-through desk chip eeprom L state (stopped_in stop answered line) end old new ends =
     let begins = ends.2 in (ends.0, desk ends.1, record { quiet = begins.quiet; text = begins.text; image = begins.image }, ends.3)
 
+pub through : {S X Y : Type 0} (old new : X) (desk : X → Y) (chip : Y → Chip) (eeprom : Y → ℕ) (L : Language S) (state : S) (status : Status) (input left : List ℕ) → RunsTo (λ (x : X). chip (desk x)) (λ (x : X). eeprom (desk x)) L state status input left old new
+    → RunsTo chip eeprom L state status input left (desk old) (desk new)
+through old new desk chip eeprom L state status input left ran = record {
+  end = ran.end;
+  refused = ran.refused;
+  ends = ran.ends;
+  runs = record { taken = ran.runs.taken; are_taken = ran.runs.are_taken; extent = ran.runs.extent; ends = ends-through desk chip eeprom L state ran.runs.extent ran.end old new ran.runs.ends; runs = ran.runs.runs };
+}
+
 pub runs-through : {S X Y : Type 0} (old new : X) (desk : X → Y) (chip : Y → Chip) (eeprom : Y → ℕ) (L : Language S) (state : S) (end : InputEnd LineStop) (refused : Bool) (status : Status) (start now : Option (List ℕ)) → status ≡ status_at end refused
     → Becomes (λ (input left : List ℕ). RunsInput (λ (x : X). chip (desk x)) (λ (x : X). eeprom (desk x)) L state end input left old new) start now
     → Becomes (λ (input left : List ℕ). RunsTo chip eeprom L state status input left (desk old) (desk new)) start now
 runs-through old new desk chip eeprom L state end refused status start now is runs = λ left told.
     let last = runs left told in
-    let ran = last.2 in (
-      last.0,
-      last.1,
-      record {
-        end = end;
-        refused = refused;
-        ends = is;
-        runs = record { taken = ran.taken; are_taken = ran.are_taken; extent = ran.extent; ends = ends-through desk chip eeprom L state ran.extent end old new ran.ends; runs = ran.runs };
-      },
-    )
+    (last.0, last.1, through old new desk chip eeprom L state status last.0 left (record { end = end; refused = refused; ends = is; runs = last.2 }))
 
 -- How the counts of faults move: none rose,
 same-all : (a b c d s t : ℕ) → (let was : Faults = record { eeprom = a; outlet = c } in let now : Faults = record { eeprom = b; outlet = d } in now ≡ was) → t ≡ s

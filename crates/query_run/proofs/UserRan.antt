@@ -1,18 +1,26 @@
 -- A run for a user: the database stays one at each of its moments, and what went before a part of it leaves what was printed and counted.
-use Rattle.std.proofs.Common.{◌≡◌, ℕ, zero, suc, false, List, [], ◌∷◌, Option, Some, None, refl, ◌∙◌, ap, subst}
+use Rattle.std.proofs.Common.{◌≡◌, ℕ, zero, suc, false, List, [], ◌∷◌, Option, Some, None, refl, sym, ◌∙◌, ap, subst, inl, inr}
 use Rattle.std.specs.Prelude.{IsSome}
 use Rattle.eeprom.specs.Chip.{Becomes, Chip}
+use Rattle.eeprom.specs.StoreOf.{store_of}
 use Rattle.eeprom.proofs.Moments.{throughout-then, throughout-weaker}
 use Rattle.scql_model.specs.Database.{Database}
 use Rattle.scql_model.specs.Heard.{after_commits, commits_of}
 use Rattle.scql_model.specs.Lines.{line_step}
 use Rattle.scql_model.specs.Machine.{Machine}
 use Rattle.scql_model.specs.Opens.{Opens}
+use Rattle.scql_model.specs.Step.{Answer}
 use Rattle.card_link.specs.Link.{Holds, LeavesOpen}
 use Rattle.program.specs.declared.status.Status.{Status}
-use Rattle.program.specs.Ends.{RunsTo}
+use Rattle.program.specs.Ends.{AllFaults, EndsBy, RunsTo}
+use Rattle.program.proofs.Ended.{through}
+use Rattle.record_store.specs.declared.refusal.OpenRefusal.{OpenRefusal}
+use Rattle.record_store.specs.declared.refusal.OpenRefusal.TheVariants as refusals
+use Rattle.record_store.specs.Recovery.{KeepsStore}
+use Rattle.card.proofs.Starting.{opens-same}
 use Rattle.query_run.specs.QueryLines.{Asking, query_lines}
-use Rattle.query_run.specs.UserRuns.{StaysOpen}
+use Rattle.query_run.specs.Statuses.{program_status, status_of}
+use Rattle.query_run.specs.UserRuns.{AnswersFor, IsWithout, StaysOpen}
 
 -- no line commits anything
 none-committed : (state : Asking) (lines : List (List ℕ)) → commits_of query_lines state lines ≡ []
@@ -38,3 +46,41 @@ lines-open chip eeprom m status start (Some left) old new given told runs =
 
 pub opens-then : (db : Database) (old mid new : Chip) → StaysOpen db old mid → StaysOpen db mid new → StaysOpen db old new
 opens-then db old mid new first second = throughout-then old mid new _ first second
+
+-- and while a card is opened
+pub keeps-open : (image : List ℕ) (db : Database) (old new : Chip) → old.image ≡ Some image → Opens image db → KeepsStore old new → StaysOpen db old new
+keeps-open image db old new told opens keeps = record {
+  later = keeps.keeps.later;
+  only = λ t g left since there. elim (keeps.keeps.only t g left since there) [
+    | inl before ↦ inl before
+    | inr at ↦ inr (same at.1 left at.2 at.3)
+  ];
+  stays = keeps.keeps.stays;
+  now = λ left is. let at = keeps.keeps.image left is in same at.0 left at.1 at.2;
+}
+  where
+    same : (was left : List ℕ) → old.image ≡ Some was → store_of left ≡ store_of was → Opens left db
+    same was left is store = opens-same was left (sym store) db (subst (λ (was : List ℕ). Opens was db) (let one : image ≡ was = cc (told, is) in one) opens)
+
+-- A run over what has a bench is one over the bench.
+pub answers-through : {X Y T : Type 0} (bench : X → Y) (chip : Y → Chip) (eeprom : Y → ℕ) (answer : Answer) (status : Status) (source after : T) (start end : Option (List ℕ)) (old new : X)
+    → AnswersFor (λ (x : X). chip (bench x)) (λ (x : X). eeprom (bench x)) answer status source after start end old new → AnswersFor chip eeprom answer status source after start end (bench old) (bench new)
+answers-through bench chip eeprom answer status source after start end old new (inl mute) = inl mute
+answers-through bench chip eeprom answer status source after start end old new (inr (inl refused)) = inr (inl refused)
+answers-through bench chip eeprom answer status source after start end old new (inr (inr p)) = inr (inr (record {
+  done = p.done;
+  first = bench p.first;
+  silent = p.silent;
+  quiet = p.quiet;
+  runs = λ left told. let ran = p.runs left told in (ran.0, ran.1, through p.first new bench chip eeprom query_lines (record { machine = answer.machine; refused = false }) status ran.0 left ran.2);
+}))
+
+-- what was counted before it
+pub ends-from : (status : Status) (now : AllFaults) (a b c d s : ℕ) → a ≡ c → b ≡ d → EndsBy status (record { eeprom = a; source = s; outlet = b }) now → EndsBy status (record { eeprom = c; source = s; outlet = d }) now
+ends-from status now a b c d s same also ends = rw (sym same, sym also) ends
+
+-- why a card isn't opened whose image opens to a database
+pub without-of : (refusal : OpenRefusal) → (refusal ≡ refusals.NotACard → ⊥) → IsWithout (program_status (status_of refusal))
+without-of refusals.NoMemory there = inl refl
+without-of refusals.NotACard there = absurd (there refl)
+without-of refusals.Fault there = inr refl

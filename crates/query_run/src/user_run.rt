@@ -5,6 +5,7 @@ ghost use Rattle.line_input.specs.Reading.{longest_input};
 ghost use Rattle.scql_model.specs.Database.{Database};
 ghost use Rattle.scql_model.specs.Machine.{Machine, start};
 ghost use Rattle.scql_model.specs.Opens.{Opens};
+ghost use Rattle.card.specs.Card.{IsAt, IsReady};
 ghost use Rattle.card.specs.Making.{OpensToNone};
 ghost use Rattle.card_asking.specs.Presenting.{presented};
 ghost use Rattle.program.specs.Ends.{AllFaults, EndsBy, reads_all};
@@ -72,6 +73,35 @@ fn answer_for<S: Source, D: ToldDesk, P: Person>(
     }
 }
 
+// The same on a card that is open.
+fn answer_on<S: Source, B: Bench, P: Person>(
+    alloc: Heap,
+    user: &Name,
+    source: &mut S,
+    card: Card,
+    bench: &mut B,
+    person: P,
+) -> (QueryStatus, P)
+    requires { IsReady card (B.chip bench.old) }
+    ensures runs { (m : Machine) → IsAt card (B.chip bench.old) m
+        → AnswersFor B.chip B.faults (presented m user.now) (program_status result.0) source.old source.new (S.left source.old) (S.left source.new) bench.old bench.new }
+    ensures prints { (m : Machine) → IsAt card (B.chip bench.old) m → reads_all (program_status result.0) ≡ true
+        → PrintsFor (presented m user.now) (program_status result.0) source.old source.new (S.left source.old) (S.left source.new) (B.chip bench.old).still.given (B.chip bench.new).still.given }
+    ensures stays { (m : Machine) → IsAt card (B.chip bench.old) m → IsSome (B.chip bench.new).still.given → IsSome (S.left source.new) → StaysOpen m.committed (B.chip bench.old) (B.chip bench.new) }
+    ensures whole { reads_all (program_status result.0) ≡ true → ReadsAll (program_status result.0) source.old source.new (S.left source.old) (S.left source.new) }
+    ensures too_long { result.0 ≡ QueryStatus.TooLong → Becomes (λ input left. longest_input < length input) (S.left source.old) (S.left source.new) }
+    ensures ends { EndsBy (program_status result.0)
+        (record { eeprom = B.faults bench.old; source = S.source_faults source.old; outlet = B.sink_faults bench.old })
+        (record { eeprom = B.faults bench.new; source = S.source_faults source.new; outlet = B.sink_faults bench.new }) }
+    ensures opened { ¬ (result.0 ≡ QueryStatus.NotACard) }
+    ensures shows { ShowsCounts P.lost P.shown person result.1 }
+{
+    let desk = LiveCard::new(card, bench);
+    let (status, desk, person) = answer_for(alloc, user, source, desk, person);
+    desk.into_bench();
+    (status, person)
+}
+
 // How a run ends whose card doesn't open.
 fn status_of(refusal: OpenRefusal) -> QueryStatus
     ensures { result ≡ model.status_of refusal }
@@ -115,12 +145,7 @@ pub fn run_query<S: Source, B: Bench, P: Person>(
     ensures shows { ShowsCounts P.lost P.shown person result.1 }
 {
     match Card::open(alloc, bench) {
-        Ok(card) => {
-            let desk = LiveCard::new(card, bench);
-            let (status, desk, person) = answer_for(alloc, &user, source, desk, person);
-            desk.into_bench();
-            (status, person)
-        }
+        Ok(card) => answer_on(alloc, &user, source, card, bench, person),
         Err(refusal) => (status_of(refusal), person),
     }
 }

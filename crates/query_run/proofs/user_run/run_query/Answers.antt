@@ -1,0 +1,18 @@
+-- An image that opens to a database is a card's, so that it isn't opened for a fault or want of memory alone.
+use Rattle.std.proofs.Common.{◌≡◌, ℕ, List, Option, Err, ap, refl, sym, subst, inl}
+use Rattle.std.specs.Prelude.{IfSome}
+use Rattle.eeprom.specs.Chip.{Still}
+use Rattle.card.specs.Making.{OpensToNone}
+use Rattle.query_run.specs.Statuses.{program_status}
+use Rattle.query_run.specs.UserRuns.{IsWithout}
+use Rattle.query_run.specs.declared.status.QueryStatus.{QueryStatus}
+use Rattle.query_run.proofs.UserRan.{without-of}
+use Rattle.query_run.proofs.user_run.run_query.Goals as goal
+
+pub returns-in-Err-clause-runs : goal.returns-in-Err-clause-runs
+returns-in-Err-clause-runs g c = λ image db told opens.
+    inl (
+      subst (λ (status : QueryStatus). IsWithout (program_status status)) (sym c.status_of.ensures)
+          (without-of c.in-Err.refusal (λ is. subst (λ (o : Option (List ℕ)). IfSome o OpensToNone) told (c.in-Err.ensures.not_a_card (ap Err is)) db opens)),
+      record { unread = refl; silent = ap (λ (still : Still). still.given) c.open.ensures.recovers.store.keeps.still; keeps = c.open.ensures.recovers.store },
+    )
