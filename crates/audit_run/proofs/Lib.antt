@@ -1,2 +1,4 @@
 mod Exchanges
+mod Judged
 mod Octets
+mod Showing

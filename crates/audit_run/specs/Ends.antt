@@ -1,5 +1,5 @@
 -- How an audit ends.
-use Rattle.std.specs.Prelude.{◌≡◌, ℕ, List, [], Option, Result, Ok, Err}
+use Rattle.std.specs.Prelude.{◌≡◌, ℕ, List, [], Option, Result, Err}
 use Rattle.eeprom.specs.Chip.{Becomes}
 use Rattle.eeprom.specs.Fault.{Rose}
 use Rattle.program.specs.declared.status.Status.{Status}

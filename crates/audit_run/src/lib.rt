@@ -3,6 +3,8 @@
 
 mod answering;
 mod comparing;
+mod judging;
+mod progress;
 mod reading;
 mod status;
 mod text;
@@ -10,7 +12,6 @@ mod transcript;
 mod verdict;
 
 pub use answering::Answering;
-pub use comparing::first_difference;
+pub use judging::verdict_on;
 pub use status::AuditStatus;
-pub use transcript::{count_inputs, first_malformed};
 pub use verdict::Verdict;
