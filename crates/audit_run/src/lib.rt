@@ -6,6 +6,7 @@ mod comparing;
 mod judging;
 mod progress;
 mod reading;
+mod run;
 mod status;
 mod text;
 mod transcript;
@@ -13,5 +14,6 @@ mod verdict;
 
 pub use answering::Answering;
 pub use judging::verdict_on;
+pub use run::run_audit;
 pub use status::AuditStatus;
 pub use verdict::Verdict;
