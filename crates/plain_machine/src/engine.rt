@@ -89,7 +89,7 @@ impl Engine {
         if self.has_transaction(channel) {
             &self.working
         } else {
-            &self.committed
+            self.committed()
         }
     }
 
