@@ -56,18 +56,7 @@ seen-on (None ∷ sessions) (chain ∷ chains) zero there many is = rw (sym is) 
 seen-on (Some session ∷ sessions) (chain ∷ chains) zero there many is = rw (sym is) refl
 seen-on (session ∷ sessions) (chain ∷ chains) (suc channel) there many is = seen-on sessions chains channel there (cc) is
 
--- there is none where the program has none
-pub none-seen : (sessions : List (Option Session)) (chains : List (Option Chain)) (channel : ℕ) → length sessions ≡ length chains → slice_index_or sessions channel None ≡ None
-    → is_some (session_on (sessions_of sessions chains) channel) ≡ true → ⊥
-none-seen sessions chains channel many is there = let none = seen-on sessions chains channel None many is in false≢true (sym (ap (λ (s : Option machine.Session). is_some s) none) ∙ there)
-
--- and it reads what the program's reads
-pub seen-reading : (sessions : List (Option Session)) (chains : List (Option Chain)) (channel : ℕ) (s : Session) → length sessions ≡ length chains → slice_index_or sessions channel None ≡ Some s
-    → reading_on (sessions_of sessions chains) channel ≡ s.reading
-seen-reading sessions chains channel s many is =
-    ap (λ (seen : Option machine.Session). option_map_or (λ (s : machine.Session). s.reading) seen machine.no_reading) (seen-on sessions chains channel (Some s) many is)
-
--- also where a session was just set
+-- what a channel reads where a session was just set
 pub new-reading : (sessions : List (Option Session)) (chains : List (Option Chain)) (channel : ℕ) (old new : Session) → length sessions ≡ length chains → slice_index_or sessions channel None ≡ Some old
     → reading_on (sessions_of (slice_set sessions channel (Some new)) chains) channel ≡ new.reading
 new-reading [] chains channel old new many is = absurd cc
@@ -120,3 +109,40 @@ seen-left stamp (Some s ∷ sessions) (chain ∷ chains) =
     left : (b : Bool) → option_map_or (λ (p : PresentedUser). p.stamp == stamp) s.user false ≡ b → session_seen chain (left_session stamp s) ≡ left_by stamp (session_seen chain s)
     left true is = rw is refl
     left false is = rw is refl
+
+-- The session of a channel as the program finds it, where it stands at its place.
+module _ (sessions : List (Option Session)) (chains : List (Option Chain)) (seen : List (Option machine.Session)) (channel : ℕ) (at : Option Session)
+    (four : (length sessions ≡ 4) × (length chains ≡ 4)) (few : channel < 4) (is : sessions_of sessions chains ≡ seen) (there : at ≡ get_or sessions channel at) where
+  many : length sessions ≡ length chains
+  many = four.0 ∙ sym four.1
+
+  place : (found : Option Session) → get_or sessions channel at ≡ found → slice_index_or sessions channel None ≡ found
+  place found finds = index-there sessions channel at (omega (arith, few, four.0)) there ∙ (there ∙ finds)
+
+  -- It is the one that is seen on the channel,
+  pub found-session : (found : Option Session) → get_or sessions channel at ≡ found → session_on seen channel ≡ option_map (session_seen (chain_on chains channel)) found
+  found-session found finds = ap (λ (seen : List (Option machine.Session)). session_on seen channel) (sym is) ∙ seen-on sessions chains channel found many (place found finds)
+
+  -- so an open channel has one,
+  pub found-none : get_or sessions channel at ≡ None → is_some (session_on seen channel) ≡ true → ⊥
+  found-none finds open-there = false≢true (sym (ap (λ (s : Option machine.Session). is_some s) (found-session None finds)) ∙ open-there)
+
+  -- which reads what the channel reads.
+  pub found-reading : (s : Session) → get_or sessions channel at ≡ Some s → reading_on seen channel ≡ s.reading
+  found-reading s finds = ap (λ (s : Option machine.Session). option_map_or (λ (s : machine.Session). s.reading) s machine.no_reading) (found-session (Some s) finds)
+
+  -- Where another one takes its place, the one that is seen changes,
+  pub found-changed : (change : machine.Session → machine.Session) (old new : Session) → get_or sessions channel at ≡ Some old → ((chain : Option Chain) → session_seen chain new ≡ change (session_seen chain old))
+      → sessions_of (slice_set sessions channel (Some new)) chains ≡ changed_on change seen channel
+  found-changed change old new finds changes =
+      seen-changed change old new sessions chains channel changes (place (Some old) finds) ∙ ap (λ (seen : List (Option machine.Session)). changed_on change seen channel) is
+
+  -- and what the channel reads,
+  pub found-new : (old new : Session) → get_or sessions channel at ≡ Some old → reading_on (sessions_of (slice_set sessions channel (Some new)) chains) channel ≡ new.reading
+  found-new old new finds = new-reading sessions chains channel old new many (place (Some old) finds)
+
+  -- and where there is none, nothing does.
+  pub none-changed : (change : machine.Session → machine.Session) → get_or sessions channel at ≡ None → sessions_of (slice_set sessions channel (get_or sessions channel at)) chains ≡ changed_on change seen channel
+  none-changed change finds =
+      ap (λ (sessions : List (Option Session)). sessions_of sessions chains) (set-again sessions channel at)
+      ∙ (seen-none change sessions chains channel (place None finds) ∙ ap (λ (seen : List (Option machine.Session)). changed_on change seen channel) is)

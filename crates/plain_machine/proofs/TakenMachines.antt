@@ -53,34 +53,46 @@ limit-most committed m is valid =
     let most : m.committed.limit ≤ 1020 = leb-true m.committed.limit 1020 (within_largest m.committed m.committed.limit valid.committed (le-leb m.committed.limit m.committed.limit (omega arith))) in
     subst (λ (db : Database). db.limit ≤ 1020) (sym is) most
 
-module _ (committed working : Database) (transaction : Option ℕ) (sessions after : List (Option Session)) (m : Machine) (octets : List ℕ) (limit : ℕ)
-    (seen : machine_seen committed working transaction sessions ≡ m) (limited : limit ≡ committed.limit) (most : committed.limit ≤ 1020)
-    (takes : (let form = form_of operations octets (are_open sessions) (chain_in sessions) (min limit 1020) in after ≡ sessions_after sessions form)) where
+-- a machine, and its sessions before and after they took octets
+pub record Taking (m : Machine) (octets : List ℕ) : Type 0 where
+  pub committed : Database
+  pub working : Database
+  pub transaction : Option ℕ
+  pub sessions : List (Option Session)
+  pub after : List (Option Session)
+  pub limit : ℕ
+  pub seen : machine_seen committed working transaction sessions ≡ m
+  pub limited : limit ≡ committed.limit
+  pub most : committed.limit ≤ 1020
+  pub takes : after ≡ sessions_after sessions (form_of operations octets (are_open sessions) (chain_in sessions) (min limit 1020))
+
+module _ (m : Machine) (octets : List ℕ) (t : Taking m octets) where
   -- what the octets are
   abbrev its : Form
-  its = form_of operations octets (are_open sessions) (chain_in sessions) (min limit 1020)
+  its = form_of operations octets (are_open t.sessions) (chain_in t.sessions) (min t.limit 1020)
 
+  -- the machine that took them
   abbrev next : Machine
-  next = machine_seen committed working transaction after
+  next = machine_seen t.committed t.working t.transaction t.after
 
   next-taken : next ≡ taken_at m its
   next-taken =
-      ap (machine_seen committed working transaction) takes
-      ∙ (seen-at committed working transaction sessions its
-      ∙ ap (λ (m : Machine). taken_at m its) seen)
+      ap (machine_seen t.committed t.working t.transaction) t.takes
+      ∙ (seen-at t.committed t.working t.transaction t.sessions its
+      ∙ ap (λ (m : Machine). taken_at m its) t.seen)
 
   form-its : form_of operations octets (open_channels m) (command_chain m) m.committed.limit ≡ its
   form-its =
-      let same : committed.limit ≡ min limit 1020 = omega (arith, limited, most) in
-      subst (λ (m : Machine). form_of operations octets (open_channels m) (command_chain m) m.committed.limit ≡ its) seen
-      (ap (form_of operations octets (are_open sessions) (chain_in sessions)) same)
+      let same : t.committed.limit ≡ min t.limit 1020 = omega (arith, t.limited, t.most) in
+      subst (λ (m : Machine). form_of operations octets (open_channels m) (command_chain m) m.committed.limit ≡ its) t.seen
+      (ap (form_of operations octets (are_open t.sessions) (chain_in t.sessions)) same)
 
   -- The step to the octets.
   steps : step m octets ≡ answered next (outcome_of next its)
   steps = step-read m octets its form-its ∙ ap (λ (m : Machine). answered m (outcome_of m its)) (sym next-taken)
 
   next-settled : without_touched next ≡ next
-  next-settled = settled committed working transaction after
+  next-settled = settled t.committed t.working t.transaction t.after
 
   -- A refusal,
   pub refused-step : (word : StatusWord) (reply : Reply) → taken.Refused word ≡ taken_of its → reply ≡ said word
@@ -98,7 +110,7 @@ module _ (committed working : Database) (transaction : Option ℕ) (sessions aft
       let stays : new ≡ without_touched (changing_session without_pending next (channel_named octets)) =
       leaves ∙ (ap (changing_session without_pending next) named ∙ ap (λ (m : Machine). changing_session without_pending m (channel_named octets)) (sym next-settled)) in
       let left : move ≡ left_by_answer (answered next (Ok (done_with next (channel_named octets) []))) = cc (says, stays) in
-      left ∙ ap left_by_answer (ap (answered next) (sym (taken-kept next octets its (named-taken octets (are_open sessions) (chain_in sessions) (min limit 1020)) is)) ∙ sym steps)
+      left ∙ ap left_by_answer (ap (answered next) (sym (taken-kept next octets its (named-taken octets (are_open t.sessions) (chain_in t.sessions) (min t.limit 1020)) is)) ∙ sym steps)
 
   -- and a command that is refused, or carried out.
   module _ (c : Command) (whole : its ≡ a_command c) where
@@ -123,10 +135,10 @@ module _ (committed working : Database) (transaction : Option ℕ) (sessions aft
     -- Its channel is open, at a valid machine.
     pub open-whole : is_channel_open next c.channel ≡ true
     open-whole =
-        let read : slice_get (are_open sessions) c.channel ≡ Some true = subst (λ (form : Form). IfSome (read_on form) (λ channel. slice_get (are_open sessions) channel ≡ Some true)) whole
-        (IfSome-read_on operations octets (are_open sessions) (chain_in sessions) (min limit 1020)) in
-        let at : next ≡ changing_session without_chain (machine_seen committed working transaction sessions) c.channel = next-taken ∙ (ap (taken_at m) whole ∙ ap (λ (m : Machine). changing_session without_chain m c.channel) (sym seen)) in
-        ap (λ (m : Machine). is_channel_open m c.channel) at ∙ stays-open without_chain sessions c.channel read
+        let read : slice_get (are_open t.sessions) c.channel ≡ Some true = subst (λ (form : Form). IfSome (read_on form) (λ channel. slice_get (are_open t.sessions) channel ≡ Some true)) whole
+        (IfSome-read_on operations octets (are_open t.sessions) (chain_in t.sessions) (min t.limit 1020)) in
+        let at : next ≡ changing_session without_chain (machine_seen t.committed t.working t.transaction t.sessions) c.channel = next-taken ∙ (ap (taken_at m) whole ∙ ap (λ (m : Machine). changing_session without_chain m c.channel) (sym t.seen)) in
+        ap (λ (m : Machine). is_channel_open m c.channel) at ∙ stays-open without_chain t.sessions c.channel read
 
   pub valid-next : IsValidMachine m → IsValidMachine next
   valid-next valid = subst IsValidMachine (sym next-taken) (valid-taken m its valid)

@@ -34,7 +34,7 @@ abbrev pub outcome_left : Result Answer StatusWord → Result (Move Machine) Sta
 outcome_left (Ok answer) = Ok (left_by_answer answer)
 outcome_left (Err word) = Err word
 
--- the machine with another database for who has this transaction, or has none
+-- the machine with another database: the one that this transaction works on, or where there is none the committed one
 abbrev pub with_base : Machine → Option Transaction → Database → Machine
 with_base m None db = record m { committed = db }
 with_base m (Some t) db = record m { transaction = Some (record t { working = db }) }

@@ -1,5 +1,5 @@
 // What carries out commands: the committed database and the working one, the open transaction, and the sessions.
-ghost use Rattle.std.specs.Prelude.{◌≡◌, ◌<◌, Bool, IfOk, is_some, true};
+ghost use Rattle.std.specs.Prelude.{◌≡◌, ◌<◌, IfOk, is_some};
 ghost use Rattle.scql_base.specs.Words.{done};
 ghost use Rattle.scql_model.specs.Machine as machine;
 ghost use Rattle.scql_model.specs.Replies.{said};
@@ -17,7 +17,7 @@ use crate::sessions::Sessions;
 use apdu::Reply;
 use eeprom::Heap;
 use plain_database::PlainDatabase;
-use scql_base::{Actor, StatusWord};
+use scql_base::{Actor, PresentedUser, StatusWord};
 use std::alloc::AllocError;
 use std::marker::Model;
 
@@ -89,7 +89,7 @@ impl Engine {
         if self.has_transaction(channel) {
             &self.working
         } else {
-            &self.committed
+            self.committed()
         }
     }
 
@@ -99,8 +99,8 @@ impl Engine {
         ensures { result ≡ machine.actor self.now channel }
     {
         match self.sessions.user(channel) {
-            Some(user) if user.proved => actor_of(self.base(channel), user.stamp),
-            _ => Actor::Public,
+            Some(user) => actor_of(self.base(channel), user),
+            None => Actor::Public,
         }
     }
 
@@ -123,11 +123,14 @@ fn say(reply: &mut Reply, word: StatusWord)
     reply.word = word;
 }
 
-// The user of a stamp, who acts where there is one, else PUBLIC.
-fn actor_of(database: &PlainDatabase, stamp: u32) -> Actor
-    ensures { (proved : Bool) → proved ≡ true → result ≡ machine.actor_of database.now (record { stamp = stamp; proved = proved }) }
+// For whom a session acts that presents a user: the user where proved and still there, else PUBLIC.
+fn actor_of(database: &PlainDatabase, user: PresentedUser) -> Actor
+    ensures { result ≡ machine.actor_of database.now user }
 {
-    match database.user_stamped(stamp) {
+    if !user.proved {
+        return Actor::Public;
+    }
+    match database.user_stamped(user.stamp) {
         Some(user) => Actor::User {
             stamp: user.stamp,
             profile: user.profile,

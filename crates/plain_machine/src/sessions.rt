@@ -122,7 +122,7 @@ impl Sessions {
     {
         match &mut self.channels[channel as usize] {
             Some(session) => read(database, actor, &mut session.reading, command, reply),
-            None => Err(StatusWord::CHANNEL_NOT_SUPPORTED),
+            None => unreachable!(),
         }
     }
 
@@ -144,7 +144,7 @@ impl Sessions {
     {
         match &self.channels[channel as usize] {
             Some(session) => database.change(actor, &session.reading.cursor, operation),
-            None => Err(StatusWord::CHANNEL_NOT_SUPPORTED),
+            None => unreachable!(),
         }
     }
 
@@ -224,6 +224,7 @@ impl Sessions {
     }
 }
 
+// Each of these sessions that presents the user of a stamp has neither user nor cursor any more.
 fn leave_each(sessions: &mut [Option<Session>], stamp: u32)
     ensures { sessions.new ≡ map (option_map (left_session stamp)) sessions.old }
 {

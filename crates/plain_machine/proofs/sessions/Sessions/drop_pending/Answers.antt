@@ -1,19 +1,17 @@
 -- The session of the channel, if it has one, changes.
-use Rattle.std.proofs.Common.{List, Option, ap, refl, arith, ◌∙◌}
-use Rattle.scql_model.specs.Machine as machine
+use Rattle.std.proofs.Common.{refl}
 use Rattle.scql_model.specs.Sessions.{without_pending}
-use Rattle.plain_machine.specs.Sessions.{changed_on, sessions_of}
-use Rattle.plain_machine.specs.declared.session.Session.{Session}
-use Rattle.plain_machine.proofs.SeenSessions.{index-there, seen-changed, seen-none, set-again}
+use Rattle.plain_machine.proofs.SeenSessions.{found-changed, none-changed}
 use Rattle.plain_machine.proofs.sessions.Sessions.drop_pending.Goals.{in-Some, in_default}
 use Rattle.plain_machine.proofs.sessions.Sessions.drop_pending.Goals as goal
 
 pub returns : goal.returns
 returns c =
-    let at = index-there c.self.inside.channels c.args.channel c.index-self-channel.result (omega (arith, c.requires, c.self.invariant.0)) c.index-self-channel.is in
-    let known = ap (λ (seen : List (Option machine.Session)). changed_on without_pending seen c.args.channel) c.self.view_is in
     elim c.match-self-channel.branch [
-      | in-Some w ↦ rw w.self-inside-is (seen-changed without_pending w.in-Some.session (record w.in-Some.session { reading = w.drop_pending.new.self }) c.self.inside.channels c.self.inside.chains c.args.channel (λ chain. rw w.drop_pending.ensures refl) (at ∙ (c.index-self-channel.is ∙ w.in-Some.is)) ∙ known)
-      | in_default w ↦ rw w.self-inside-is (ap (λ (sessions : List (Option Session)). sessions_of sessions c.self.inside.chains) (set-again c.self.inside.channels c.args.channel c.index-self-channel.result)
-          ∙ (seen-none without_pending c.self.inside.channels c.self.inside.chains c.args.channel (at ∙ (c.index-self-channel.is ∙ w.in_default.is)) ∙ known))
+      | in-Some w ↦ rw w.self-inside-is
+          (found-changed c.self.inside.channels c.self.inside.chains c.args.self.now c.args.channel c.index-self-channel.result c.self.invariant c.requires c.self.view_is c.index-self-channel.is
+          without_pending w.in-Some.session (record w.in-Some.session { reading = w.drop_pending.new.self }) w.in-Some.is (λ chain. rw w.drop_pending.ensures refl))
+      | in_default w ↦ rw w.self-inside-is
+          (none-changed c.self.inside.channels c.self.inside.chains c.args.self.now c.args.channel c.index-self-channel.result c.self.invariant c.requires c.self.view_is c.index-self-channel.is
+          without_pending w.in_default.is)
     ]
