@@ -1,5 +1,5 @@
 -- How many exchanges there are.
-use Rattle.std.proofs.Common.{◌≡◌, ℕ, suc, true, false, List, [], ◌∷◌, ◌++◌, length, refl, sym, ap, ◌∙◌, arith}
+use Rattle.std.proofs.Common.{◌≡◌, ℕ, suc, true, false, List, [], ◌∷◌, ◌++◌, length, refl, ap, ◌∙◌}
 use Rattle.audit_run.specs.Transcript.{Entry, input, output, neither, Exchange, entry_of, exchange_at, exchanges_from, is_input}
 
 with_first : (n k : ℕ) (entry : Entry) (rest : List (List ℕ)) (xs ys : List Exchange) → length xs ≡ length ys → length (exchange_at n entry rest ++ xs) ≡ length (exchange_at k entry rest ++ ys)

@@ -1,2 +1,5 @@
 mod Exchanges
+mod Judged
 mod Octets
+mod Said
+mod Showing

@@ -1,5 +1,4 @@
 -- A line of a transcript as code has it.
-use Rattle.std.specs.Prelude.{ℕ, List}
 use Rattle.audit_run.specs.declared.transcript.Entry.{Entry as Line}
 use Rattle.audit_run.specs.declared.transcript.Entry.TheVariants.{Input, Output, Neither}
 use Rattle.audit_run.specs.Transcript.{Entry, input, output, neither}

@@ -1,18 +1,22 @@
 // What was told is held against what a machine says.
 ghost use Rattle.std.specs.Prelude.{◌≡◌, ◌≤◌, ◌++◌, ◌∷◌, [], length, option_map, IfSome, Some, true};
 ghost use Rattle.std.specs.Str.{bytes_eq};
+ghost use Rattle.person.specs.Showing.{Shows};
 ghost use Rattle.scql_model.specs.Machine.{Machine};
 ghost use Rattle.scql_model.specs.Lines.{command_lines, content_effect, content_of, line_step, line_text, lines, taken_line, longest_line, reply_text};
 ghost use Rattle.scql_model.specs.Step.{step};
 ghost use Rattle.audit_run.specs.Transcript as model;
 ghost use Rattle.audit_run.specs.Verdicts.{agreement};
 ghost use Rattle.audit_run.specs.Found.{IsFound};
+ghost use Rattle.audit_run.specs.Progress.{lines_passed, progress_text};
 
 use crate::Answering;
+use crate::progress::{end_progress, show_progress};
 use crate::transcript::Entry;
 use apdu::{LONGEST_COMMAND, LONGEST_REPLY_LINE, LineContent, Reply, read_line, write_reply};
 use arrayvec::ArrayVec;
 use line_input::first_line;
+use person::Person;
 use scql_base::StatusWord;
 
 // How many octets a line has at most that is answered.
@@ -47,23 +51,31 @@ impl Places {
     }
 }
 
-/// The number of the first line of input to which the machine says something else than is told.
-pub fn first_difference<A: Answering>(machine: &mut A, transcript: &[u8]) -> Option<u64>
-    ensures { (m : Machine) → A.stands_for machine.old m → IsFound (A.stands_for machine.new) (agreement m (model.exchanges transcript.now)) result }
+/// The number of the first line of input to which the machine says something else than is told. A person is shown how many lines stand before it.
+pub(crate) fn first_difference<A: Answering, P: Person>(
+    machine: &mut A,
+    transcript: &[u8],
+    person: &mut P,
+) -> Option<u64>
+    ensures found { (m : Machine) → A.stands_for machine.old m → IsFound (A.stands_for machine.new) (agreement m (model.exchanges transcript.now)) result }
+    ensures watched { Shows P.lost P.shown (progress_text (lines_passed transcript.now result)) person.old person.new }
 {
     let mut places = Places::new();
-    let mut number = 1;
+    let mut passed = 0;
     let mut rest = transcript;
     while let Some((line, behind)) = first_line(rest) {
         if let Entry::Input(asked) = Entry::of(line) {
             let said = answer(machine, asked, &mut places);
             if !is_told(behind, said) {
-                return Some(number);
+                end_progress(passed, person);
+                return Some(passed + 1);
             }
         }
+        passed += 1;
+        show_progress(passed, person);
         rest = behind;
-        number += 1;
     }
+    end_progress(passed, person);
     None
 }
 

@@ -3,14 +3,17 @@
 
 mod answering;
 mod comparing;
+mod judging;
+mod progress;
 mod reading;
+mod run;
 mod status;
 mod text;
 mod transcript;
 mod verdict;
 
 pub use answering::Answering;
-pub use comparing::first_difference;
+pub use judging::verdict_on;
+pub use run::run_audit;
 pub use status::AuditStatus;
-pub use transcript::{count_inputs, first_malformed};
 pub use verdict::Verdict;

@@ -46,7 +46,7 @@ impl<'a> Entry<'a> {
 }
 
 /// The number of the first line that has neither mark, or is one of output that no line of input stands right before.
-pub fn first_malformed(transcript: &[u8]) -> Option<u64>
+pub(crate) fn first_malformed(transcript: &[u8]) -> Option<u64>
     ensures { result ≡ model.malformed transcript.now }
 {
     let mut number = 1;
@@ -65,7 +65,7 @@ pub fn first_malformed(transcript: &[u8]) -> Option<u64>
 }
 
 /// How many lines of input there are.
-pub fn count_inputs(transcript: &[u8]) -> u64
+pub(crate) fn count_inputs(transcript: &[u8]) -> u64
     ensures { result ≡ length (model.exchanges transcript.now) }
 {
     let mut count = 0;

@@ -1,7 +1,7 @@
 -- A line of input is one more.
-use Rattle.std.proofs.Common.{◌≡◌, ◌≤◌, true, ℕ, ◌+◌, List, ◌∷◌, length, sym, ap, ◌∙◌, arith}
+use Rattle.std.proofs.Common.{true, ℕ, List, length, sym, ap, ◌∙◌, arith}
 use Rattle.scql_model.specs.Lines.{lines}
-use Rattle.audit_run.specs.Transcript.{exchanges, exchanges_from, entry_of, is_input}
+use Rattle.audit_run.specs.Transcript.{exchanges_from, is_input}
 use Rattle.audit_run.proofs.Exchanges.{count-input, count-other}
 use Rattle.audit_run.proofs.transcript.count_inputs.Goals as goal
 

@@ -1,4 +1,4 @@
-use Rattle.std.proofs.Common.{◌≡◌, ◌≤◌, true, ℕ, ◌+◌, length}
+use Rattle.std.proofs.Common.{◌≡◌, ◌≤◌, true, ◌+◌, length}
 use Rattle.scql_model.specs.Lines.{lines}
 use Rattle.audit_run.specs.Transcript.{exchanges, exchanges_from}
 use Rattle.audit_run.proofs.transcript.count_inputs.Given as goal

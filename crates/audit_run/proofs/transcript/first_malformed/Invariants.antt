@@ -1,4 +1,4 @@
-use Rattle.std.proofs.Common.{◌≡◌, ◌≤◌, true, ℕ, ◌+◌, length}
+use Rattle.std.proofs.Common.{◌≡◌, ◌≤◌, true, ◌+◌, length}
 use Rattle.scql_model.specs.Lines.{lines}
 use Rattle.audit_run.specs.Transcript.{malformed, malformed_from}
 use Rattle.audit_run.proofs.transcript.first_malformed.Given as goal

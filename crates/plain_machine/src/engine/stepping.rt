@@ -1,0 +1,126 @@
+// A step: octets are taken, and the command that they are is carried out.
+ghost use Rattle.std.specs.Prelude.{◌≡◌, ◌<◌, OnErr, true};
+ghost use Rattle.scql_model.specs.Accepting as accepting;
+ghost use Rattle.scql_model.specs.Operations.{kind_of};
+ghost use Rattle.scql_model.specs.Sessions as model;
+ghost use Rattle.scql_model.specs.Step as stepping;
+ghost use Rattle.scql_model.specs.Transactions.{is_kept_waiting, waits};
+ghost use Rattle.scql_model.specs.ValidMachine.{IsValidMachine};
+ghost use Rattle.scql_model.specs.WellFormed.{HasForm, IsWellFormed};
+ghost use Rattle.plain_reading.specs.Outcomes.{ended_with};
+ghost use Rattle.plain_machine.specs.Answers.{left_by_answer, outcome_left};
+
+use crate::engine::channels::channel_meant;
+use crate::engine::{Engine, say};
+use apdu::Reply;
+use apdu_chain::Taken;
+use plain_reading::ReadingCommand;
+use scql_base::{Command, Operation, StatusWord};
+
+impl Engine {
+    /// Answers a command, and becomes the next machine.
+    pub(crate) fn step(&mut self, octets: &[u8], reply: &mut Reply)
+        requires { IsValidMachine self.old }
+        ensures { record { reply = reply.new; after = self.new } ≡ left_by_answer (stepping.step self.old octets.now) }
+    {
+        let limit = self.committed.limit();
+        let mut command = Command {
+            channel: 0,
+            operation: Operation::OpenCursor,
+            le: None,
+        };
+        match self.sessions.take(octets, limit, &mut command) {
+            Taken::Refused { word } => say(reply, word),
+            Taken::Kept => self.finish(channel_named(octets), reply),
+            Taken::Whole => {
+                if let Err(word) = self.carry_out(&command, reply) {
+                    say(reply, word);
+                }
+            }
+        }
+    }
+
+    // An open transaction may stand against a command; else it reads, or does what its operation does.
+    fn carry_out(&mut self, command: &Command, reply: &mut Reply) -> Result<(), StatusWord>
+        requires formed { IsWellFormed command.now }
+        requires open { model.is_channel_open self.old command.now.channel ≡ true }
+        requires valid { IsValidMachine self.old }
+        ensures answers { ended_with result (record { reply = reply.new; after = self.new }) ≡ outcome_left (stepping.carried_out self.old command.now) }
+        ensures same { OnErr result (self.new ≡ self.old) }
+    {
+        let channel = command.channel;
+        if self.keeps_waiting(channel, &command.operation) {
+            return Err(StatusWord::CONDITIONS_NOT_SATISFIED);
+        }
+        match ReadingCommand::of(&command.operation, command.le) {
+            Some(reading) => {
+                self.read(channel, &reading, reply);
+                Ok(())
+            }
+            None => self.operate(channel, &command.operation, reply),
+        }
+    }
+
+    // What an operation does that doesn't read.
+    fn operate(
+        &mut self,
+        channel: u8,
+        operation: &Operation,
+        reply: &mut Reply,
+    ) -> Result<(), StatusWord>
+        requires channel { channel < 4 }
+        requires open { model.is_channel_open self.old channel ≡ true }
+        requires valid { IsValidMachine self.old }
+        requires formed { HasForm operation.now }
+        ensures answers { ended_with result (record { reply = reply.new; after = self.new }) ≡ outcome_left (stepping.operated self.old channel operation.now) }
+        ensures same { OnErr result (self.new ≡ self.old) }
+    {
+        match operation {
+            Operation::Begin => self.begin(channel, reply),
+            Operation::Commit => self.commit(channel, reply),
+            Operation::Rollback => self.roll_back(channel, reply),
+            Operation::PresentUser { name } => self.present_user(channel, name, reply),
+            Operation::DeleteUser { name } => self.delete_user(channel, name, operation, reply),
+            Operation::Verify { secret } => self.verify(channel, secret.as_slice(), reply),
+            Operation::OpenChannel { number } => self.open_channel(channel, *number, reply),
+            Operation::CloseChannel { number } => {
+                self.close_channel(channel, channel_meant(channel, *number), reply)
+            }
+            _ => self.change(channel, operation, reply),
+        }
+    }
+
+    // Whether the open transaction keeps a command waiting.
+    fn keeps_waiting(&self, channel: u8, operation: &Operation) -> bool
+        ensures { result ≡ is_kept_waiting (waits (kind_of operation.now)) self.now.transaction channel }
+    {
+        let Some(own) = self.transaction else {
+            return false;
+        };
+        match operation {
+            Operation::DeclareCursor { .. }
+            | Operation::OpenCursor
+            | Operation::Next
+            | Operation::Fetch
+            | Operation::FetchNext
+            | Operation::GetResponse
+            | Operation::OpenChannel { .. }
+            | Operation::CloseChannel { .. } => false,
+            Operation::PresentUser { .. }
+            | Operation::Verify { .. }
+            | Operation::DeleteUser { .. } => true,
+            _ => own != channel,
+        }
+    }
+}
+
+// The channel that the class of a command names.
+fn channel_named(command: &[u8]) -> u8
+    ensures named { result ≡ accepting.channel_named command.now }
+    ensures few { result < 4 }
+{
+    match command {
+        [class, ..] => class % 4,
+        [] => 0,
+    }
+}

@@ -1,0 +1,10 @@
+//! The table machine on plain lists, on neither store nor card. It takes memory only when it is made.
+#![tactic(auto)]
+
+mod engine;
+mod machine;
+mod same;
+mod session;
+mod sessions;
+
+pub use machine::PlainMachine;
