@@ -12,8 +12,8 @@ use Rattle.table_copy.specs.Copying.{CopiesSo, StandsAt, StaysAt}
 use Rattle.table_copy.specs.declared.copy_end.CopyEnd.{CopyEnd}
 use Rattle.table_copy.specs.declared.copy_end.CopyEnd.TheVariants.{Copied, SourceRefused, DestRefused, SourceMute, DestMute}
 use Rattle.copy_run.specs.declared.names.CopyNames.{CopyNames}
-use Rattle.copy_run.specs.Copies.{copy_for, copy_to, presented}
-use Rattle.card_asking.specs.Presenting.{IsBehind}
+use Rattle.copy_run.specs.Copies.{copy_for, copy_to}
+use Rattle.card_asking.specs.Presenting.{IsBehind, presented}
 
 abbrev refused : CopyEnd → Copy
 refused end = record { ends = end; commits = [] }

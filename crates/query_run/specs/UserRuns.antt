@@ -1,5 +1,5 @@
 -- A run over the queries of a user: the user is presented, and then the lines are answered, or the refusal is told.
-use Rattle.std.specs.Prelude.{◌≡◌, ◌⊎◌, ℕ, ◌≤◌, Bool, true, false, List, [], length, Option, Some, IsSome}
+use Rattle.std.specs.Prelude.{◌≡◌, ◌⊎◌, ℕ, ◌≤◌, true, false, List, [], length, Option}
 use Rattle.eeprom.specs.Chip.{Becomes, Chip, Throughout}
 use Rattle.eeprom.specs.Output.{Prints}
 use Rattle.scql_base.specs.declared.words.StatusWord.{StatusWord}
@@ -15,7 +15,7 @@ use Rattle.card_asking.specs.Presenting.{presented}
 use Rattle.terminal.specs.Failing.{IsStart}
 use Rattle.record_store.specs.Recovery.{KeepsStore}
 use Rattle.program.specs.declared.status.Status.{Status}
-use Rattle.program.specs.declared.status.Status.TheVariants.{Refused, Eeprom, WriteFault, NoMemory, NotACard}
+use Rattle.program.specs.declared.status.Status.TheVariants.{Refused, Eeprom, WriteFault, NoMemory}
 use Rattle.program.specs.Ends.{RunsTo}
 use Rattle.query_run.specs.QueryLines.{query_lines}
 use Rattle.query_run.specs.Running.{PrintsQueries}
@@ -59,9 +59,10 @@ PrintsFor answer status source after start end before now =
     ((is_done answer.reply.word ≡ true) × Becomes (λ input left. PrintsQueries answer.machine input status before now) start end)
     ⊎ ((is_done answer.reply.word ≡ false) × (status ≡ Refused) × (after ≡ source) × Prints (closing_text (closings.Refused answer.reply.word)) before now)
 
--- The input was read to its end; or none of it was, since the user was refused.
-abbrev pub ReadsAll : {T : Type 0} → Status → T → T → Option (List ℕ) → Option (List ℕ) → Type 0
-ReadsAll status source after start end = Becomes (λ input left. (left ≡ []) × (length input ≤ longest_input)) start end ⊎ ((status ≡ Refused) × (after ≡ source))
+-- The input was read to its end; or none of it was, and a refusal was told.
+abbrev pub ReadsAll : {T : Type 0} → Status → T → T → Option (List ℕ) → Option (List ℕ) → Option (List ℕ) → Option (List ℕ) → Type 0
+ReadsAll status source after start end before now =
+    Becomes (λ input left. (left ≡ []) × (length input ≤ longest_input)) start end ⊎ ((word : StatusWord) × (after ≡ source) × TellsRefusal word status before now)
 
 -- At each moment of it the image opens to this database.
 abbrev pub StaysOpen : Database → Chip → Chip → Type 0

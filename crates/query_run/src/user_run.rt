@@ -54,7 +54,8 @@ fn answer_for<S: Source, D: ToldDesk, P: Person>(
     ensures prints { (m : Machine) → D.is_at desk m → reads_all (program_status result.0) ≡ true
         → PrintsFor (presented m user.now) (program_status result.0) source.old source.new (S.left source.old) (S.left source.new) (D.chip desk).still.given (D.chip result.1).still.given }
     ensures stays { (m : Machine) → D.is_at desk m → IsSome (D.chip result.1).still.given → IsSome (S.left source.new) → StaysOpen m.committed (D.chip desk) (D.chip result.1) }
-    ensures whole { reads_all (program_status result.0) ≡ true → ReadsAll (program_status result.0) source.old source.new (S.left source.old) (S.left source.new) }
+    ensures whole { reads_all (program_status result.0) ≡ true
+        → ReadsAll (program_status result.0) source.old source.new (S.left source.old) (S.left source.new) (D.chip desk).still.given (D.chip result.1).still.given }
     ensures too_long { result.0 ≡ QueryStatus.TooLong → Becomes (λ input left. longest_input < length input) (S.left source.old) (S.left source.new) }
     ensures ends { EndsBy (program_status result.0)
         (record { eeprom = D.faults desk; source = S.source_faults source.old; outlet = D.sink_faults desk })
@@ -88,7 +89,8 @@ fn answer_on<S: Source, B: Bench, P: Person>(
     ensures prints { (m : Machine) → IsAt card (B.chip bench.old) m → reads_all (program_status result.0) ≡ true
         → PrintsFor (presented m user.now) (program_status result.0) source.old source.new (S.left source.old) (S.left source.new) (B.chip bench.old).still.given (B.chip bench.new).still.given }
     ensures stays { (m : Machine) → IsAt card (B.chip bench.old) m → IsSome (B.chip bench.new).still.given → IsSome (S.left source.new) → StaysOpen m.committed (B.chip bench.old) (B.chip bench.new) }
-    ensures whole { reads_all (program_status result.0) ≡ true → ReadsAll (program_status result.0) source.old source.new (S.left source.old) (S.left source.new) }
+    ensures whole { reads_all (program_status result.0) ≡ true
+        → ReadsAll (program_status result.0) source.old source.new (S.left source.old) (S.left source.new) (B.chip bench.old).still.given (B.chip bench.new).still.given }
     ensures too_long { result.0 ≡ QueryStatus.TooLong → Becomes (λ input left. longest_input < length input) (S.left source.old) (S.left source.new) }
     ensures ends { EndsBy (program_status result.0)
         (record { eeprom = B.faults bench.old; source = S.source_faults source.old; outlet = B.sink_faults bench.old })
@@ -125,7 +127,7 @@ pub fn run_query<S: Source, B: Bench, P: Person>(
     // The card was opened at the database to which the image opens, the user presented, and from there on the lines answered; or it wasn't opened, for a fault or want of memory.
     ensures runs { (image : List ℕ) (db : Database) → (B.chip bench.old).image ≡ Some image → Opens image db
         → RunsFor B.chip B.faults db user (program_status result.0) source.old source.new (S.left source.old) (S.left source.new) bench.old bench.new }
-    // Where no device failed and there was memory, each line printed what follows from what the user's channel is shown; or the user was refused, and that alone was printed.
+    // Where it read its input to its end, or the user was refused, each line printed what follows from what the user's channel is shown; or that refusal alone was printed.
     ensures prints { (image : List ℕ) (db : Database) → (B.chip bench.old).image ≡ Some image → Opens image db → reads_all (program_status result.0) ≡ true
         → PrintsFor (presented (start db) user) (program_status result.0) source.old source.new (S.left source.old) (S.left source.new) (B.chip bench.old).still.given (B.chip bench.new).still.given }
     // At each moment, however the run ends, the image opens to what it opened to, where it is told what was given and what is left of the input.
@@ -136,7 +138,8 @@ pub fn run_query<S: Source, B: Bench, P: Person>(
     // and so it ends wherever the image opens to no database, unless the EEPROM fails or there is no memory.
     ensures no_card { (image : List ℕ) → (B.chip bench.old).image ≡ Some image → OpensToNone image
         → ((result.0 ≡ QueryStatus.NotACard) ⊎ IsWithout (program_status result.0)) × IsUnopened source.old source.new (B.chip bench.old) (B.chip bench.new) }
-    ensures whole { reads_all (program_status result.0) ≡ true → ReadsAll (program_status result.0) source.old source.new (S.left source.old) (S.left source.new) }
+    ensures whole { reads_all (program_status result.0) ≡ true
+        → ReadsAll (program_status result.0) source.old source.new (S.left source.old) (S.left source.new) (B.chip bench.old).still.given (B.chip bench.new).still.given }
     ensures too_long { result.0 ≡ QueryStatus.TooLong → Becomes (λ input left. longest_input < length input) (S.left source.old) (S.left source.new) }
     // Each fault has its cause, and without one the counts stay.
     ensures ends { EndsBy (program_status result.0)

@@ -4,7 +4,7 @@ use Rattle.std.specs.Prelude.{IfSome}
 use Rattle.eeprom.specs.Chip.{Still}
 use Rattle.card.specs.Making.{OpensToNone}
 use Rattle.query_run.specs.Statuses.{program_status}
-use Rattle.query_run.specs.UserRuns.{IsWithout}
+use Rattle.query_run.specs.UserRuns.{IsWithout, ReadsAll}
 use Rattle.query_run.specs.declared.status.QueryStatus.{QueryStatus}
 use Rattle.query_run.proofs.UserRan.{without-of}
 use Rattle.query_run.proofs.user_run.run_query.Goals as goal
@@ -16,3 +16,9 @@ returns-in-Err-clause-runs g c = λ image db told opens.
           (without-of c.in-Err.refusal (λ is. subst (λ (o : Option (List ℕ)). IfSome o OpensToNone) told (c.in-Err.ensures.not_a_card (ap Err is)) db opens)),
       record { unread = refl; silent = ap (λ (still : Still). still.given) c.open.ensures.recovers.store.keeps.still; keeps = c.open.ensures.recovers.store },
     )
+
+-- nothing was given as the card was opened
+pub returns-in-Ok-clause-whole : goal.returns-in-Ok-clause-whole
+returns-in-Ok-clause-whole g c = λ whole.
+    subst (λ (before : Option (List ℕ)). ReadsAll (program_status c.answer_on.result.0) c.args.source.now c.answer_on.new.source (g.S.Source.left c.args.source.now) (g.S.Source.left c.answer_on.new.source) before
+    (g.B.Eeprom.chip c.answer_on.new.bench).still.given) (ap (λ (still : Still). still.given) c.open.ensures.recovers.store.keeps.still) (c.answer_on.ensures.whole whole)
