@@ -2,4 +2,3 @@ mod Exchanges
 mod Judged
 mod Octets
 mod Said
-mod Showing

@@ -1,29 +1,25 @@
 -- What a person is shown of an audit.
-use Rattle.std.specs.Prelude.{ℕ, zero, suc, ◌-◌, ◌%◌, ◌==◌, nat_le, true, List, [], ◌∷◌, ◌++◌, length, Option, Some, None, if◌then◌else◌, codes}
-use Rattle.std.specs.Fmt.{decimal}
+use Rattle.std.specs.Prelude.{ℕ, ◌-◌, true, List, [], length, Option, Some, None, codes}
+use Rattle.person.specs.Progress.{counts_shown, progress_text}
 use Rattle.scql_model.specs.Lines.{lines}
 use Rattle.audit_run.specs.declared.verdict.Verdict.{Verdict}
 use Rattle.audit_run.specs.declared.verdict.Verdict.TheVariants.{NotACard, Malformed, Differs}
 
--- How many lines of the transcript the machine has gone through. The carriage return lets it stand in place of the one before.
-abbrev pub progress_line : ℕ → List ℕ
-progress_line count = 0x0D ∷ (codes "line " ++ decimal count)
+-- how many lines of the transcript the machine has gone through
+abbrev pub words : List ℕ
+words = codes "line "
 
--- the line is written anew each 4,096 lines
-abbrev pub line_shown : ℕ → List ℕ
-line_shown count = if count % 4096 == 0 then progress_line count else []
+-- it is told anew each 4,096 lines
+abbrev pub each : ℕ
+each = 4096
 
 -- so many lines, one after another
 abbrev pub lines_shown : ℕ → List ℕ
-lines_shown zero = []
-lines_shown (suc count) = lines_shown count ++ line_shown (suc count)
+lines_shown count = counts_shown words each count
 
--- it stands there from 4,096 lines on, and only then is it ended
-abbrev pub end_shown : ℕ → List ℕ
-end_shown count = if nat_le 4096 count then codes "\n" else []
-
-abbrev pub progress_text : ℕ → List ℕ
-progress_text count = lines_shown count ++ end_shown count
+-- so many in all
+abbrev pub passed_text : ℕ → List ℕ
+passed_text count = progress_text words each count
 
 -- the lines before the first that differs, or all of them
 abbrev pub lines_passed : List ℕ → Option ℕ → ℕ
@@ -34,5 +30,5 @@ lines_passed transcript None = length (lines transcript true)
 abbrev pub watched_text : List ℕ → Verdict → List ℕ
 watched_text transcript NotACard = []
 watched_text transcript (Malformed number) = []
-watched_text transcript (Differs number) = progress_text (lines_passed transcript (Some number))
-watched_text transcript verdict = progress_text (lines_passed transcript None)
+watched_text transcript (Differs number) = passed_text (lines_passed transcript (Some number))
+watched_text transcript verdict = passed_text (lines_passed transcript None)

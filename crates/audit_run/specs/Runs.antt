@@ -8,7 +8,7 @@ use Rattle.audit_run.specs.declared.status.AuditStatus.{AuditStatus}
 use Rattle.audit_run.specs.declared.status.AuditStatus.TheVariants.{Yes, No, ReadFault, WriteFault, NoMemory, TooLong}
 use Rattle.audit_run.specs.declared.verdict.Verdict.{Verdict}
 use Rattle.audit_run.specs.Ends.{status_of}
-use Rattle.audit_run.specs.Progress.{progress_text, watched_text}
+use Rattle.audit_run.specs.Progress.{passed_text, watched_text}
 use Rattle.audit_run.specs.Reading.{AreRead, AreStopped, Sources}
 use Rattle.audit_run.specs.Verdicts.{IsVerdict, verdict_text}
 
@@ -46,7 +46,7 @@ Stops status old new = Unit {0}
 abbrev pub Watches : {P : Type 0} → (P → Bool) → (P → Option (List ℕ)) → AuditStatus → P → P → Type 0
 Watches lost shown ReadFault person after = after ≡ person
 Watches lost shown TooLong person after = after ≡ person
-Watches lost shown status person after = (count : ℕ) × Shows lost shown (progress_text count) person after
+Watches lost shown status person after = (count : ℕ) × Shows lost shown (passed_text count) person after
 
 -- The outlet failed, and counted that, where the status says so; and else its count stays.
 abbrev pub CountsSaying : AuditStatus → ℕ → ℕ → Type 0

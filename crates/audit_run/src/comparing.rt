@@ -8,10 +8,10 @@ ghost use Rattle.scql_model.specs.Step.{step};
 ghost use Rattle.audit_run.specs.Transcript as model;
 ghost use Rattle.audit_run.specs.Verdicts.{agreement};
 ghost use Rattle.audit_run.specs.Found.{IsFound};
-ghost use Rattle.audit_run.specs.Progress.{lines_passed, progress_text};
+ghost use Rattle.audit_run.specs.Progress.{lines_passed, passed_text};
 
 use crate::Answering;
-use crate::progress::{end_progress, show_progress};
+use crate::progress::PASSED;
 use crate::transcript::Entry;
 use apdu::{LONGEST_COMMAND, LONGEST_REPLY_LINE, LineContent, Reply, read_line, write_reply};
 use arrayvec::ArrayVec;
@@ -58,7 +58,7 @@ pub(crate) fn first_difference<A: Answering, P: Person>(
     person: &mut P,
 ) -> Option<u64>
     ensures found { (m : Machine) → A.stands_for machine.old m → IsFound (A.stands_for machine.new) (agreement m (model.exchanges transcript.now)) result }
-    ensures watched { Shows P.lost P.shown (progress_text (lines_passed transcript.now result)) person.old person.new }
+    ensures watched { Shows P.lost P.shown (passed_text (lines_passed transcript.now result)) person.old person.new }
 {
     let mut places = Places::new();
     let mut passed = 0;
@@ -67,15 +67,15 @@ pub(crate) fn first_difference<A: Answering, P: Person>(
         if let Entry::Input(asked) = Entry::of(line) {
             let said = answer(machine, asked, &mut places);
             if !is_told(behind, said) {
-                end_progress(passed, person);
+                PASSED.end(passed, person);
                 return Some(passed + 1);
             }
         }
+        PASSED.show(passed, passed + 1, person);
         passed += 1;
-        show_progress(passed, person);
         rest = behind;
     }
-    end_progress(passed, person);
+    PASSED.end(passed, person);
     None
 }
 

@@ -1,12 +1,14 @@
-//! A person at a screen: what is shown there beside a program's output, lines of counts, and a prompt where lines are typed.
+//! A person at a screen: what is shown there beside a program's output, lines of counts, how far a run has come, and a prompt where lines are typed.
 #![tactic(auto)]
 
 mod counts;
 mod person;
+mod progress;
 mod prompted;
 mod watcher;
 
 pub use counts::{put, put_count};
 pub use person::Person;
+pub use progress::{LONGEST_WORDS, Progress};
 pub use prompted::Prompted;
 pub use watcher::Watcher;

@@ -14,7 +14,7 @@ use Rattle.query.specs.declared.query.AskedObject.{AskedObject}
 use Rattle.query_run.specs.declared.unfetched.Unfetched.{Unfetched}
 use Rattle.query_run.specs.declared.unfetched.Unfetched.TheVariants as unfetched
 use Rattle.query_run.specs.Fetching.{FetchesSo, ReadsAs}
-use Rattle.query_run.specs.Progress.{ShowsAllFetched, ShowsFetched, progress_text, progress_texts}
+use Rattle.query_run.specs.Progress.{ShowsAllFetched, ShowsFetched, fetched_text, fetched_texts}
 use Rattle.query_run.specs.QueryText.{rows_shown, tables_shown}
 
 -- What is shown of an object follows from the objects that are shown.
@@ -99,30 +99,30 @@ pub left-first : (objects : List AskedObject) (i : ℕ) (asked : AskedObject) �
 left-first objects i asked within is = rw add-one (drop-cons objects i asked within ∙ ap (λ (first : AskedObject). first ∷ drop (suc i) objects) (sym is))
 
 -- What is shown.
-texts-more : (counts : List ℕ) (n : ℕ) → progress_texts (counts ++ n ∷ []) ≡ progress_texts counts ++ progress_text n
+texts-more : (counts : List ℕ) (n : ℕ) → fetched_texts (counts ++ n ∷ []) ≡ fetched_texts counts ++ fetched_text n
 texts-more counts n =
-    ap concat (map-append progress_text counts (n ∷ [])) ∙ (concat-append (map progress_text counts) (progress_text n ∷ []) ∙ ap (λ (text : List ℕ). progress_texts counts ++ text) (append-nil (progress_text n)))
+    ap concat (map-append fetched_text counts (n ∷ [])) ∙ (concat-append (map fetched_text counts) (fetched_text n ∷ []) ∙ ap (λ (text : List ℕ). fetched_texts counts ++ text) (append-nil (fetched_text n)))
 
 module _ {P : Type 0} (lost : P → Bool) (shown : P → Option (List ℕ)) where
-  pub none-fetched : (tables : List (List Values)) (person : P) → tables ≡ [] → Shows lost shown (progress_texts (map length tables)) person person
-  none-fetched tables person none = subst (λ (tables : List (List Values)). Shows lost shown (progress_texts (map length tables)) person person) (sym none) (shows-none lost shown person)
+  pub none-fetched : (tables : List (List Values)) (person : P) → tables ≡ [] → Shows lost shown (fetched_texts (map length tables)) person person
+  none-fetched tables person none = subst (λ (tables : List (List Values)). Shows lost shown (fetched_texts (map length tables)) person person) (sym none) (shows-none lost shown person)
 
-  shown-more : (counts : List ℕ) (n : ℕ) (a b c : P) → Shows lost shown (progress_texts counts) a b → Shows lost shown (progress_text n) b c → Shows lost shown (progress_texts (counts ++ n ∷ [])) a c
+  shown-more : (counts : List ℕ) (n : ℕ) (a b c : P) → Shows lost shown (fetched_texts counts) a b → Shows lost shown (fetched_text n) b c → Shows lost shown (fetched_texts (counts ++ n ∷ [])) a c
   shown-more counts n a b c first second =
-      subst (λ (text : List ℕ). Shows lost shown text a c) (sym (texts-more counts n)) (shows-then lost shown (progress_texts counts) (progress_text n) a b c first second)
+      subst (λ (text : List ℕ). Shows lost shown text a c) (sym (texts-more counts n)) (shows-then lost shown (fetched_texts counts) (fetched_text n) a b c first second)
 
-  pub table-shown : (tables after : List (List Values)) (rows : List Values) (a b c : P) → after ≡ tables ++ rows ∷ [] → Shows lost shown (progress_texts (map length tables)) a b
-      → ShowsFetched lost shown (λ (fetched : List Values). fetched) (Ok rows) b c → Shows lost shown (progress_texts (map length after)) a c
+  pub table-shown : (tables after : List (List Values)) (rows : List Values) (a b c : P) → after ≡ tables ++ rows ∷ [] → Shows lost shown (fetched_texts (map length tables)) a b
+      → ShowsFetched lost shown (λ (fetched : List Values). fetched) (Ok rows) b c → Shows lost shown (fetched_texts (map length after)) a c
   table-shown tables after rows a b c is first second =
-      subst (λ (counts : List ℕ). Shows lost shown (progress_texts counts) a c)
+      subst (λ (counts : List ℕ). Shows lost shown (fetched_texts counts) a c)
       (ap (λ (n : ℕ). map length tables ++ n ∷ []) (sym second.counted) ∙ (sym (map-append length tables (rows ∷ [])) ∙ ap (map length) (sym is)))
       (shown-more (map length tables) second.count a b c first second.shows)
 
-  pub ended-shown : {A : Type 0} (view : A → List (List Values)) (end : Unfetched) (tables : List (List Values)) (a b c : P) → Shows lost shown (progress_texts (map length tables)) a b
+  pub ended-shown : {A : Type 0} (view : A → List (List Values)) (end : Unfetched) (tables : List (List Values)) (a b c : P) → Shows lost shown (fetched_texts (map length tables)) a b
       → ShowsFetched lost shown (λ (fetched : List Values). fetched) (Err end) b c → ShowsAllFetched lost shown view (Err end) a c
   ended-shown view end tables a b c first second = record { counts = map length tables ++ second.count ∷ []; counted = tt; shows = shown-more (map length tables) second.count a b c first second.shows }
 
   -- there was no memory for a table that was fetched
-  pub fetched-unadded : {A : Type 0} (view : A → List (List Values)) (tables : List (List Values)) (rows : List Values) (a b c : P) → Shows lost shown (progress_texts (map length tables)) a b
+  pub fetched-unadded : {A : Type 0} (view : A → List (List Values)) (tables : List (List Values)) (rows : List Values) (a b c : P) → Shows lost shown (fetched_texts (map length tables)) a b
       → ShowsFetched lost shown (λ (fetched : List Values). fetched) (Ok rows) b c → ShowsAllFetched lost shown view (Err unfetched.NoMemory) a c
   fetched-unadded view tables rows a b c first second = record { counts = map length tables ++ second.count ∷ []; counted = tt; shows = shown-more (map length tables) second.count a b c first second.shows }

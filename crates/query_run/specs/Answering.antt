@@ -15,7 +15,7 @@ use Rattle.query_run.specs.declared.unfetched.Unfetched.{Unfetched}
 use Rattle.query_run.specs.declared.unfetched.Unfetched.TheVariants as unfetched
 use Rattle.query_run.specs.Answers.{IsPrintable, found_text, is_refusal}
 use Rattle.query_run.specs.Fetching.{ReadsAs}
-use Rattle.query_run.specs.Progress.{progress_texts}
+use Rattle.query_run.specs.Progress.{fetched_texts}
 use Rattle.query_run.specs.QueryLines.{is_refused}
 use Rattle.query_run.specs.QueryText.{kept_text, most_combinations, query_text}
 
@@ -34,7 +34,7 @@ pub record FindsSo {L : Type 0} (is_at : L → Machine → Type 0) (m : Machine)
 -- a person was shown how many rows were fetched of some objects
 pub record ShowsCounts {P : Type 0} (lost : P → Bool) (shown : P → Option (List ℕ)) (person after : P) : Type 0 where
   pub counts : List ℕ
-  pub shows : Shows lost shown (progress_texts counts) person after
+  pub shows : Shows lost shown (fetched_texts counts) person after
 
 -- A line was answered that has this text, and is refused or not.
 pub record IsAnswered {L : Type 0} (is_at : L → Machine → Type 0) (given : L → Option (List ℕ)) (m : Machine) (text : List ℕ) (refused was : Bool) (old new : L) : Type 0 where

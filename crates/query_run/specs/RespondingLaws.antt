@@ -11,7 +11,7 @@ use Rattle.scql_model.specs.Opens.{Opens}
 use Rattle.person.specs.Showing.{Shows}
 use Rattle.person.proofs.Texts.{shows-none, shows-then}
 use Rattle.query_run.specs.Answering.{ShowsCounts}
-use Rattle.query_run.specs.Progress.{progress_text, progress_texts}
+use Rattle.query_run.specs.Progress.{fetched_text, fetched_texts}
 use Rattle.query_run.specs.QueryLines.{Asking, query_lines}
 use Rattle.query_run.specs.Responding.{AsksSo, LeadsOn}
 
@@ -30,8 +30,8 @@ pub counts-then : {P : Type 0} (lost : P → Bool) (shown : P → Option (List �
 counts-then lost shown a b c first second = record {
   counts = first.counts ++ second.counts;
   shows = subst (λ (text : List ℕ). Shows lost shown text a c)
-      (sym (ap concat (map-append progress_text first.counts second.counts) ∙ concat-append (map progress_text first.counts) (map progress_text second.counts)))
-      (shows-then lost shown (progress_texts first.counts) (progress_texts second.counts) a b c first.shows second.shows);
+      (sym (ap concat (map-append fetched_text first.counts second.counts) ∙ concat-append (map fetched_text first.counts) (map fetched_text second.counts)))
+      (shows-then lost shown (fetched_texts first.counts) (fetched_texts second.counts) a b c first.shows second.shows);
 }
 
 pub leads-none : {L P : Type 0} (goes_on : L → L → Type 0) (lost : P → Bool) (shown : P → Option (List ℕ)) (link : L) (person : P) → goes_on link link → LeadsOn goes_on lost shown link link person person

@@ -19,7 +19,7 @@ ghost use Rattle.query_run.specs.Progress.{ShowsAllFetched, ShowsFetched};
 ghost use Rattle.query_run.specs.QueryText.{rows_shown, tables_shown};
 
 use crate::Unfetched;
-use crate::progress::{end_progress, show_progress};
+use crate::progress::FETCHED;
 use apdu::Reply;
 use arrayvec::ArrayVec;
 use card_asking::follow;
@@ -130,16 +130,16 @@ fn fetch_rows<L: CardLink, P: Person>(
         word: StatusWord::DONE,
     };
     loop {
-        let count = rows.len();
+        let count = rows.len() as u64;
         if let Step::Done { closing } = &*step {
-            end_progress(count, person);
+            FETCHED.end(count, person);
             return fetched(*closing);
         }
         if let Err(end) = take_row(link, plan, step, &mut reply, rows) {
-            end_progress(count, person);
+            FETCHED.end(count, person);
             return Err(end);
         }
-        show_progress(count, rows.len(), person);
+        FETCHED.show(count, rows.len() as u64, person);
     }
 }
 

@@ -1,8 +1,6 @@
--- What a copy shows, row after row.
-use Rattle.std.proofs.Common.{◌≡◌, ℕ, suc, ◌+◌, ◌≤◌, ◌<◌, arith, Bool, true, false, List, [], Option, refl, sym, subst, append-nil}
-use Rattle.std.specs.Prelude.{if◌then◌else◌}
-use Rattle.person.specs.Showing.{Shows}
-use Rattle.person.proofs.Texts.{shows-none, shows-then}
+-- How many rows a copy has passed, turn after turn.
+use Rattle.std.proofs.Common.{◌≡◌, ◌⊎◌, ℕ, suc, ◌+◌, ◌≤◌, ◌<◌, arith, Bool, true, false, refl, inl, inr}
+use Rattle.std.specs.Int.{from_bool}
 use Rattle.planner.specs.declared.stage.Stage.{Stage}
 use Rattle.planner.specs.declared.step.Step.{Step}
 use Rattle.planner.specs.declared.step.Step.TheVariants.{Send, Row, ResetCard, Done}
@@ -12,30 +10,19 @@ use Rattle.planner.specs.declared.closing.Closing.{Closing}
 use Rattle.planner.specs.declared.stage.Stage.TheVariants.{Start, Alone, Beginning, Declaring, Opening, Fetching, Changing, Moving, Committing, RollingBack, Ended}
 use Rattle.card_asking.specs.Following.{to_go}
 use Rattle.table_copy.specs.Filling.{with_row}
-use Rattle.table_copy.specs.Progress.{end_shown, progress_text, row_shown, rows_shown}
 
-module _ {P : Type 0} (lost : P → Bool) (shown : P → Option (List ℕ)) where
-  pub none-passed : (person : P) → Shows lost shown (rows_shown 0) person person
-  none-passed person = shows-none lost shown person
+-- A step has one row or none.
+pub step-rows : (had_row : Bool) (rows one : ℕ) → one ≡ from_bool had_row → rows + one ≡ with_row had_row rows
+step-rows true rows one is = omega (arith, is)
+step-rows false rows one is = omega (arith, is)
 
-  pub none-copied : (person : P) → Shows lost shown (progress_text 0) person person
-  none-copied person = shows-none lost shown person
+pub one-or-none : (had_row : Bool) (rows one : ℕ) → one ≡ from_bool had_row → (rows + one ≡ rows) ⊎ (rows + one ≡ suc rows)
+one-or-none true rows one is = inr (omega (arith, is))
+one-or-none false rows one is = inl (omega (arith, is))
 
-  -- a step more
-  pub row-passed : (had_row : Bool) (before after : ℕ) (a b c : P) → after ≡ with_row had_row before → Shows lost shown (rows_shown before) a b → Shows lost shown (if had_row then row_shown after else []) b c
-      → Shows lost shown (rows_shown after) a c
-  row-passed true before after a b c is first second =
-      let same : after ≡ suc before = omega (arith, is) in
-      subst (λ (rows : ℕ). Shows lost shown (rows_shown rows) a c) (sym same)
-      (shows-then lost shown (rows_shown before) (row_shown (suc before)) a b c first (subst (λ (rows : ℕ). Shows lost shown (row_shown rows) b c) same second))
-  row-passed false before after a b c is first second =
-      let same : after ≡ before = omega (arith, is) in
-      subst (λ (rows : ℕ). Shows lost shown (rows_shown rows) a c) (sym same)
-      (subst (λ (text : List ℕ). Shows lost shown text a c) (append-nil (rows_shown before)) (shows-then lost shown (rows_shown before) [] a b c first second))
-
-  -- and at last the line is ended
-  pub copy-ended : (rows : ℕ) (a b c : P) → Shows lost shown (rows_shown rows) a b → Shows lost shown (end_shown rows) b c → Shows lost shown (progress_text rows) a c
-  copy-ended rows a b c first second = shows-then lost shown (rows_shown rows) (end_shown rows) a b c first second
+pub one-at-most : (had_row : Bool) (one : ℕ) → one ≡ from_bool had_row → one ≤ 1
+one-at-most true one is = omega (arith, is)
+one-at-most false one is = omega (arith, is)
 
 -- A plan has few steps.
 turns-few : (stage : Stage) (p : Planned) → turns_at stage p ≤ 10250

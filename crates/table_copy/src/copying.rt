@@ -17,7 +17,7 @@ ghost use Rattle.table_copy.specs.Progress.{ShowsCopy, ShowsRows};
 
 use crate::CopyEnd;
 use crate::dest::{begin, commit, insert, roll_back};
-use crate::progress::Progress;
+use crate::progress::COPIED;
 use crate::source::{advance, goes_on, open, selection};
 use apdu::Reply;
 use arrayvec::ArrayVec;
@@ -100,18 +100,19 @@ fn insert_rows<S: CardLink, D: CardLink, P: Person>(
     ensures dest_rest { HasGoneOn D.mark D.keeps D.goes_on dest.old dest.new }
     ensures shows { ShowsRows P.lost P.shown result person.old person.new }
 {
-    let mut progress = Progress::new();
+    let mut rows = 0;
     loop {
         if let Step::Done { .. } = &*step {
-            progress.end(person);
-            return counted(progress.rows, goes_on(step));
+            COPIED.end(u64::from(rows), person);
+            return counted(rows, goes_on(step));
         }
-        let had_row = has_row(step);
+        let with_row = rows + u32::from(has_row(step));
         if let Err(end) = turn(source, dest, table, plan, step, reply) {
-            progress.end(person);
+            COPIED.end(u64::from(rows), person);
             return Err(end);
         }
-        progress.pass(had_row, person);
+        COPIED.show(u64::from(rows), u64::from(with_row), person);
+        rows = with_row;
     }
 }
 

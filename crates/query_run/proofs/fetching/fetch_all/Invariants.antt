@@ -5,7 +5,7 @@ use Rattle.card_link.specs.Link.{Holds, LeavesOpen}
 use Rattle.person.specs.Showing.{Shows}
 use Rattle.card_asking.specs.Calls.{Answers, HasGoneOn}
 use Rattle.query_run.specs.Fetching.{CanBeAsked}
-use Rattle.query_run.specs.Progress.{progress_texts}
+use Rattle.query_run.specs.Progress.{fetched_texts}
 use Rattle.query_run.proofs.Tables.{GivenSoFar}
 use Rattle.query_run.proofs.fetching.fetch_all.Given as goal
 
@@ -15,7 +15,7 @@ invariant-loop-asked g l = record {
   count : length l.tables.items ≡ l.asked-index;
   moments : (m : Machine) → g.L.CardLink.is_at l.fn.link m → LeavesOpen (Holds (g.L.CardLink.mark l.fn.link) m.committed) (g.L.CardLink.chip l.fn.link) (g.L.CardLink.chip l.link);
   answers : Answers g.L.CardLink.is_live g.L.CardLink.faults l.fn.link l.link;
-  shown : Shows g.P.Person.lost g.P.Person.shown (progress_texts (map length l.tables.items)) l.fn.person l.person;
+  shown : Shows g.P.Person.lost g.P.Person.shown (fetched_texts (map length l.tables.items)) l.fn.person l.person;
   sendable : AllByRecursion CanBeAsked (drop l.asked-index l.fn.objects);
   rest : HasGoneOn g.L.CardLink.mark g.L.CardLink.keeps g.L.CardLink.goes_on l.fn.link l.link;
 }

@@ -1,8 +1,11 @@
-use Rattle.std.proofs.Common.{◌≡◌, Err, length, arith, refl}
+use Rattle.std.proofs.Common.{◌≡◌, Err, length, arith, refl, sym}
+use Rattle.person.proofs.Counting.{count-ended, step-counted}
+use Rattle.person.proofs.Texts.{shows-none}
 use Rattle.query_run.specs.Fetching.{IsFetched}
+use Rattle.query_run.specs.Progress.{each, words}
 use Rattle.card_asking.proofs.Calls.{answers-both, holds-both, rest-both, rest-same}
 use Rattle.query_run.proofs.Fetched.{ends-closed, ends-then, fetching-ended, fetching-none, holds-same, unless-stopped}
-use Rattle.query_run.proofs.Showing.{counted-fetched, few-left, less-left, none-shown, rows-ended, rows-grown, to_go-few}
+use Rattle.query_run.proofs.Showing.{counted-fetched, less-left}
 use Rattle.query_run.proofs.fetching.fetch_rows.Goals as goal
 
 pub loop-step-init : goal.loop-step-init
@@ -11,8 +14,7 @@ loop-step-init g c = record {
   still = λ m last closing all gives.
       holds-same g.L.CardLink.chip g.L.CardLink.mark m.committed gives.machine.committed c.args.link.now (g.met.L.CardLink.marks c.args.link.now) (g.met.L.CardLink.opens c.args.link.now gives.machine gives.at) gives.like.committed;
   answers = record { live = c.requires.live; same = refl };
-  few = rw c.requires.none (omega arith);
-  shown = rw c.requires.none (none-shown g.P.Person.lost g.P.Person.shown 0 c.args.person.now refl);
+  shown = rw c.requires.none (shows-none g.P.Person.lost g.P.Person.shown c.args.person.now);
   sendable = c.requires.sendable;
   rest = rest-same g.L.CardLink.mark g.L.CardLink.keeps g.L.CardLink.goes_on c.args.link.now (g.met.L.CardLink.keeps_same c.args.link.now) (g.met.L.CardLink.goes_on_same c.args.link.now);
 }
@@ -31,7 +33,7 @@ returns-in-Done-clause-shows g c =
     record {
       count = c.len-count.result;
       counted = counted-fetched c.fetched.result c.loop-step.rows.items c.len-count.result count;
-      shows = rows-ended g.P.Person.lost g.P.Person.shown c.len-count.result c.args.person.now c.loop-step.person c.end_progress.new.person (rw count c.loop-step.invariant.shown) c.end_progress.ensures;
+      shows = count-ended g.P.Person.lost g.P.Person.shown words each c.len-count.result _ c.len-count.result c.args.person.now c.loop-step.person c.end.new.person refl (sym count) c.loop-step.invariant.shown c.end.ensures;
     }
 
 pub returns-in-Err : goal.returns-in-Err
@@ -48,14 +50,9 @@ returns-in-Err g c =
       shows = record {
         count = c.len-count.result;
         counted = tt;
-        shows = rows-ended g.P.Person.lost g.P.Person.shown c.len-count.result c.args.person.now c.loop-step.person c.end_progress-in-Err.new.person (rw count c.loop-step.invariant.shown) c.end_progress-in-Err.ensures;
+        shows = count-ended g.P.Person.lost g.P.Person.shown words each c.len-count.result _ c.len-count.result c.args.person.now c.loop-step.person c.end-in-Err.new.person refl (sym count) c.loop-step.invariant.shown c.end-in-Err.ensures;
       };
     }
-
-pub show_progress-requires : goal.show_progress-requires
-show_progress-requires g c =
-    let few = few-left c.loop-step.step _ _ _ _ _ c.in_default.not-Done c.in_default-take_row.ensures.grows c.loop-step.invariant.few c.in_default-take_row.ensures.less in
-    record { few = omega (arith, few, c.len.ensures, c.take_row.new.rows.ok, to_go-few c.args.plan.now c.args.step.now) }
 
 pub loop-step-preserved : goal.loop-step-preserved
 loop-step-preserved g c = record {
@@ -64,9 +61,8 @@ loop-step-preserved g c = record {
       holds-both g.L.CardLink.chip g.L.CardLink.mark m.committed c.args.link.now c.loop-step.link c.take_row.new.link c.loop-step.invariant.rest.marked (c.loop-step.invariant.still m last closing all gives)
       (c.take_row.ensures.still m last closing all (c.loop-step.invariant.fetches m last closing all gives));
   answers = answers-both g.L.CardLink.is_live g.L.CardLink.faults c.args.link.now c.loop-step.link c.take_row.new.link c.loop-step.invariant.answers c.in_default-take_row.ensures.ends;
-  few = few-left c.loop-step.step _ _ _ _ _ c.in_default.not-Done c.in_default-take_row.ensures.grows c.loop-step.invariant.few c.in_default-take_row.ensures.less;
-  shown = rows-grown g.P.Person.lost g.P.Person.shown c.len-count.result c.len.result _ _ c.args.person.now c.loop-step.person c.show_progress.new.person (omega (arith, c.len-count.ensures, c.loop-step.rows.ok))
-      (omega (arith, c.len.ensures, c.take_row.new.rows.ok)) c.in_default-take_row.ensures.grows c.loop-step.invariant.shown c.show_progress.ensures;
+  shown = step-counted g.P.Person.lost g.P.Person.shown words each c.len-count.result c.len.result _ _ c.args.person.now c.loop-step.person c.show.new.person (omega (arith, c.len-count.ensures, c.loop-step.rows.ok))
+      (omega (arith, c.len.ensures, c.take_row.new.rows.ok)) c.in_default-take_row.ensures.grows c.loop-step.invariant.shown c.show.ensures;
   sendable = c.in_default-take_row.ensures.next_sendable;
   rest = rest-both g.L.CardLink.mark g.L.CardLink.keeps g.L.CardLink.goes_on c.args.link.now c.loop-step.link c.take_row.new.link (g.met.L.CardLink.keeps_then c.args.link.now c.loop-step.link c.take_row.new.link)
       (g.met.L.CardLink.goes_on_then c.args.link.now c.loop-step.link c.take_row.new.link) c.loop-step.invariant.rest c.take_row.ensures.rest;

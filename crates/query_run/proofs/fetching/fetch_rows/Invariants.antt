@@ -1,4 +1,4 @@
-use Rattle.std.proofs.Common.{List, ◌+◌, ◌≤◌, length}
+use Rattle.std.proofs.Common.{List, length}
 use Rattle.scql_model.specs.Machine.{Machine}
 use Rattle.scql_model.specs.Matching.{Values}
 use Rattle.script.specs.Commands.{IsSendable}
@@ -19,7 +19,6 @@ invariant-loop-step g l = record {
   still : (m last : Machine) (closing : Closing) (all : List Values) → Gives g.L.CardLink.is_at m closing last all l.fn.plan l.fn.step l.fn.link
       → LeavesOpen (Holds (g.L.CardLink.mark l.fn.link) m.committed) (g.L.CardLink.chip l.fn.link) (g.L.CardLink.chip l.link);
   answers : Answers g.L.CardLink.is_live g.L.CardLink.faults l.fn.link l.link;
-  few : length l.rows.items + to_go l.plan l.step ≤ to_go l.fn.plan l.fn.step;
   shown : Shows g.P.Person.lost g.P.Person.shown (rows_shown (length l.rows.items)) l.fn.person l.person;
   sendable : IfSent l.step IsSendable;
   rest : HasGoneOn g.L.CardLink.mark g.L.CardLink.keeps g.L.CardLink.goes_on l.fn.link l.link;

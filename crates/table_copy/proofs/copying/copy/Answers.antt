@@ -6,7 +6,7 @@ use Rattle.table_copy.specs.Copy.{copy, source_rows}
 use Rattle.table_copy.proofs.Copied.{copy-given, fetching-all, unopened-copies, unopened-reads}
 use Rattle.card_asking.proofs.Calls.{holds-both}
 use Rattle.table_copy.proofs.Turning.{source-counted}
-use Rattle.table_copy.proofs.Showing.{none-copied}
+use Rattle.person.proofs.Texts.{shows-none}
 use Rattle.table_copy.proofs.copying.copy.Goals as goal
 
 pub returns-in-Ok-clause-copies : goal.returns-in-Ok-clause-copies
@@ -57,5 +57,5 @@ pub returns-in-Err-clause-shows : goal.returns-in-Err-clause-shows
 returns-in-Err-clause-shows g c = record {
   rows = 0;
   counted = source-counted (Unit {0}) g.S.CardLink.is_live g.S.CardLink.faults c.in-Err.end 0 c.args.source.now c.open.new.source c.in-Err.ensures.ends;
-  shows = none-copied g.P.Person.lost g.P.Person.shown c.args.person.now;
+  shows = shows-none g.P.Person.lost g.P.Person.shown c.args.person.now;
 }

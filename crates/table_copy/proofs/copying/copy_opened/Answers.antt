@@ -8,7 +8,7 @@ use Rattle.std.proofs.Common.{Ok}
 use Rattle.table_copy.proofs.Copied.{begun-moments, begun-total, commits-same, copied-so, ended-reads, filling-ended, rolled-moments, together-first, undone-copies, undone-so, unless-mute}
 use Rattle.table_copy.proofs.Turning.{dest-counted, goes-counted, goes-ends}
 use Rattle.table_copy.specs.Progress.{IsCounted}
-use Rattle.table_copy.proofs.Showing.{none-copied}
+use Rattle.person.proofs.Texts.{shows-none}
 use Rattle.table_copy.proofs.copying.copy_opened.Goals as goal
 
 pub returns-in-Err-clause-moments : goal.returns-in-Err-clause-moments
@@ -76,7 +76,7 @@ pub returns-in-Err-clause-shows : goal.returns-in-Err-clause-shows
 returns-in-Err-clause-shows g c = record {
   rows = 0;
   counted = dest-counted (Unit {0}) g.D.CardLink.is_live g.D.CardLink.faults c.in-Err.end 0 c.args.dest.now c.begin.new.dest c.in-Err.ensures.ends;
-  shows = none-copied g.P.Person.lost g.P.Person.shown c.args.person.now;
+  shows = shows-none g.P.Person.lost g.P.Person.shown c.args.person.now;
 }
 
 pub returns-in-Err-fill-clause-shows : goal.returns-in-Err-fill-clause-shows

@@ -15,7 +15,7 @@ use Rattle.table_copy.proofs.copying.insert_rows.Given as goal
 abbrev pub invariant-loop-step : goal.invariant-loop-step
 invariant-loop-step g l = record {
   turns : (s d : Machine) (count : ℕ) (total : Result Database StatusWord) → Together g.S.CardLink.is_at g.D.CardLink.is_at s d count 0 l.fn.table total l.fn.plan l.fn.step l.fn.source l.fn.dest
-      → Together g.S.CardLink.is_at g.D.CardLink.is_at s d count l.progress.rows l.fn.table total l.plan l.step l.source l.dest;
+      → Together g.S.CardLink.is_at g.D.CardLink.is_at s d count l.rows l.fn.table total l.plan l.step l.source l.dest;
   reads : (s : Machine) → IsFetching g.S.CardLink.is_at s l.fn.plan l.fn.step l.fn.source → IsFetching g.S.CardLink.is_at s l.plan l.step l.source;
   fills : (d : Machine) → IsFilling g.D.CardLink.is_at d l.fn.dest → IsFilling g.D.CardLink.is_at d l.dest;
   still : (s : Machine) → IsFetching g.S.CardLink.is_at s l.fn.plan l.fn.step l.fn.source
@@ -23,8 +23,8 @@ invariant-loop-step g l = record {
   moments : (d : Machine) → IsFilling g.D.CardLink.is_at d l.fn.dest → LeavesOpen (Holds (g.D.CardLink.mark l.fn.dest) d.committed) (g.D.CardLink.chip l.fn.dest) (g.D.CardLink.chip l.dest);
   source : Answers g.S.CardLink.is_live g.S.CardLink.faults l.fn.source l.source;
   dest : Answers g.D.CardLink.is_live g.D.CardLink.faults l.fn.dest l.dest;
-  few : l.progress.rows + to_go l.plan l.step ≤ to_go l.fn.plan l.fn.step;
-  shown : Shows g.P.Person.lost g.P.Person.shown (rows_shown l.progress.rows) l.fn.person l.person;
+  few : l.rows + to_go l.plan l.step ≤ to_go l.fn.plan l.fn.step;
+  shown : Shows g.P.Person.lost g.P.Person.shown (rows_shown l.rows) l.fn.person l.person;
   sendable : IfSent l.step IsSendable;
   source_rest : HasGoneOn g.S.CardLink.mark g.S.CardLink.keeps g.S.CardLink.goes_on l.fn.source l.source;
   dest_rest : HasGoneOn g.D.CardLink.mark g.D.CardLink.keeps g.D.CardLink.goes_on l.fn.dest l.dest;
