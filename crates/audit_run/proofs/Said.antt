@@ -1,5 +1,5 @@
 -- What a run says, and what it shows where it says nothing.
-use Rattle.std.proofs.Common.{◌≡◌, ℕ, Bool, List, Option, Result, Ok, Err, take, drop, refl, sym, subst, ◌∙◌, take-append-drop}
+use Rattle.std.proofs.Common.{◌≡◌, ℕ, Bool, List, Option, Result, Ok, Err, take, drop, refl, sym, subst, ◌∙◌, take-append-drop, inl}
 use Rattle.std.specs.Prelude.{IfErr}
 use Rattle.eeprom.specs.Output.{Follows}
 use Rattle.line_run.specs.CutOff.{IsCutShort}
@@ -29,7 +29,7 @@ module _ {P : Type 0} (lost : P → Bool) (shown : P → Option (List ℕ)) wher
   none-watched Yes person = (0, shows-none lost shown person)
   none-watched No person = (0, shows-none lost shown person)
   none-watched WriteFault person = (0, shows-none lost shown person)
-  none-watched NoMemory person = (0, shows-none lost shown person)
+  none-watched NoMemory person = inl refl
 
   -- a person who is shown nothing
   pub watches-none : {A : Type 0} (result : Result A AuditStatus) (person : P) → IfErr result (λ status. Watches lost shown status person person)

@@ -42,10 +42,11 @@ Stops TooLong old new = AreStopped TooLong old new
 Stops NoMemory old new = AreStopped NoMemory old new ⊎ ((first transcript last : List ℕ) × AreRead first transcript last old new)
 Stops status old new = Unit {0}
 
--- What a person is shown: nothing where it stopped at a source, and else how far the transcript was gone through.
+-- What a person is shown: nothing where a source failed or is too long, and else how far the transcript was gone through; where there was no memory, perhaps nothing.
 abbrev pub Watches : {P : Type 0} → (P → Bool) → (P → Option (List ℕ)) → AuditStatus → P → P → Type 0
 Watches lost shown ReadFault person after = after ≡ person
 Watches lost shown TooLong person after = after ≡ person
+Watches lost shown NoMemory person after = (after ≡ person) ⊎ ((count : ℕ) × Shows lost shown (passed_text count) person after)
 Watches lost shown status person after = (count : ℕ) × Shows lost shown (passed_text count) person after
 
 -- The outlet failed, and counted that, where the status says so; and else its count stays.

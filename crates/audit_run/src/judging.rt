@@ -1,7 +1,7 @@
 // A transcript is judged.
-ghost use Rattle.std.specs.Prelude.{ℕ, IfOk, OnErr};
+ghost use Rattle.std.specs.Prelude.{◌≡◌, ◌⊎◌, IfOk, OnErr, None};
 ghost use Rattle.person.specs.Showing.{Shows};
-ghost use Rattle.audit_run.specs.Progress.{passed_text, watched_text};
+ghost use Rattle.audit_run.specs.Progress.{lines_passed, passed_text, watched_text};
 ghost use Rattle.audit_run.specs.Verdicts.{IsVerdict};
 
 use crate::comparing::first_difference;
@@ -21,7 +21,8 @@ pub fn verdict_on<A: Answering, P: Person>(
 ) -> Result<Verdict, AllocError>
     ensures found { IfOk result (IsVerdict first.now transcript.now last.now) }
     ensures watched { IfOk result (λ verdict. Shows P.lost P.shown (watched_text transcript.now verdict) person.old person.new) }
-    ensures unfinished { OnErr result ((count : ℕ) × Shows P.lost P.shown (passed_text count) person.old person.new) }
+    // There was no memory for one of the images.
+    ensures unfinished { OnErr result ((person.new ≡ person.old) ⊎ Shows P.lost P.shown (passed_text (lines_passed transcript.now None)) person.old person.new) }
 {
     let Some(mut machine) = A::open(alloc, first)? else {
         return Ok(Verdict::NotACard);

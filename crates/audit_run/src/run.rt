@@ -20,7 +20,7 @@ pub fn run_audit<A: Answering, S: Source, O: Outlet, P: Person>(
     outlet: &mut O,
     person: &mut P,
 ) -> AuditStatus
-    // Where it read all sources to their ends, it said the verdict on what they held.
+    // Where it came to a verdict, it had read all sources to their ends, and said the verdict on what they held.
     ensures says { Says result (Judges P.lost P.shown
         (sources_of S.left S.source_faults first.old transcript.old last.old) (sources_of S.left S.source_faults first.new transcript.new last.new) person.old person.new)
         (O.given outlet.old) (O.given outlet.new) }
