@@ -88,7 +88,7 @@ ssize_t read(int file, void *into, size_t length) {
 
 ssize_t write(int file, const void *from, size_t length) {
     char line[64];
-    if (file == 2 && length > 8 && length < sizeof line && lies("miscounts") && (!memcmp(from, "\rinserted", 9) || !memcmp(from, "\rcopied ", 8) || !memcmp(from, "\rfetched ", 9))) {
+    if (file == 2 && length > 8 && length < sizeof line && lies("miscounts") && (!memcmp(from, "\rinserted", 9) || !memcmp(from, "\rcopied ", 8) || !memcmp(from, "\rfetched ", 9) || !memcmp(from, "\rline ", 6))) {
         memcpy(line, from, length);
         line[length - 1] ^= 1;
         from = line;

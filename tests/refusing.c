@@ -1,5 +1,5 @@
 // A library that is loaded before the C library and refuses a program one allocation: of those that it asks for once it has begun to
-// read its first card the one whose number the variable REFUSED has. Each of them writes an octet to the descriptor 9.
+// read its first card, or its first file, the one whose number the variable REFUSED has. Each of them writes an octet to the descriptor 9.
 #define _GNU_SOURCE
 #include <dlfcn.h>
 #include <errno.h>
@@ -32,4 +32,9 @@ void *realloc(void *old, size_t size) {
 ssize_t pread(int file, void *into, size_t size, off_t place) {
     reading = 1;
     return REAL(pread)(file, into, size, place);
+}
+
+ssize_t read(int file, void *into, size_t size) {
+    if (file > 2) reading = 1;
+    return REAL(read)(file, into, size);
 }

@@ -82,7 +82,7 @@ each line behind \"> \", and what it said to that, behind \"< \" on the next
 line. The files are only read. One line tells the first of these that applies:
 
 not a card        the first image is no card's
-malformed at K    line K of the transcript is none
+malformed at K    line K has no mark, or answers no line before it
 differs at K      to line K a card says something else
 image differs     the last image doesn't hold what was committed
 yes K             all is as it has to be, with K lines that were asked

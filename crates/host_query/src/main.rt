@@ -65,8 +65,8 @@ of the card in FILE, from what the card shows user USER:
 SELECT col {, col} FROM name, name [, name] [WHERE col = col {AND col = col}]
        [ORDER BY col {, col}]          with col = name.name
 
-Rows are fetched from the card, and joined and put in order here; the card is
-only read. No secret is given, so that a user with one isn't proved.
+Rows are fetched from the card, and joined and put in order here; no query
+changes the card. No secret is given, so that a user with one isn't proved.
 
 Exit status: 0 done, 1 refused, 2 usage, 3 EEPROM fault, 4 read fault,
 5 write fault, 6 not a card, 7 no memory, 8 input too long, 10 no file, or a
