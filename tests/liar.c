@@ -26,7 +26,11 @@ static struct {
 static int count;
 
 static int is_over_cards(const char *name) {
-    return !strcmp(name, "card_cli") || !strcmp(name, "rack_cli") || !strcmp(name, "card_copy");
+    static const char *const names[] = {"card_cli", "rack_cli", "card_copy", "host_query", "audit"};
+    for (size_t i = 0; i < sizeof names / sizeof *names; i++) {
+        if (!strcmp(name, names[i])) return 1;
+    }
+    return 0;
 }
 
 static int lies(const char *how) {
