@@ -27,18 +27,16 @@ use Rattle.program.specs.declared.status.Status.{Status}
 use Rattle.program.specs.declared.status.Status.TheVariants.{Done, Refused, Eeprom, ReadFault, WriteFault, NoMemory, TooLong}
 use Rattle.line_run.specs.declared.line_stop.LineStop.{LineStop}
 use Rattle.line_run.specs.declared.line_stop.LineStop.TheVariants as stops
-use Rattle.line_run.specs.Causes.{CausesEnd, Faults}
 use Rattle.line_input.specs.declared.input.InputEnd.{InputEnd}
 use Rattle.line_input.specs.declared.input.InputEnd.TheVariants as ends
-use Rattle.line_input.specs.Reading.{CountsSource}
-use Rattle.program.specs.Numbers.{status_at, status_of}
+use Rattle.program.specs.Numbers.{status_at}
 use Rattle.eeprom.specs.Output.{Prints}
 use Rattle.program.specs.Numbers.{ends_as}
 use Rattle.program.specs.Ends.{AllFaults, EndsBy, RunsTo, reads_all}
 use Rattle.program.proofs.Ended.{ends-whole, said-done}
 use Rattle.card_run.specs.Ends.{is_of_opened, ends_opening}
 use Rattle.line_input.specs.Reading.{longest_input}
-use Rattle.line_run.specs.Extent.{Extent, to_end, stopped_in, EndsAt, Runs, RunsInput}
+use Rattle.line_run.specs.Extent.{RunsInput}
 use Rattle.card_run.specs.Run.{IsQuiet, AnswersAll, RunsLines, TellsRefusals}
 use Rattle.card_run.proofs.Asking.{eeprom-rose, limits-asked, unopened}
 

@@ -1,25 +1,18 @@
 -- Rows that are fetched one after another: what is left of them, and what becomes of the card.
-use Rattle.std.proofs.Common.{◌≡◌, ℕ, ◌≤◌, nat_le, ◌&&◌, Bool, true, false, List, [], ◌∷◌, ◌++◌, length, Option, Some, None, Result, Ok, Err, IfSome, refl, sym, ◌∙◌, ap, subst, inl, inr, arith, append_assoc, append-nil, length-append}
-use Rattle.std.specs.List.{list_all}
+use Rattle.std.proofs.Common.{◌≡◌, ℕ, Bool, false, List, [], ◌∷◌, ◌++◌, length, Option, Some, None, Result, Ok, Err, IfSome, refl, sym, ◌∙◌, ap, subst, inl, inr, arith, append_assoc, append-nil, length-append}
 use Rattle.std.specs.Option.{option_map_or}
-use Rattle.std.proofs.lemmas.Bool.{and_parts, leb-true}
 use Rattle.eeprom.specs.Chip.{Chip}
-use Rattle.eeprom.specs.Fault.{Rose}
 use Rattle.scql_base.specs.declared.operation.Command.{Command}
 use Rattle.scql_base.specs.declared.words.StatusWord.{StatusWord}
-use Rattle.scql_base.specs.Row.{is_narrow, row_from, row_size}
-use Rattle.scql_base.proofs.RowOctets.{row_from-row, row_size-spelled}
-use Rattle.scql_base.proofs.Splitting.{params_of-again}
+use Rattle.scql_base.specs.Row.{row_from}
 use Rattle.scql_model.specs.Database.{Database}
 use Rattle.scql_model.specs.Machine.{Machine, base}
 use Rattle.scql_model.specs.Matching.{Columns, Values}
 use Rattle.scql_model.specs.Opens.{Opens}
-use Rattle.scql_model.specs.ReadingCommands.{row_octets}
 use Rattle.scql_model.specs.Refusals.{◌>>=◌}
-use Rattle.scql_model.specs.Records.{is_count_of_columns, is_row}
 use Rattle.scql_model.specs.Shown.{Shown, shown_on}
 use Rattle.scql_model.proofs.ReadingIsShown.{IsReadable-valid}
-use Rattle.card_link.specs.Link.{Holds, IsOver, LeavesOpen, Mutes}
+use Rattle.card_link.specs.Link.{Holds, IsOver, LeavesOpen}
 use Rattle.script.specs.declared.statement.Statement.{Statement}
 use Rattle.script.specs.declared.statement.Statement.TheVariants.{Select}
 use Rattle.planner.specs.declared.closing.Closing.{Closing}
@@ -34,7 +27,7 @@ use Rattle.card_asking.specs.Calls.{Answers}
 use Rattle.card_asking.specs.Giving.{Gives, GivesShown, IsNextRow, behind_step}
 use Rattle.card_asking.proofs.Calls.{answers-both, holds-both, mutes-then}
 use Rattle.card_asking.proofs.Meant.{base-valid}
-use Rattle.card_asking.proofs.Moments.{leaves-all, leaves-both, leaves-none}
+use Rattle.card_asking.proofs.Moments.{leaves-none}
 use Rattle.card_asking.proofs.RowsAgain.{read-again}
 use Rattle.card_asking.proofs.Rows.{all-given, gives-shown, next-row}
 use Rattle.query.specs.declared.query.AskedObject.{AskedObject}

@@ -1,9 +1,8 @@
 -- A run over lines of queries: what it printed, and how it ended.
 use Rattle.std.proofs.Common.{◌≡◌, ℕ, ◌||◌, Bool, true, false, List, [], ◌∷◌, ◌++◌, Option, refl, sym, ◌∙◌, ap, subst}
-use Rattle.std.proofs.lemmas.Bool.{false≢true}
 use Rattle.eeprom.specs.Chip.{Becomes, Chip}
 use Rattle.eeprom.specs.Output.{Prints}
-use Rattle.scql_model.specs.Lines.{Language, line_step, line_text, lines, run_text, state_after, taken_line}
+use Rattle.scql_model.specs.Lines.{line_step, line_text, lines, run_text, state_after, taken_line}
 use Rattle.scql_model.specs.Machine.{Machine}
 use Rattle.scql_model.specs.Shown.{shown_on}
 use Rattle.line_input.specs.declared.input.InputEnd.{InputEnd}
@@ -11,14 +10,14 @@ use Rattle.line_input.specs.declared.input.InputEnd.TheVariants as ends
 use Rattle.line_input.specs.Reading.{CountsSource}
 use Rattle.line_run.specs.declared.line_stop.LineStop.{LineStop}
 use Rattle.line_run.specs.declared.line_stop.LineStop.TheVariants as stops
-use Rattle.line_run.specs.Causes.{CausesEnd, Faults}
-use Rattle.line_run.specs.Extent.{EndsAt, Extent, Runs, RunsInput, stopped_in, to_end}
+use Rattle.line_run.specs.Causes.{CausesEnd}
+use Rattle.line_run.specs.Extent.{RunsInput}
 use Rattle.program.specs.declared.status.Status.{Status}
 use Rattle.program.specs.declared.status.Status.TheVariants.{NotACard, TooLong}
 use Rattle.program.specs.Numbers.{ends_as, status_at, status_of}
 use Rattle.program.proofs.Ended.{ends-whole, input-causes, said-done}
 use Rattle.query_run.specs.QueryLines.{Asking, asked_refused, asked_text, asked_texts, query_lines, some_refused}
-use Rattle.program.specs.Ends.{AllFaults, EndsBy, RunsTo, reads_all}
+use Rattle.program.specs.Ends.{EndsBy, reads_all}
 use Rattle.query_run.specs.Running.{PrintsQueries}
 
 -- No line changes what later ones are answered from.

@@ -1,5 +1,5 @@
 -- A line that a desk answered, told to the run.
-use Rattle.std.proofs.Common.{◌≡◌, ℕ, ◌+◌, ◌≤◌, Bool, List, [], ◌∷◌, ◌++◌, length, map, Option, Some, None, Result, Ok, Err, IfSome, refl, sym, ap, subst, arith, inl, length-append, append-nil}
+use Rattle.std.proofs.Common.{◌≡◌, ℕ, ◌+◌, ◌≤◌, Bool, List, [], length, Option, Some, None, Result, Ok, Err, IfSome, refl, sym, ap, subst, arith, inl, length-append}
 use Rattle.std.specs.Prelude.{OnOk, IfOk, IfErr, IsSome}
 use Rattle.eeprom.specs.Chip.{Chip}
 use Rattle.eeprom.specs.Output.{Prints}

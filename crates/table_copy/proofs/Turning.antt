@@ -1,7 +1,6 @@
 -- A copy goes on, row by row.
-use Rattle.std.proofs.Common.{◌≡◌, ◌⊎◌, ℕ, ◌+◌, ◌≤◌, arith, Bool, List, [], ◌∷◌, drop, length, IfSome, Result, Ok, Err, refl, sym, ◌∙◌, ap, subst, inl, inr}
+use Rattle.std.proofs.Common.{◌≡◌, ◌⊎◌, ℕ, ◌+◌, arith, Bool, List, [], ◌∷◌, drop, length, IfSome, Result, Ok, Err, refl, sym, ◌∙◌, ap, subst, inl, inr}
 use Rattle.eeprom.specs.Chip.{Chip}
-use Rattle.eeprom.specs.Fault.{Rose}
 use Rattle.scql_base.specs.declared.words.StatusWord.{StatusWord}
 use Rattle.scql_base.specs.declared.operation.Command.{Command}
 use Rattle.scql_model.specs.Database.{Database}
@@ -17,10 +16,10 @@ use Rattle.planner.specs.declared.step.Step.TheVariants.{Send, Row, ResetCard, D
 use Rattle.planner.specs.Planned.{Planned}
 use Rattle.card_asking.specs.Giving.{Gives, IsNextRow, behind_step}
 use Rattle.card_asking.proofs.Calls.{answers-both, mutes-then}
-use Rattle.card_asking.proofs.Moments.{leaves-all, leaves-both, leaves-none}
+use Rattle.card_asking.proofs.Moments.{leaves-none}
 use Rattle.card_asking.proofs.Rows.{next-row, all-given}
 use Rattle.table_copy.specs.Copy.{row_copied, rows_copied}
-use Rattle.card_asking.specs.Calls.{Answers, HasGoneOn}
+use Rattle.card_asking.specs.Calls.{Answers}
 use Rattle.table_copy.specs.Copying.{StaysAt, EndsBy, GoesBy}
 use Rattle.table_copy.specs.Filling.{Piece, UnlessSourceMute, OfDest, OfSource, IsFetching, FetchesSo, InsertsSo, HasRow, PutsSo, Together, TurnsSo, IsFilled, IsCommitted, CommitsSo, FillsSo, commits_by, counted_by, fetched_by, goes_on_by, has_row, whether, with_row}
 use Rattle.table_copy.specs.Progress.{IsCounted, IsCountedIn}

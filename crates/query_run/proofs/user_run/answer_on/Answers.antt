@@ -1,8 +1,5 @@
 -- The run on a card over its bench is one on the bench.
-use Rattle.std.proofs.Common.{rules, ◌≡◌, subst}
-use Rattle.scql_model.specs.Machine.{Machine}
-use Rattle.card.specs.Card.{IsAt}
-use Rattle.card.specs.LiveCard.{IsReadyAt}
+use Rattle.std.proofs.Common.{rules, subst}
 use Rattle.card_asking.specs.Presenting.{presented}
 use Rattle.query_run.specs.Statuses.{program_status}
 use Rattle.query_run.specs.UserRuns.{AnswersFor, ReadsAll}

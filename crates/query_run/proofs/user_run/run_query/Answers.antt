@@ -1,5 +1,5 @@
 -- An image that opens to a database is a card's, so that it isn't opened for a fault or want of memory alone.
-use Rattle.std.proofs.Common.{◌≡◌, ℕ, List, Option, Err, ap, refl, sym, subst, inl}
+use Rattle.std.proofs.Common.{ℕ, List, Option, Err, ap, refl, sym, subst, inl}
 use Rattle.std.specs.Prelude.{IfSome}
 use Rattle.eeprom.specs.Chip.{Still}
 use Rattle.card.specs.Making.{OpensToNone}
