@@ -1,0 +1,60 @@
+//! The program `ram_card`: a card of 64 cells whose EEPROM is memory, with standard input and output as its reader.
+#![tactic(auto)]
+
+mod ram;
+
+use card_run::run_card;
+use file_bench::StdSource;
+use person::Watcher;
+use program::{About, Ending, Status, command_line, end_program};
+use ram::RamBench;
+use std::io::Stderr;
+use std::process::ExitCode;
+
+fn main(rt: HostRuntime) -> ExitCode {
+    let ending = match answer(&rt) {
+        Ok(status) => Ending::Run(status),
+        Err(ending) => ending,
+    };
+    end_program(&rt, ending, USAGE)
+}
+
+fn answer(rt: &HostRuntime) -> Result<Status, Ending> {
+    let words = command_line(rt)?;
+    if let Some(status) = ABOUT.answer(rt, &words) {
+        return Ok(status);
+    }
+    if words.is_empty() {
+        run_in_memory(rt)
+    } else {
+        Ok(Status::Usage)
+    }
+}
+
+// Makes a card, and answers the lines of the input. The card is gone at the end.
+fn run_in_memory(rt: &HostRuntime) -> Result<Status, Ending> {
+    let words = [
+        String::from_str(rt.alloc(), "new")?,
+        String::from_str(rt.alloc(), "64")?,
+    ];
+    let mut source = StdSource::new(rt.clone()?);
+    let mut bench = RamBench::new(rt.clone()?);
+    let mut nobody = Watcher::<Stderr>::new(None);
+    Ok(run_card(rt.alloc(), &words, &mut source, &mut bench, &mut nobody))
+}
+
+const USAGE: &str = "usage: ram_card";
+
+const ABOUT: About = About {
+    help: HELP,
+    version: "ram_card 0.1.0",
+};
+
+const HELP: &str = "usage: ram_card
+
+A relational database in a smart card of 64 cells, whose EEPROM is memory: an
+example of an EEPROM of one's own. It makes the card, and answers each line of
+standard input, a command in hexadecimal. At the end the card is gone.
+
+Exit status: 0 done, 2 usage, 4 read fault, 5 write fault, 7 no memory, 8 input
+too long.";
