@@ -1,1 +1,2 @@
 pub mod RamChip
+pub mod RamEnds

@@ -1,6 +1,11 @@
 //! The program `ram_card`: a card of 64 cells whose EEPROM is memory, with standard input and output as its reader.
 #![tactic(auto)]
 
+ghost use Rattle.std.specs.Prelude.{◌≡◌, true, IfOk, IsOkUnless};
+ghost use Rattle.program.specs.declared.status.Status.TheVariants.{NoMemory};
+ghost use Rattle.program.specs.declared.ending.Ending.TheVariants.{Run};
+ghost use Rattle.ram_card.specs.RamEnds.{ends_in_memory};
+
 mod ram;
 
 use card_run::run_card;
@@ -32,7 +37,11 @@ fn answer(rt: &HostRuntime) -> Result<Status, Ending> {
 }
 
 // Makes a card, and answers the lines of the input. The card is gone at the end.
-fn run_in_memory(rt: &HostRuntime) -> Result<Status, Ending> {
+fn run_in_memory(rt: &HostRuntime) -> Result<Status, Ending>
+    // The EEPROM has room for the card, gives back what was written, and doesn't fail: the streams may, and memory may be wanting.
+    ensures ends { IfOk result (λ status. ends_in_memory status ≡ true) }
+    ensures without { IsOkUnless result (Run NoMemory) }
+{
     let words = [
         String::from_str(rt.alloc(), "new")?,
         String::from_str(rt.alloc(), "64")?,
