@@ -11,7 +11,7 @@ use eeprom::{CutBench, Outlet, SinkFault};
 use file_bench::FileBench;
 use file_card::card_in;
 use migrate::migrate;
-use person::Person;
+use person::Nobody;
 use program::{Ending, Status};
 use reader_rack::Rack;
 use scql_base::{Name, StatusWord};
@@ -46,22 +46,6 @@ impl Outlet for Page {
         // A text that is full stays as it is.
         let _ = self.text.try_extend_from_slice(octets);
         Ok(())
-    }
-}
-
-// Nobody watches.
-#[derive(Drop)]
-struct Nobody {}
-
-impl Person for Nobody {
-    ghost use Rattle.std.specs.Prelude.{Some, true, []};
-
-    ghost shown = { λ _. Some [] };
-
-    ghost lost = { λ _. true };
-
-    fn show(&mut self, text: &[u8]) {
-        let _ = text;
     }
 }
 
@@ -128,7 +112,7 @@ fn cut_copy(rt: &HostRuntime, left: u16, fill: u8) -> Result<CopyStatus, Ending>
     // Neither reader holds a link yet.
     let _ = rack.insert(1, source);
     let _ = rack.insert(2, dest);
-    Ok(run_copy(&words, &mut rack, &mut Nobody {}))
+    Ok(run_copy(&words, &mut rack, &mut Nobody))
 }
 
 #[test]
@@ -252,7 +236,7 @@ fn copy_wide(rt: &HostRuntime) -> Result<(Option<CopyEnd>, bool), Ending> {
         && source.live()
         && dest.live()
     {
-        end = Some(copy(source, dest, &name, &name, &mut Nobody {}));
+        end = Some(copy(source, dest, &name, &name, &mut Nobody));
     }
     Ok((end, fine))
 }

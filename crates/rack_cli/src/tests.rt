@@ -6,7 +6,7 @@ use arrayvec::ArrayVec;
 use card::{Card, SlotCard};
 use card_link::{CardLink, FailingLink, Outcome, Recorder};
 use eeprom::{FaultPlan, MemBench, Outlet, SinkFault, SteadySource};
-use person::Person;
+use person::{Person, Presence};
 use rack_run::{RackStatus, run_rack};
 use reader_rack::Rack;
 use scql_base::StatusWord;
@@ -68,6 +68,14 @@ impl Person for Watching {
     fn show(&mut self, text: &[u8]) {
         // A text that is full stays as it is.
         let _ = self.text.try_extend_from_slice(text);
+    }
+
+    fn presence(&self) -> Presence {
+        Presence::Watching
+    }
+
+    fn show_title(&mut self) {
+        self.show(b"");
     }
 }
 
