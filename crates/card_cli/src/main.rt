@@ -4,26 +4,18 @@
 use card_run::run_card;
 use file_bench::{FileBench, StdSource};
 use person::{Prompted, Watcher};
-use program::{About, Ending, Status, command_line, end_program, hold_streams};
+use program::{About, Ending, ProgramEnd, Status, hold_streams, run_program};
 use std::io::{IsTerminal, Stderr};
 use std::process::ExitCode;
 
 fn main(rt: HostRuntime) -> ExitCode {
-    let ending = match answer(&rt) {
-        Ok(status) => Ending::Run(status),
-        Err(ending) => ending,
-    };
-    end_program(&rt, ending, USAGE)
+    run_program(&rt, ABOUT, run_words)
 }
 
-fn answer(rt: &HostRuntime) -> Result<Status, Ending> {
-    let words = command_line(rt)?;
-    if let Some(status) = ABOUT.answer(rt, &words) {
-        return Ok(status);
-    }
+fn run_words(rt: &HostRuntime, words: &[String]) -> ProgramEnd {
     match words.split_first() {
-        Some((path, rest)) => run_over(rt, path, rest),
-        None => Ok(Status::Usage),
+        Some((path, rest)) => ProgramEnd::of_run_over(0, run_over(rt, path, rest)),
+        None => ProgramEnd::from(Ending::Run(Status::Usage)),
     }
 }
 
@@ -56,9 +48,9 @@ fn is_watched(rt: &HostRuntime, words: &[String]) -> bool {
     words.first().is_some_and(|word| word.as_str() == "load") && rt.stderr().is_terminal()
 }
 
-const USAGE: &str = "usage: card_cli FILE (new N | apdu | term | check | load K SEED | migrate)";
-
 const ABOUT: About = About {
+    name: "card_cli",
+    usage: "usage: card_cli FILE (new N | apdu | term | check | load K SEED | migrate)",
     help: HELP,
     version: "card_cli 0.1.0",
 };

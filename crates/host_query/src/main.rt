@@ -3,31 +3,23 @@
 
 use file_bench::{FileBench, StdSource};
 use person::{Prompted, Watcher};
-use program::{About, Ending, Status, command_line, end_program, hold_streams};
+use program::{About, Ending, ProgramEnd, Status, hold_streams, run_program};
 use query_run::run_query;
 use scql_base::Name;
 use std::io::{IsTerminal, Stderr};
 use std::process::ExitCode;
 
 fn main(rt: HostRuntime) -> ExitCode {
-    let ending = match answer(&rt) {
-        Ok(status) => Ending::Run(status),
-        Err(ending) => ending,
-    };
-    end_program(&rt, ending, USAGE)
+    run_program(&rt, ABOUT, run_words)
 }
 
-fn answer(rt: &HostRuntime) -> Result<Status, Ending> {
-    let words = command_line(rt)?;
-    if let Some(status) = ABOUT.answer(rt, &words) {
-        return Ok(status);
-    }
-    match words.as_slice() {
+fn run_words(rt: &HostRuntime, words: &[String]) -> ProgramEnd {
+    match words {
         [path, user] => match Name::read(user.as_bytes()) {
-            Some(user) => run_over(rt, path, user),
-            None => Ok(Status::Usage),
+            Some(user) => ProgramEnd::of_run_over(0, run_over(rt, path, user)),
+            None => ProgramEnd::from(Ending::Run(Status::Usage)),
         },
-        _ => Ok(Status::Usage),
+        _ => ProgramEnd::from(Ending::Run(Status::Usage)),
     }
 }
 
@@ -50,9 +42,9 @@ fn is_typed(rt: &HostRuntime) -> bool {
     rt.stdin().is_terminal() && rt.stdout().is_terminal()
 }
 
-const USAGE: &str = "usage: host_query FILE USER";
-
 const ABOUT: About = About {
+    name: "host_query",
+    usage: "usage: host_query FILE USER",
     help: HELP,
     version: "host_query 0.1.0",
 };
