@@ -6,7 +6,7 @@ use arrayvec::ArrayVec;
 use card::{Card, SlotCard};
 use card_link::{CardLink, FailingLink, Outcome, Recorder};
 use eeprom::{FaultPlan, MemBench, Outlet, SinkFault, SteadySource};
-use person::{Person, Presence};
+use person::{Nobody, Person, Presence};
 use rack_run::{RackStatus, run_rack};
 use reader_rack::Rack;
 use scql_base::StatusWord;
@@ -188,7 +188,7 @@ fn run_lines<O: Outlet, L: CardLink, P: Person>(
     person: &mut P,
 ) -> Result<RackStatus, AllocError> {
     let mut source = SteadySource::new(Vec::from_slice(alloc, lines.as_bytes())?, 100);
-    Ok(run_rack(&mut source, rack, person))
+    Ok(run_rack(&mut source, rack, person, &mut Nobody))
 }
 
 /// A table of items, a view of those at one place, and a user who may read it.
