@@ -40,7 +40,7 @@ impl<'a, B: Bench, P: Person> Responder for StatementCard<'a, B, P> {
     ghost use Rattle.std.specs.Prelude.{◌≡◌, IsTrue, false};
     ghost use Rattle.std.proofs.Common.{◌∙◌, refl};
     ghost use Rattle.person.specs.Showing.{ShowsSome};
-    ghost use Rattle.person.proofs.Texts.{some-none, some-then};
+    ghost use Rattle.guide.proofs.Told.{told-none, told-then};
     ghost use Rattle.card.specs.LiveCard.{IsReadyAt, LastsOn};
     ghost use Rattle.card.specs.LiveCardLaws.{lasts-same, lasts-then};
     ghost use Rattle.card_run.specs.Statements.{Sitting, SitsSo, term_lines};
@@ -76,10 +76,10 @@ impl<'a, B: Bench, P: Person> Responder for StatementCard<'a, B, P> {
 
     ghost over = { λ r ready sitting at. sitting-over r.card.card (B.chip r.card.bench) sitting at.sits.at };
 
-    ghost goes_on_same = { λ r. (lasts-same B.chip r.card, some-none P.lost P.shown r.person.now, refl) };
+    ghost goes_on_same = { λ r. (lasts-same B.chip r.card, told-none P.lost P.shown r.person.now, refl) };
 
     ghost goes_on_then = { λ old mid new ready first second.
-        (lasts-then B.chip old.card mid.card new.card first.0 second.0, some-then P.lost P.shown old.person.now mid.person.now new.person.now first.1 second.1, second.2 ∙ first.2) };
+        (lasts-then B.chip old.card mid.card new.card first.0 second.0, told-then P.lost P.shown old.person.now mid.person.now new.person.now first.1 second.1, second.2 ∙ first.2) };
 }
 
 /// Answers the lines of the input as statements, and tells a person of them.

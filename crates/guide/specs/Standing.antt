@@ -3,11 +3,10 @@ use Rattle.std.specs.Prelude.{ℕ, ◌+◌, ◌&&◌, Bool, true, List, ◌∷�
 use Rattle.scql_model.specs.Lines.{longest_line}
 use Rattle.script.specs.declared.fault.ScriptFault.{ScriptFault}
 use Rattle.script.specs.declared.fault.ScriptFault.TheVariants.{At, TooLarge}
-use Rattle.script.specs.declared.statement.Statement.{Statement}
 
 -- the place of the first token at fault, none where the line is in the grammar
-abbrev pub place_of : Result Statement ScriptFault → Option ℕ
-place_of (Ok statement) = None
+abbrev pub place_of : {A : Type 0} → Result A ScriptFault → Option ℕ
+place_of (Ok read) = None
 place_of (Err (At place)) = Some place
 place_of (Err TooLarge) = None
 

@@ -4,7 +4,7 @@ use scql_base::StatusWord;
 
 /// What a session says of the lines of a grammar, and what it remembers of them for that. Each puts one text behind a message, or nothing.
 pub trait Dialect: Grammar {
-    /// What its lines are called, as `a statement`.
+    /// What one of its lines is called, as `statement`.
     fn kind(&self) -> &'static [u8];
 
     /// How its help is found.

@@ -47,19 +47,18 @@ impl Lines {
     }
 
     /// Puts how many lines were refused, where some were. A person who typed them gets a line feed behind the last prompt.
-    pub(crate) fn put_end(&self, message: &mut Message) {
+    pub(crate) fn put_end(&self, kind: &[u8], message: &mut Message) {
         if self.presence == Presence::Typing {
             message.put(b"\n");
         }
-        if self.refused > 0 {
-            message.put_number(self.refused as usize);
-            message.put(b" of ");
-            message.put_number(self.seen as usize);
-            message.put(if self.refused == 1 {
-                b" lines was refused or is no ".as_slice()
-            } else {
-                b" lines were refused or are no ".as_slice()
-            });
+        if self.refused == 0 {
+            return;
         }
+        message.put_number(self.refused as usize);
+        message.put(b" of ");
+        message.put_number(self.seen as usize);
+        message.put(b" lines were refused or are no ");
+        message.put(kind);
+        message.put(b" (exit status 1).\n");
     }
 }

@@ -13,4 +13,6 @@ pub enum Why {
     TooLong,
     /// The reader that it is for has no card that answers.
     NoCard,
+    /// More rows would be printed than a run prints.
+    TooMany,
 }

@@ -3,7 +3,7 @@ use Rattle.std.proofs.Common.{◌≡◌, ℕ, Bool, true, false, List, [], ◌++
 use Rattle.std.proofs.lemmas.Bool.{false≢true}
 use Rattle.eeprom.specs.Output.{Prints}
 use Rattle.line_run.specs.AnswersLaws.{Prints-nothing, Prints-then}
-use Rattle.person.specs.Showing.{IsShown, Shows, ShowsSome}
+use Rattle.person.specs.Showing.{IsShown, Shows}
 
 none-shown : (lost : Bool) (given : Option (List ℕ)) → IsShown lost [] given given
 none-shown false given = Prints-nothing given
@@ -11,9 +11,6 @@ none-shown true given = record { said = []; start = ([], refl); given = Prints-n
 
 pub shows-none : {P : Type 0} (lost : P → Bool) (shown : P → Option (List ℕ)) (person : P) → Shows lost shown [] person person
 shows-none lost shown person = record { follows = none-shown (lost person) (shown person); over = λ is. (refl, is) }
-
-pub some-none : {P : Type 0} (lost : P → Bool) (shown : P → Option (List ℕ)) (person : P) → ShowsSome lost shown person person
-some-none lost shown person = ([], shows-none lost shown person)
 
 shown-then : (before after : Bool) (first second : List ℕ) (a b c : Option (List ℕ)) → IsShown before first a b → IsShown after second b c → (before ≡ true → (c ≡ b) × (after ≡ true)) → IsShown after (first ++ second) a c
 shown-then false false first second a b c p q over = Prints-then first second a b c p q
@@ -34,6 +31,3 @@ shows-then lost shown first second a b c p q = record {
   follows = shown-then (lost b) (lost c) first second (shown a) (shown b) (shown c) p.follows q.follows q.over;
   over = λ is. let here = p.over is in let there = q.over here.1 in (there.0 ∙ here.0, there.1);
 }
-
-pub some-then : {P : Type 0} (lost : P → Bool) (shown : P → Option (List ℕ)) (a b c : P) → ShowsSome lost shown a b → ShowsSome lost shown b c → ShowsSome lost shown a c
-some-then lost shown a b c first second = (first.0 ++ second.0, shows-then lost shown first.0 second.0 a b c first.1 second.1)

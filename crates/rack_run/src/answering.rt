@@ -23,7 +23,8 @@ pub(crate) struct RackRun<'a, 'b, R: LineRack, P: Person, N: Person> {
 
 impl<'a, 'b, R: LineRack, P: Person, N: Person> LineAnswerer for RackRun<'a, 'b, R, P, N> {
     ghost use Rattle.std.proofs.Common.{◌∙◌, refl};
-    ghost use Rattle.person.proofs.Texts.{shows-none, some-none, some-then};
+    ghost use Rattle.guide.proofs.Told.{told-none, told-then};
+    ghost use Rattle.person.proofs.Texts.{shows-none};
     ghost use Rattle.person.specs.Showing.{Shows, ShowsSome};
     ghost use Rattle.rack_run.specs.Prompts.{prompts_behind};
     ghost use Rattle.rack_run.specs.ViewLaws.{CarriesOut-none, CarriesOut-then, prompts-then};
@@ -59,7 +60,7 @@ impl<'a, 'b, R: LineRack, P: Person, N: Person> LineAnswerer for RackRun<'a, 'b,
         Ok(())
     }
 
-    ghost none = { λ a ready. ((CarriesOut-none _ _ _ _, shows-none P.lost P.shown a.person.now, refl, refl), (some-none N.lost N.shown a.notices.now, refl)) };
+    ghost none = { λ a ready. ((CarriesOut-none _ _ _ _, shows-none P.lost P.shown a.person.now, refl, refl), (told-none N.lost N.shown a.notices.now, refl)) };
 
     ghost then = { λ a b c first second before behind. (
       (
@@ -68,6 +69,6 @@ impl<'a, 'b, R: LineRack, P: Person, N: Person> LineAnswerer for RackRun<'a, 'b,
         behind.0.2 ∙ before.0.2,
         behind.0.3 ∙ before.0.3,
       ),
-      (some-then N.lost N.shown a.notices.now b.notices.now c.notices.now before.1.0 behind.1.0, behind.1.1 ∙ before.1.1),
+      (told-then N.lost N.shown a.notices.now b.notices.now c.notices.now before.1.0 behind.1.0, behind.1.1 ∙ before.1.1),
     ) };
 }

@@ -2,7 +2,7 @@
 ghost use Rattle.std.specs.Prelude.{◌≡◌};
 ghost use Rattle.rack_run.specs.RackGrammar as grammar;
 
-use guide::{Cells, Dialect, Grammar, Message, Statements};
+use guide::{Cells, Dialect, Grammar, Message, Statements, note_of};
 use reader_rack::{RackStatement, rack_statement};
 use scql_base::StatusWord;
 use script::Tokens;
@@ -69,7 +69,13 @@ impl Dialect for RackLines {
         match rack_statement(line) {
             Some(RackStatement::Select { reader }) => self.current = usize::from(reader),
             Some(RackStatement::Eject { .. }) => {}
-            None => self.readers[self.current % READERS].done(line, message),
+            None => match help_on_own(line) {
+                Some(text) => message.put(text),
+                None => {
+                    self.readers[self.current % READERS].done(line, message);
+                    put_own(line, message);
+                }
+            },
         }
     }
 
@@ -86,4 +92,26 @@ fn is_begun(line: &[u8]) -> bool
     let word = tokens.next();
     tokens.skip();
     tokens.is_at_end() && matches!(word, b"READER" | b"EJECT")
+}
+
+// The grammar of one of the rack's own statements, where a note asks for it.
+fn help_on_own(line: &[u8]) -> Option<&'static [u8]> {
+    let (word, subject) = note_of(line)?;
+    if word.as_slice() != b"HELP" {
+        return None;
+    }
+    match subject.as_slice() {
+        b"READER" => Some(b"READER (1 | 2 | 3 | 4)                         lines are for this reader's card from here on"),
+        b"EJECT" => Some(b"EJECT (1 | 2 | 3 | 4)                          takes the card out of this reader"),
+        _ => None,
+    }
+}
+
+// Puts the rack's own statements behind all others, where a note asks for these.
+fn put_own(line: &[u8], message: &mut Message) {
+    if let Some((word, subject)) = note_of(line) {
+        if word.as_slice() == b"HELP" && subject.is_empty() {
+            message.put(b"\n  READER 2   EJECT 2    of the rack: lines are for reader 2's card; its card is taken out");
+        }
+    }
 }

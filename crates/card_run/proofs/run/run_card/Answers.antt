@@ -24,7 +24,7 @@ use Rattle.card_run.specs.Migrating.{MigratesTo}
 use Rattle.card_run.specs.Statements.{opened, term_lines, was_refused}
 use Rattle.card_run.specs.Words.{form_in, makes_card}
 use Rattle.terminal.specs.Holding.{terminal_at}
-use Rattle.person.proofs.Texts.{some-none}
+use Rattle.guide.proofs.Told.{told-none}
 use Rattle.card_run.proofs.Asking.{commands-read, lines-may, lines-not-wanting, no-load, no_lines, not-wanting, opened-may, opening-may, unopened}
 use Rattle.card.specs.GivenMoments.{behind-then}
 use Rattle.card_run.proofs.Behind.{cells-over}
@@ -476,16 +476,16 @@ pub returns-in-Term-clause-unwatched : goal.returns-in-Term-clause-unwatched
 returns-in-Term-clause-unwatched g c = λ other untold. absurd (untold (cc (c.in-Some.ensures, c.in-Term.is)))
 
 pub returns-in-Err-clause-told : goal.returns-in-Err-clause-told
-returns-in-Err-clause-told g c = λ asked. some-none g.P.Person.lost g.P.Person.shown c.args.person.now
+returns-in-Err-clause-told g c = λ asked. told-none g.P.Person.lost g.P.Person.shown c.args.person.now
 
 pub returns-in-Check-clause-told : goal.returns-in-Check-clause-told
-returns-in-Check-clause-told g c = λ asked. some-none g.P.Person.lost g.P.Person.shown c.args.person.now
+returns-in-Check-clause-told g c = λ asked. told-none g.P.Person.lost g.P.Person.shown c.args.person.now
 
 pub returns-in-Migrate-clause-told : goal.returns-in-Migrate-clause-told
-returns-in-Migrate-clause-told g c = λ asked. some-none g.P.Person.lost g.P.Person.shown c.args.person.now
+returns-in-Migrate-clause-told g c = λ asked. told-none g.P.Person.lost g.P.Person.shown c.args.person.now
 
 pub returns-in-New-clause-told : goal.returns-in-New-clause-told
-returns-in-New-clause-told g c = λ asked. some-none g.P.Person.lost g.P.Person.shown c.args.person.now
+returns-in-New-clause-told g c = λ asked. told-none g.P.Person.lost g.P.Person.shown c.args.person.now
 
 pub returns-in-Load-clause-told : goal.returns-in-Load-clause-told
 returns-in-Load-clause-told g c = λ asked.

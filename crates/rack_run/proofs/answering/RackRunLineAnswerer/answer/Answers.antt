@@ -1,6 +1,6 @@
 use Rattle.std.proofs.Common.{Bor, List, ℕ, refl, ◌∙◌}
 use Rattle.std.specs.Prelude.{option_map}
-use Rattle.person.proofs.Texts.{some-then}
+use Rattle.guide.proofs.Told.{told-then}
 use Rattle.rack_run.proofs.Lines.{if-err, is-err, line-carried, line-stopped, not-err, prompt-shown}
 use Rattle.rack_run.proofs.answering.RackRunLineAnswerer.answer.Goals as goal
 
@@ -20,5 +20,5 @@ returns-clause-answered g c = (
       (c.current_reader.ensures.current ∙ c.carry_out-end.ensures.does.selects) c.show_prompt.ensures,
   refl,
   refl),
-  (some-then g.N.Person.lost g.N.Person.shown _ _ _ c.before-2.ensures c.behind.ensures, refl),
+  (told-then g.N.Person.lost g.N.Person.shown _ _ _ c.before-2.ensures c.behind.ensures, refl),
 )
