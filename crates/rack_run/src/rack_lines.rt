@@ -97,12 +97,16 @@ fn is_begun(line: &[u8]) -> bool
 // The grammar of one of the rack's own statements, where a note asks for it.
 fn help_on_own(line: &[u8]) -> Option<&'static [u8]> {
     let (word, subject) = note_of(line)?;
-    if word.as_slice() != b"HELP" {
+    if word.as_slice() != b"HELP".as_slice() {
         return None;
     }
     match subject.as_slice() {
-        b"READER" => Some(b"READER (1 | 2 | 3 | 4)                         lines are for this reader's card from here on"),
-        b"EJECT" => Some(b"EJECT (1 | 2 | 3 | 4)                          takes the card out of this reader"),
+        b"READER" => Some(
+            b"READER (1 | 2 | 3 | 4)                         lines are for this reader's card from here on",
+        ),
+        b"EJECT" => Some(
+            b"EJECT (1 | 2 | 3 | 4)                          takes the card out of this reader",
+        ),
         _ => None,
     }
 }
@@ -110,8 +114,10 @@ fn help_on_own(line: &[u8]) -> Option<&'static [u8]> {
 // Puts the rack's own statements behind all others, where a note asks for these.
 fn put_own(line: &[u8], message: &mut Message) {
     if let Some((word, subject)) = note_of(line) {
-        if word.as_slice() == b"HELP" && subject.is_empty() {
-            message.put(b"\n  READER 2   EJECT 2    of the rack: lines are for reader 2's card; its card is taken out");
+        if word.as_slice() == b"HELP".as_slice() && subject.is_empty() {
+            message.put(
+                b"\n  READER 2   EJECT 2    of the rack: lines are for reader 2's card; its card is taken out",
+            );
         }
     }
 }
