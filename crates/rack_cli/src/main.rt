@@ -70,7 +70,7 @@ fn run_over(rt: &HostRuntime, paths: &[String]) -> Result<Status, Ending>
     }
     let mut source = StdSource::new(rt.clone()?);
     let mut person = Watcher::new(typing_screen(rt));
-    let mut notices = Watcher::of_session(notice_screen(rt), rt.stdin().is_terminal(), "rack");
+    let mut notices = Watcher::of_session(notice_screen(rt), rt.stdin().is_terminal(), "");
     Ok(run_rack(&mut source, &mut rack, &mut person, &mut notices).into())
 }
 
