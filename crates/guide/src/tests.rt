@@ -35,26 +35,33 @@ impl Person for Page {
 
 const CELLS: Cells = Cells { used: 25, all: 64 };
 
-// What a line that is refused by this word, or is a fault, or is carried out, shows before and behind its text.
-fn told(guide: &mut Guide<Statements>, line: &str, word: u16) -> Page {
-    let line = line.as_bytes();
-    let mut page = Page {
-        text: ArrayVec::new(),
-    };
-    let why = match Statement::read(line) {
+// Why a line isn't carried out: it is at fault, or the card refuses it by this word.
+fn why_of(line: &[u8], word: u16) -> Option<Why> {
+    if line.len() > 1000 {
+        return Some(Why::TooLong);
+    }
+    match Statement::read(line) {
         Err(fault) => Some(Why::Fault { fault }),
         Ok(_) if word == 0x9000 => None,
         Ok(_) => Some(Why::Word {
             word: StatusWord { word },
         }),
+    }
+}
+
+// What a line shows, before and behind its text.
+fn told(guide: &mut Guide<Statements>, line: &str, word: u16) -> Page {
+    let line = line.as_bytes();
+    let mut page = Page {
+        text: ArrayVec::new(),
     };
     guide.before(Some(line), &mut page);
-    guide.behind(Some(line), why, Some(CELLS), &mut page);
+    guide.behind(Some(line), why_of(line, word), Some(CELLS), &mut page);
     page
 }
 
 // Compares what each of these lines shows.
-fn shows(rt: &impl Abort, guide: &mut Guide<Statements>, lines: &[(&str, u16, &str)]) {
+fn all_show(rt: &impl Abort, guide: &mut Guide<Statements>, lines: &[(&str, u16, &str)]) {
     for (line, word, wanted) in lines {
         let page = told(guide, line, *word);
         assert_eq!(rt; page.text.as_slice(), wanted.as_bytes(), "{line}");
@@ -297,7 +304,7 @@ const REFUSALS: [(&str, u16, &str); 36] = [
 
 #[test]
 fn faults_are_marked(rt: HostRuntime) {
-    shows(
+    all_show(
         &rt,
         &mut Guide::new(Statements::new(), Presence::Typing),
         &FAULTS,
@@ -306,7 +313,7 @@ fn faults_are_marked(rt: HostRuntime) {
 
 #[test]
 fn refusals_are_explained(rt: HostRuntime) {
-    shows(
+    all_show(
         &rt,
         &mut Guide::new(Statements::new(), Presence::Typing),
         &REFUSALS,
