@@ -27,7 +27,11 @@ fn run_over(rt: &HostRuntime, path: &str, words: &[String]) -> Result<Status, En
         StdSource::new(rt.clone()?),
         stderr_where(rt, is_typed(rt, words)),
     );
-    let mut person = Watcher::new(stderr_where(rt, is_watched(rt, words)));
+    let mut person = Watcher::of_session(
+        stderr_where(rt, is_watched(rt, words)),
+        rt.stdin().is_terminal(),
+        path,
+    );
     Ok(run_card(rt.alloc(), words, &mut source, &mut bench, &mut person))
 }
 
@@ -43,9 +47,12 @@ fn is_typed(rt: &HostRuntime, words: &[String]) -> bool {
         && rt.stdout().is_terminal()
 }
 
-// Whether a person watches a load.
+// Whether a person watches a load, or is told of statements.
 fn is_watched(rt: &HostRuntime, words: &[String]) -> bool {
-    words.first().is_some_and(|word| word.as_str() == "load") && rt.stderr().is_terminal()
+    words
+        .first()
+        .is_some_and(|word| word.as_str() == "load" || word.as_str() == "term")
+        && rt.stderr().is_terminal()
 }
 
 const ABOUT: About = About {

@@ -9,6 +9,7 @@ mod power_loss;
 mod reads;
 mod scripts;
 mod statements;
+mod telling;
 
 use crate::run::run_card;
 use eeprom::{FaultPlan, MemBench, MemSource, SteadySource};

@@ -62,12 +62,22 @@ fn run_over(rt: &HostRuntime, paths: &[String]) -> Result<Status, ProgramEnd>
     }
     let mut source = StdSource::new(rt.clone()?);
     let mut person = Watcher::new(typing_screen(rt));
-    Ok(run_rack(&mut source, &mut rack, &mut person).into())
+    let mut notices = Watcher::of_session(notice_screen(rt), rt.stdin().is_terminal(), "");
+    Ok(run_rack(&mut source, &mut rack, &mut person, &mut notices).into())
 }
 
 // Standard error, where a person types statements, and reads what comes of them.
 fn typing_screen(rt: &HostRuntime) -> Option<Stderr> {
     if rt.stdin().is_terminal() && rt.stdout().is_terminal() {
+        Some(rt.stderr())
+    } else {
+        None
+    }
+}
+
+// Standard error, where a person reads it.
+fn notice_screen(rt: &HostRuntime) -> Option<Stderr> {
+    if rt.stderr().is_terminal() {
         Some(rt.stderr())
     } else {
         None

@@ -13,8 +13,8 @@ use Rattle.card_run.specs.Statements.{Sitting, SitsSo, opened, term_lines, was_r
 use Rattle.program.proofs.Ended.{at-longer, runs-through}
 use Rattle.card_run.proofs.Finishing.{tells-refused}
 use Rattle.card_run.proofs.Sittings.{sits-opened}
-use Rattle.card_run.proofs.statements.answer_statements.Goals.{After-of_input-status as Ran}
-use Rattle.card_run.proofs.statements.answer_statements.Goals as goal
+use Rattle.card_run.proofs.statements.carry_out.Goals.{After-of_input-status as Ran}
+use Rattle.card_run.proofs.statements.carry_out.Goals as goal
 
 -- the terminal's card is at a machine
 abbrev at_machine : (g : _) → Ran g → OnBench g.row.B.Denot → Machine → Type 0
