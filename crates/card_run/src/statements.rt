@@ -83,6 +83,7 @@ impl<'a, B: Bench, P: Person> Responder for StatementCard<'a, B, P> {
 }
 
 /// Answers the lines of the input as statements, and tells a person of them.
+#[inline(never)]
 pub(crate) fn answer_statements<S: Source, B: Bench, P: Person>(
     card: Card,
     source: &mut S,
