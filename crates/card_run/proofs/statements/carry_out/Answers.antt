@@ -3,6 +3,8 @@ use Rattle.std.proofs.Common.{rules, ℕ, List, false, sym, subst, ◌∙◌}
 use Rattle.eeprom.specs.Chip.{Becomes}
 use Rattle.scql_model.specs.Database.{Database}
 use Rattle.scql_model.specs.Machine.{Machine, start}
+use Rattle.person.specs.Showing.{ShowsSome}
+use Rattle.guide.proofs.Told.{told-then}
 use Rattle.card.specs.Behind.{KeepsBehind}
 use Rattle.card.specs.Card.{IsAt}
 use Rattle.card.specs.LiveCard.{IsReadyAt, OnBench}
@@ -28,7 +30,7 @@ pub returns-clause-runs : goal.returns-clause-runs
 returns-clause-runs g c = λ db at.
     let run : Ran g = (goal.at.returns-clause-runs g c).After-of_input-status in
     subst (λ (bench : g.row.B.Denot). Becomes (λ (input left : List ℕ). RunsTo g.B.Eeprom.chip g.B.Eeprom.faults term_lines (opened db) c.of_input-status.result input left c.args.bench.now bench) (g.S.Source.left c.args.source.now) (g.S.Source.left c.run_lines-end.new.source))
-    (search (rules, c.run_lines-end.ensures.goes_on.name))
+    (search (rules, c.run_lines-end.ensures.goes_on.0.name))
     (rw (c.new-card.ensures) at
     (runs-through _ c.run_lines-end.result.1 (λ statements. statements.card.bench) g.B.Eeprom.chip g.B.Eeprom.faults term_lines (opened db) c.run_lines-end.result.0 c.run_lines-end.result.1.refused c.of_input-status.result
     (g.S.Source.left c.args.source.now) (g.S.Source.left c.run_lines-end.new.source) c.of_input-status.ensures (c.run_lines-end.ensures.runs (opened db) (begins g run db at))))
@@ -47,5 +49,10 @@ returns-clause-too_long g c = λ is.
 
 pub returns-clause-behind : goal.returns-clause-behind
 returns-clause-behind g c =
-    subst (λ (bench : g.row.B.Denot). KeepsBehind (λ was. c.args.card.store.chains.cells) (g.B.Eeprom.chip c.args.bench.now) (g.B.Eeprom.chip bench)) (search (rules, c.run_lines-end.ensures.goes_on.name))
-    (rw (c.new-card.ensures) at c.run_lines-end.ensures.goes_on.lasts.behind)
+    subst (λ (bench : g.row.B.Denot). KeepsBehind (λ was. c.args.card.store.chains.cells) (g.B.Eeprom.chip c.args.bench.now) (g.B.Eeprom.chip bench)) (search (rules, c.run_lines-end.ensures.goes_on.0.name))
+    (rw (c.new-card.ensures) at c.run_lines-end.ensures.goes_on.0.lasts.behind)
+
+pub returns-clause-told : goal.returns-clause-told
+returns-clause-told g c =
+    subst (λ (person : g.row.P.Denot). ShowsSome g.P.Person.lost g.P.Person.shown c.args.person.now person) (search (rules, c.run_lines-end.ensures.goes_on.2))
+    (told-then g.P.Person.lost g.P.Person.shown c.args.person.now c.run_lines-end.result.1.person.now c.leave.new.person c.run_lines-end.ensures.goes_on.1 c.leave.ensures)
