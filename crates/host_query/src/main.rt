@@ -27,8 +27,11 @@ fn run_over(rt: &HostRuntime, path: &str, user: Name) -> Result<Status, Ending> 
     let _streams = hold_streams(rt);
     let mut bench = FileBench::open(rt.clone()?, path, false)?;
     let mut source = Prompted::new(StdSource::new(rt.clone()?), stderr_where(rt, is_typed(rt)));
-    let person = Watcher::new(stderr_where(rt, rt.stderr().is_terminal()));
-    let (status, _) = run_query(rt.alloc(), user, &mut source, &mut bench, person);
+    let is_read = rt.stderr().is_terminal();
+    let person = Watcher::new(stderr_where(rt, is_read));
+    let types = rt.stdin().is_terminal();
+    let notices = Watcher::of_session(stderr_where(rt, is_read), types, path);
+    let (status, _, _) = run_query(rt.alloc(), user, &mut source, &mut bench, person, notices);
     Ok(status.into())
 }
 
