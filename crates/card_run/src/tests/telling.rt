@@ -55,7 +55,8 @@ fn who_types_is_told(rt: HostRuntime) -> Result<(), Fail> {
   not found: OWNER sees no object T, or it has no column of that name
 
 2 of 3 lines were refused or are no statement (exit status 1).
-".as_slice()
+"
+                .as_slice()
     );
     Ok(())
 }
