@@ -28,15 +28,26 @@ use terminal::{LineEnd, Refusal, Terminal};
 
 /// A terminal with its card, which is asked by statements, whether one was refused so far, and a person who is told of them.
 #[derive(Drop)]
-pub(crate) struct StatementCard<'a, B: Bench, P: Person> {
+pub(crate) struct StatementCard<'a, 'b, B: Bench, P: Person> {
     pub(crate) terminal: Terminal,
     pub(crate) card: LiveCard<'a, B>,
     pub(crate) refused: bool,
-    pub(crate) guide: Guide<Statements>,
-    pub(crate) person: &'a mut P,
+    pub(crate) guide: &'b mut Guide<Statements>,
+    pub(crate) person: &'b mut P,
 }
 
-impl<'a, B: Bench, P: Person> Responder for StatementCard<'a, B, P> {
+impl<'a, 'b, B: Bench, P: Person> StatementCard<'a, 'b, B, P> {
+    // The card, and the person, as lines have left them.
+    fn into_parts(self) -> (LiveCard<'a, B>, &'b mut P)
+        ensures card { result.0 ≡ self.entry.card }
+        ensures name { result.1.ghost_name ≡ self.entry.person.ghost_name }
+        ensures person { result.1.now ≡ self.entry.person.now }
+    {
+        (self.card, self.person)
+    }
+}
+
+impl<'a, 'b, B: Bench, P: Person> Responder for StatementCard<'a, 'b, B, P> {
     ghost use Rattle.std.specs.Prelude.{◌≡◌, IsTrue, false};
     ghost use Rattle.std.proofs.Common.{◌∙◌, refl};
     ghost use Rattle.person.specs.Showing.{ShowsSome};
@@ -107,15 +118,17 @@ pub(crate) fn answer_statements<S: Source, B: Bench, P: Person>(
     let presence = person.presence();
     let mut guide = Guide::new(Statements::new(), presence);
     guide.greet(cells_of(&card, bench, presence), person);
-    carry_out(card, source, bench, guide, person)
+    let status = carry_out(card, source, bench, &mut guide, person);
+    guide.leave(person);
+    status
 }
 
-// The same behind the greeting.
+// The same between the greeting and the end.
 fn carry_out<S: Source, B: Bench, P: Person>(
     card: Card,
     source: &mut S,
     bench: &mut B,
-    guide: Guide<Statements>,
+    guide: &mut Guide<Statements>,
     person: &mut P,
 ) -> Status
     requires { IsReady card (B.chip bench.old) }
@@ -142,13 +155,7 @@ fn carry_out<S: Source, B: Bench, P: Person>(
     };
     let (end, statements) = run_lines(source, statements);
     let status = Status::of_input(end, statements.refused);
-    let StatementCard {
-        card,
-        mut guide,
-        person,
-        ..
-    } = statements;
-    guide.leave(person);
+    let (card, _person) = statements.into_parts();
     card.into_bench();
     status
 }

@@ -4,7 +4,6 @@ use Rattle.eeprom.specs.Chip.{Becomes}
 use Rattle.scql_model.specs.Database.{Database}
 use Rattle.scql_model.specs.Machine.{Machine, start}
 use Rattle.person.specs.Showing.{ShowsSome}
-use Rattle.guide.proofs.Told.{told-then}
 use Rattle.card.specs.Behind.{KeepsBehind}
 use Rattle.card.specs.Card.{IsAt}
 use Rattle.card.specs.LiveCard.{IsReadyAt, OnBench}
@@ -55,4 +54,4 @@ returns-clause-behind g c =
 pub returns-clause-told : goal.returns-clause-told
 returns-clause-told g c =
     subst (λ (person : g.row.P.Denot). ShowsSome g.P.Person.lost g.P.Person.shown c.args.person.now person) (search (rules, c.run_lines-end.ensures.goes_on.2))
-    (told-then g.P.Person.lost g.P.Person.shown c.args.person.now c.run_lines-end.result.1.person.now c.leave.new.person c.run_lines-end.ensures.goes_on.1 c.leave.ensures)
+    c.run_lines-end.ensures.goes_on.1
