@@ -20,7 +20,7 @@ ghost use Rattle.card_run.specs.Statements.{Sitting, heard_as, opened, refusal_a
 
 use card::{Card, LiveCard};
 use eeprom::{Bench, Outlet, Source};
-use guide::{Cells, Guide, Statements, Why};
+use guide::{Cells, Guide, Message, Statements, Why};
 use line_run::{LineStop, Responder, run_lines};
 use person::{Person, Presence};
 use program::Status;
@@ -119,8 +119,18 @@ pub(crate) fn answer_statements<S: Source, B: Bench, P: Person>(
     let mut guide = Guide::new(Statements::new(), presence);
     guide.greet(cells_of(&card, bench, presence), person);
     let status = carry_out(card, source, bench, &mut guide, person);
-    guide.leave(person);
+    take_leave(status, &mut guide, person);
     status
+}
+
+// Says how many lines were refused, where all of them were read.
+fn take_leave<P: Person>(status: Status, guide: &mut Guide<Statements>, person: &mut P)
+    ensures { ShowsSome P.lost P.shown person.old person.new }
+{
+    match status {
+        Status::Done | Status::Refused => guide.leave(person),
+        _ => guide.tell(&Message::new(), person),
+    }
 }
 
 // The same between the greeting and the end.

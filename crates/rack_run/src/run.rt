@@ -16,7 +16,7 @@ use crate::rack_lines::RackLines;
 use crate::tally::Tally;
 use card_link::CardLink;
 use eeprom::{Outlet, Source};
-use guide::Guide;
+use guide::{Guide, Message};
 use line_input::answer_lines;
 use person::Person;
 use reader_rack::Rack;
@@ -45,8 +45,18 @@ pub fn run_rack<S: Source, O: Outlet, L: CardLink, P: Person, N: Person>(
     let mut guide = Guide::new(RackLines::new(), notices.presence());
     guide.greet(None, notices);
     let status = run_over(source, rack, person, &mut guide, notices);
-    guide.leave(notices);
+    take_leave(status, &mut guide, notices);
     status
+}
+
+// Says how many lines were refused, where that is how the run ended.
+fn take_leave<N: Person>(status: RackStatus, guide: &mut Guide<RackLines>, notices: &mut N)
+    ensures { ShowsSome N.lost N.shown notices.old notices.new }
+{
+    match status {
+        RackStatus::Done | RackStatus::Refused => guide.leave(notices),
+        _ => guide.tell(&Message::new(), notices),
+    }
 }
 
 // The same over any rack, behind the greeting.
