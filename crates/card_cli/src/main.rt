@@ -5,6 +5,7 @@ use card_run::run_card;
 use file_bench::{FileBench, StdSource};
 use person::{Prompted, Watcher};
 use program::{About, Ending, ProgramEnd, Status, hold_streams, run_program};
+use std::fs;
 use std::io::{IsTerminal, Stderr};
 use std::process::ExitCode;
 
@@ -22,6 +23,9 @@ fn run_words(rt: &HostRuntime, words: &[String]) -> ProgramEnd {
 fn run_over(rt: &HostRuntime, path: &str, words: &[String]) -> Result<Status, Ending> {
     let create = words.first().is_some_and(|word| word.as_str() == "new");
     let _streams = hold_streams(rt);
+    if create {
+        say_what_goes(rt, path);
+    }
     let mut bench = FileBench::open(rt.clone()?, path, create)?;
     let mut source = Prompted::new(
         StdSource::new(rt.clone()?),
@@ -33,6 +37,14 @@ fn run_over(rt: &HostRuntime, path: &str, words: &[String]) -> Result<Status, En
         path,
     );
     Ok(run_card(rt.alloc(), words, &mut source, &mut bench, &mut person))
+}
+
+// Tells a person of a file that is there already, before a new card is made in it.
+fn say_what_goes(rt: &HostRuntime, path: &str) {
+    if rt.stderr().is_terminal() && fs::metadata(rt, path).is_ok_and(|found| found.len() != 0) {
+        // Where that can't be said, the card is made all the same.
+        let _ = eprintln!(rt; "{path}: is there already; a new card replaces what it holds");
+    }
 }
 
 // Standard error, where a person reads it.
