@@ -1,9 +1,10 @@
 -- What a log tells of whoever makes its writes, by what a run of calls from its beginning on says of the moments.
-use Rattle.std.proofs.Common.{◌≡◌, ◌⊎◌, inl, inr, ℕ, List, [], length, refl, sym, subst, arith}
+use Rattle.std.proofs.Common.{◌≡◌, ◌⊎◌, inl, inr, ℕ, List, [], length, refl, ap, sym, ◌∙◌, subst, arith}
 use Rattle.std.proofs.lemmas.Option.{same_Some}
-use Rattle.eeprom.specs.Chip.{LeftSince, Throughout}
-use Rattle.log_bench.specs.LogBench.{log_chip}
-use Rattle.log_bench.specs.Writes.{Write, AllFit, MayBeCutTo, applied}
+use Rattle.eeprom.specs.Chip.{Chip, LeftSince, Throughout}
+use Rattle.log_bench.specs.LogBench.{chip_of, first_of, image_of, log_chip, log_of}
+use Rattle.log_bench.specs.declared.log_bench.LogBench.{LogBench}
+use Rattle.log_bench.specs.Writes.{Write, AllFit, MayBeCutTo, applied, undone}
 use Rattle.log_bench.proofs.Logged.{cut-since}
 
 -- at mark 0 a loss of power leaves the image at the log's beginning, and at mark 1 too as long as nothing is written
@@ -41,3 +42,23 @@ cut-run P image image2 first2 log2 written written2 fits replays moments left cu
       | inl before ↦ inl (unwritten-since image left written 1 before)
       | inr now ↦ inr now.1
     ]
+
+-- the same of benches: one whose log was just begun on an image, and the same as a run of calls left it
+begun-chip : (image image2 : List ℕ) (log : List Write) (written : ℕ) → image2 ≡ image → log ≡ [] → log_chip image2 (undone log image2) log written ≡ log_chip image image [] written
+begun-chip image image2 log written same none = rw (none, same) refl
+
+begun-run : (P : List ℕ → Type 0) (image : List ℕ) (begun new : LogBench) → image_of begun ≡ image → log_of begun ≡ [] → Throughout (chip_of begun) (chip_of new) (λ g left. (g ≡ 1) × P left)
+    → Throughout (log_chip image image [] begun.octets_written) (chip_of new) (λ g left. (g ≡ 1) × P left)
+begun-run P image begun new same none moments =
+    subst (λ (chip : Chip). Throughout chip (chip_of new) (λ g left. (g ≡ 1) × P left)) (begun-chip image (image_of begun) (log_of begun) begun.octets_written same none) moments
+
+pub all-begun : (P : List ℕ → Type 0) (image : List ℕ) (begun new : LogBench) → image_of begun ≡ image → log_of begun ≡ [] → Throughout (chip_of begun) (chip_of new) (λ g left. (g ≡ 1) × P left)
+    → applied (log_of new) image ≡ image_of new
+all-begun P image begun new same none moments =
+    let first = first-stays P image (image_of new) (first_of new) (log_of new) begun.octets_written new.octets_written (begun-run P image begun new same none moments) in
+    ap (applied (log_of new)) (sym first) ∙ new.replays
+
+pub cut-begun : (P : List ℕ → Type 0) (image : List ℕ) (begun new : LogBench) → image_of begun ≡ image → log_of begun ≡ [] → Throughout (chip_of begun) (chip_of new) (λ g left. (g ≡ 1) × P left)
+    → (left : List ℕ) → MayBeCutTo (log_of new) image left → (left ≡ image) ⊎ P left
+cut-begun P image begun new same none moments =
+    cut-run P image (image_of new) (first_of new) (log_of new) begun.octets_written new.octets_written new.fits new.replays (begun-run P image begun new same none moments)
