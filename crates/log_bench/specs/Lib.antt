@@ -1,0 +1,4 @@
+pub mod Entries
+pub mod Log
+pub mod LogBench
+pub mod Writes
