@@ -48,14 +48,14 @@ fn run_over(rt: &HostRuntime, paths: &[String]) -> Result<Status, ProgramEnd>
 {
     let _streams = hold_streams(rt);
     let mut benches = Vec::with_capacity(rt.alloc(), READERS)?;
-    for (word, path) in paths.iter().enumerate() {
-        let bench = open_file(rt, word, path)?;
+    for path in paths {
+        let bench = open_file(rt, benches.len(), path)?;
         benches.push(bench).map_err(AllocError::from)?;
     }
     let mut rack = Rack::new(StdOutlet::new(rt.clone()?));
     let mut reader = 1;
-    for (word, bench) in benches.into_iter().enumerate() {
-        let card = card_in(rt, word, bench)?;
+    for bench in benches {
+        let card = card_in(rt, usize::from(reader - 1), bench)?;
         // The reader holds no link yet.
         let _ = rack.insert(reader, card);
         reader += 1;
