@@ -1,4 +1,4 @@
-"""Compares docs/PROMISES.md with the sources: on which definitions the clauses of `run_card` rest, and which clauses there are.
+"""Compares docs/PROMISES.md and the pages of the crates with the sources: on which definitions the clauses of `run_card` rest, and which clauses there are.
 
 It prints a line for each difference, which says what to change, and nothing where there is none. With the word `needed` it prints
 the files of specs/ on which those clauses rest, and with `why` and names of such files by what each of their definitions is reached.
@@ -231,11 +231,23 @@ def section(page, title):
     return page[begin:end].splitlines()[2:]
 
 
+def part_of(text, title):
+    """The lines of a part of a crate's page, without its title; none where it has no such part."""
+    return section(text + "\n## ", title) if f"\n## {title}\n" in text else []
+
+
+def pages_of_crates():
+    """The page of each crate that has one."""
+    return {path.parent.name: path.read_text(encoding="utf-8") for path in sorted(CRATES.glob("*/README.md"))}
+
+
 def listed_files(page):
-    """The files of the list in reading order, each with whether it is marked; and what of the list tells no file."""
+    """The files of the list in reading order, and of those of the crates, each with whether it is marked; and what of them tells no file."""
     found, odd, crates = {}, [], []
-    entries = "\n".join(section(page, "The definitions, in reading order"))
-    entries = re.sub(r"\n  +", " ", entries).splitlines()
+    lines = section(page, "The definitions, in reading order")
+    for crate, text in pages_of_crates().items():
+        lines += [f"**`crates/{crate}/specs`**", *part_of(text, "Definitions")]
+    entries = re.sub(r"\n  +", " ", "\n".join(lines)).splitlines()
     for entry in entries:
         if entry.startswith("**"):
             crates = re.findall(r"`crates/(\w+)/specs`", entry)
@@ -246,10 +258,12 @@ def listed_files(page):
             for name, mark in re.findall(r"`(\w+\.antt)`( \*)?", names):
                 paths = [CRATES / each / "specs" / name for each in ([crate] if crate in crates else crates)]
                 paths = [path for path in paths if path.is_file()]
-                if len(paths) == 1:
-                    found[paths[0]] = bool(mark)
-                else:
+                if len(paths) != 1:
                     odd.append(f"`{name}` in `{entry[:60]}..`: {'no such file' if not paths else 'say of which crate'}")
+                elif paths[0] in found:
+                    odd.append(f"`{name}` in `{entry[:60]}..`: it is listed twice")
+                else:
+                    found[paths[0]] = bool(mark)
     return found, odd
 
 
@@ -337,21 +351,18 @@ def differences_of_names(where, text, known):
                 yield f"{where}: `{function}` has no clause `{name}`"
 
 
-def differences_of_crates(page, known):
+def differences_of_crate(crate, text, known):
     """What stands in brackets behind the functions of a crate are clauses, functions or definitions of it."""
-    for part in re.split(r"\n### ", page[page.index("\n## Crate by crate\n"):])[1:]:
-        crates = names_in(part.splitlines()[0])
-        have = {name for places in known.values() for crate, clauses in places if crate in crates for name in clauses}
-        have |= {name for name, places in known.items() if any(crate in crates for crate, _ in places)}
-        for path in (path for crate in [*crates, "scql_model"] for path in (CRATES / crate / "specs").rglob("*.antt")):
-            text = path.read_text(encoding="utf-8")
-            have |= set(re.findall(r"^(?:  pub|(?:abbrev|unfoldable) pub) (\w+) :", text, re.M))
-        have |= {ghost for crate in crates for path in (CRATES / crate / "src").rglob("*.rt")
-                 for ghost in re.findall(r"ghost (\w+)", path.read_text(encoding="utf-8"))}
-        for group in re.findall(r"\(((?:(?:clause )?`[a-z_]+`(?:, | and )?)+)\)", re.sub(r"\n *", " ", part)):
-            for name in names_in(group):
-                if name not in have:
-                    yield f"docs/PROMISES.md, {', '.join(crates)}: there is no clause `{name}`"
+    have = {name for places in known.values() for each, clauses in places if each == crate for name in clauses}
+    have |= {name for name, places in known.items() if any(each == crate for each, _ in places)}
+    for path in (path for each in [crate, "scql_model"] for path in (CRATES / each / "specs").rglob("*.antt")):
+        have |= set(re.findall(r"^(?:  pub|(?:abbrev|unfoldable) pub) (\w+) :", path.read_text(encoding="utf-8"), re.M))
+    have |= {ghost for path in (CRATES / crate / "src").rglob("*.rt") for ghost in re.findall(r"ghost (\w+)", path.read_text(encoding="utf-8"))}
+    promises = re.sub(r"\n *", " ", "\n".join(part_of(text, "Promises")))
+    for group in re.findall(r"\(((?:(?:clause )?`[a-z_]+`(?:, | and )?)+)\)", promises):
+        for name in names_in(group):
+            if name not in have:
+                yield f"crates/{crate}/README.md: there is no clause `{name}`"
 
 
 def differences():
@@ -359,9 +370,10 @@ def differences():
     known = functions()
     yield from differences_of_list(page)
     yield from differences_of_table(page)
-    for path in [ROOT / "README.md", *sorted((ROOT / "docs").glob("*.md"))]:
+    for path in [ROOT / "README.md", *sorted((ROOT / "docs").glob("*.md")), *sorted(CRATES.glob("*/README.md"))]:
         yield from differences_of_names(shown(path), path.read_text(encoding="utf-8"), known)
-    yield from differences_of_crates(page, known)
+    for crate, text in pages_of_crates().items():
+        yield from differences_of_crate(crate, text, known)
 
 
 def main(words):

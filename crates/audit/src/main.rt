@@ -7,36 +7,33 @@ use audit_run::run_audit;
 use auditor::Auditor;
 use file_bench::{FileSource, StdOutlet};
 use person::Watcher;
-use program::{About, Ending, Status, command_line, end_program, hold_streams};
+use program::{About, Ending, ProgramEnd, Status, hold_streams, run_program};
 use std::fs;
 use std::io::{IsTerminal, Stderr};
 use std::process::ExitCode;
 
 fn main(rt: HostRuntime) -> ExitCode {
-    let ending = match answer(&rt) {
-        Ok(status) => Ending::Run(status),
-        Err(ending) => ending,
-    };
-    end_program(&rt, ending, USAGE)
+    run_program(&rt, ABOUT, run_words)
 }
 
-fn answer(rt: &HostRuntime) -> Result<Status, Ending> {
-    let words = command_line(rt)?;
-    if let Some(status) = ABOUT.answer(rt, &words) {
-        return Ok(status);
-    }
-    match words.as_slice() {
-        [first, transcript, last] => run_over(rt, first, transcript, last),
-        _ => Ok(Status::Usage),
+fn run_words(rt: &HostRuntime, words: &[String]) -> ProgramEnd {
+    match words {
+        [first, transcript, last] => ProgramEnd::of_run(run_over(rt, first, transcript, last)),
+        _ => ProgramEnd::from(Ending::Run(Status::Usage)),
     }
 }
 
 // Audits what these files hold. All of them are opened before the first is read.
-fn run_over(rt: &HostRuntime, first: &str, transcript: &str, last: &str) -> Result<Status, Ending> {
+fn run_over(
+    rt: &HostRuntime,
+    first: &str,
+    transcript: &str,
+    last: &str,
+) -> Result<Status, ProgramEnd> {
     let _streams = hold_streams(rt);
-    let mut first = source_in(rt, first)?;
-    let mut transcript = source_in(rt, transcript)?;
-    let mut last = source_in(rt, last)?;
+    let mut first = source_in(rt, first).map_err(|ending| ending.over(0))?;
+    let mut transcript = source_in(rt, transcript).map_err(|ending| ending.over(1))?;
+    let mut last = source_in(rt, last).map_err(|ending| ending.over(2))?;
     let mut outlet = StdOutlet::new(rt.clone()?);
     let mut person = Watcher::new(watching_screen(rt));
     let status = run_audit::<Auditor, _, _, _>(
@@ -67,9 +64,9 @@ fn watching_screen(rt: &HostRuntime) -> Option<Stderr> {
     }
 }
 
-const USAGE: &str = "usage: audit IMAGE TRANSCRIPT IMAGE";
-
 const ABOUT: About = About {
+    name: "audit",
+    usage: "usage: audit IMAGE TRANSCRIPT IMAGE",
     help: HELP,
     version: "audit 0.1.0",
 };

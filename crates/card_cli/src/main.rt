@@ -4,39 +4,47 @@
 use card_run::run_card;
 use file_bench::{FileBench, StdSource};
 use person::{Prompted, Watcher};
-use program::{About, Ending, Status, command_line, end_program, hold_streams};
+use program::{About, Ending, ProgramEnd, Status, hold_streams, run_program};
+use std::fs;
 use std::io::{IsTerminal, Stderr};
 use std::process::ExitCode;
 
 fn main(rt: HostRuntime) -> ExitCode {
-    let ending = match answer(&rt) {
-        Ok(status) => Ending::Run(status),
-        Err(ending) => ending,
-    };
-    end_program(&rt, ending, USAGE)
+    run_program(&rt, ABOUT, run_words)
 }
 
-fn answer(rt: &HostRuntime) -> Result<Status, Ending> {
-    let words = command_line(rt)?;
-    if let Some(status) = ABOUT.answer(rt, &words) {
-        return Ok(status);
-    }
+fn run_words(rt: &HostRuntime, words: &[String]) -> ProgramEnd {
     match words.split_first() {
-        Some((path, rest)) => run_over(rt, path, rest),
-        None => Ok(Status::Usage),
+        Some((path, rest)) => ProgramEnd::of_run_over(0, run_over(rt, path, rest)),
+        None => ProgramEnd::from(Ending::Run(Status::Usage)),
     }
 }
 
 fn run_over(rt: &HostRuntime, path: &str, words: &[String]) -> Result<Status, Ending> {
     let create = words.first().is_some_and(|word| word.as_str() == "new");
     let _streams = hold_streams(rt);
+    if create {
+        say_what_goes(rt, path);
+    }
     let mut bench = FileBench::open(rt.clone()?, path, create)?;
     let mut source = Prompted::new(
         StdSource::new(rt.clone()?),
         stderr_where(rt, is_typed(rt, words)),
     );
-    let mut person = Watcher::new(stderr_where(rt, is_watched(rt, words)));
+    let mut person = Watcher::of_session(
+        stderr_where(rt, is_watched(rt, words)),
+        rt.stdin().is_terminal(),
+        path,
+    );
     Ok(run_card(rt.alloc(), words, &mut source, &mut bench, &mut person))
+}
+
+// Tells a person of a file that is there already, before a new card is made in it.
+fn say_what_goes(rt: &HostRuntime, path: &str) {
+    if rt.stderr().is_terminal() && fs::metadata(rt, path).is_ok_and(|found| found.len() != 0) {
+        // Where that can't be said, the card is made all the same.
+        let _ = eprintln!(rt; "{path}: is there already; a new card replaces what it holds");
+    }
 }
 
 // Standard error, where a person reads it.
@@ -51,14 +59,17 @@ fn is_typed(rt: &HostRuntime, words: &[String]) -> bool {
         && rt.stdout().is_terminal()
 }
 
-// Whether a person watches a load.
+// Whether a person watches a load, or is told of statements.
 fn is_watched(rt: &HostRuntime, words: &[String]) -> bool {
-    words.first().is_some_and(|word| word.as_str() == "load") && rt.stderr().is_terminal()
+    words
+        .first()
+        .is_some_and(|word| word.as_str() == "load" || word.as_str() == "term")
+        && rt.stderr().is_terminal()
 }
 
-const USAGE: &str = "usage: card_cli FILE (new N | apdu | term | check | load K SEED | migrate)";
-
 const ABOUT: About = About {
+    name: "card_cli",
+    usage: "usage: card_cli FILE (new N | apdu | term | check | load K SEED | migrate)",
     help: HELP,
     version: "card_cli 0.1.0",
 };

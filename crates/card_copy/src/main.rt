@@ -2,10 +2,10 @@
 #![tactic(auto)]
 
 use copy_run::{are_names, run_copy};
-use file_bench::{FileBench, StdOutlet};
-use file_card::card_in;
+use file_bench::StdOutlet;
+use file_card::{card_in, open_file};
 use person::Watcher;
-use program::{About, Ending, Status, command_line, end_program, hold_streams};
+use program::{About, Ending, ProgramEnd, Status, hold_streams, run_program};
 use reader_rack::Rack;
 use std::io::{IsTerminal, Stderr};
 use std::process::ExitCode;
@@ -14,33 +14,30 @@ use std::process::ExitCode;
 mod tests;
 
 fn main(rt: HostRuntime) -> ExitCode {
-    let ending = match answer(&rt) {
-        Ok(status) => Ending::Run(status),
-        Err(ending) => ending,
-    };
-    end_program(&rt, ending, USAGE)
+    run_program(&rt, ABOUT, run_words)
 }
 
-fn answer(rt: &HostRuntime) -> Result<Status, Ending> {
-    let words = command_line(rt)?;
-    if let Some(status) = ABOUT.answer(rt, &words) {
-        return Ok(status);
-    }
-    match words.as_slice() {
+fn run_words(rt: &HostRuntime, words: &[String]) -> ProgramEnd {
+    match words {
         [from, to, names @ ..] if from.as_str() != to.as_str() && are_names(names) => {
-            run_over(rt, from, to, names)
+            ProgramEnd::of_run(run_over(rt, from, to, names))
         }
-        _ => Ok(Status::Usage),
+        _ => ProgramEnd::from(Ending::Run(Status::Usage)),
     }
 }
 
 // Copies between the cards of these files. Both files are opened before the first card is.
-fn run_over(rt: &HostRuntime, from: &str, to: &str, names: &[String]) -> Result<Status, Ending> {
+fn run_over(
+    rt: &HostRuntime,
+    from: &str,
+    to: &str,
+    names: &[String],
+) -> Result<Status, ProgramEnd> {
     let _streams = hold_streams(rt);
-    let source = FileBench::open(rt.clone()?, from, false)?;
-    let dest = FileBench::open(rt.clone()?, to, false)?;
-    let source = card_in(rt, source)?;
-    let dest = card_in(rt, dest)?;
+    let source = open_file(rt, 0, from)?;
+    let dest = open_file(rt, 1, to)?;
+    let source = card_in(rt, 0, source)?;
+    let dest = card_in(rt, 1, dest)?;
     let mut rack = Rack::new(StdOutlet::new(rt.clone()?));
     // Neither reader holds a link yet.
     let _ = rack.insert(1, source);
@@ -58,9 +55,9 @@ fn watching_screen(rt: &HostRuntime) -> Option<Stderr> {
     }
 }
 
-const USAGE: &str = "usage: card_copy FILE1 FILE2 SUSER OBJECT DUSER TABLE";
-
 const ABOUT: About = About {
+    name: "card_copy",
+    usage: "usage: card_copy FILE1 FILE2 SUSER OBJECT DUSER TABLE",
     help: HELP,
     version: "card_copy 0.1.0",
 };

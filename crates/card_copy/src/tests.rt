@@ -9,10 +9,10 @@ use card_link::CardLink;
 use copy_run::{CopyStatus, run_copy};
 use eeprom::{CutBench, Outlet, SinkFault};
 use file_bench::FileBench;
-use file_card::card_in;
+use file_card::{card_in, open_file};
 use migrate::migrate;
-use person::Person;
-use program::{Ending, Status};
+use person::Nobody;
+use program::{Ending, ProgramEnd, Status};
 use reader_rack::Rack;
 use scql_base::{Name, StatusWord};
 use std::alloc::AllocError;
@@ -49,58 +49,42 @@ impl Outlet for Page {
     }
 }
 
-// Nobody watches.
-#[derive(Drop)]
-struct Nobody {}
-
-impl Person for Nobody {
-    ghost use Rattle.std.specs.Prelude.{Some, true, []};
-
-    ghost shown = { λ _. Some [] };
-
-    ghost lost = { λ _. true };
-
-    fn show(&mut self, text: &[u8]) {
-        let _ = text;
-    }
-}
-
 // The card that a file has where its writes are cut short.
 fn cut_card_in(
     rt: &HostRuntime,
     mut bench: CutBench<FileBench<HostRuntime>>,
-) -> Result<Box<SlotCard<CutBench<FileBench<HostRuntime>>>>, Ending>
+) -> Result<Box<SlotCard<CutBench<FileBench<HostRuntime>>>>, ProgramEnd>
     ensures live { IfOk result (λ card. IsTrue (⟦<SlotCard<CutBench<FileBench<HostRuntime>>> as CardLink>⟧.is_live card.value)) }
     ensures closed { IfOk result (λ card. (m : Machine) → ⟦<SlotCard<CutBench<FileBench<HostRuntime>>> as CardLink>⟧.is_at card.value m → m.transaction ≡ None) }
 {
     match Card::open(rt.alloc(), &mut bench) {
         Ok(card) => cut_boxed(rt, SlotCard::new(card, bench)),
-        Err(_) => Err(Ending::Run(Status::Eeprom)),
+        Err(_) => Err(Ending::Run(Status::Eeprom).into()),
     }
 }
 
 fn cut_boxed(
     rt: &HostRuntime,
     card: SlotCard<CutBench<FileBench<HostRuntime>>>,
-) -> Result<Box<SlotCard<CutBench<FileBench<HostRuntime>>>>, Ending>
+) -> Result<Box<SlotCard<CutBench<FileBench<HostRuntime>>>>, ProgramEnd>
     ensures { IfOk result (λ boxed. boxed.value ≡ card) }
 {
     match Box::new(rt.alloc(), card) {
         Ok(boxed) => Ok(boxed),
-        Err(_) => Err(Ending::Run(Status::NoMemory)),
+        Err(_) => Err(Ending::Run(Status::NoMemory).into()),
     }
 }
 
 // Makes a card in a file, which is made where it is missing.
-fn make_card(rt: &HostRuntime, path: &str) -> Result<(), Ending> {
-    let mut bench = FileBench::open(rt.clone()?, path, true)?;
+fn make_card(rt: &HostRuntime, path: &str) -> Result<(), ProgramEnd> {
+    let mut bench = FileBench::open(rt.clone()?, path, true).map_err(Ending::from)?;
     let _ = Card::format(&mut bench, 64);
     Ok(())
 }
 
 // What is printed to lines on the card in a file.
-fn printed(rt: &HostRuntime, path: &str, lines: &[&[u8]]) -> Result<ArrayVec<u8, 256>, Ending> {
-    let card = card_in(rt, FileBench::open(rt.clone()?, path, false)?)?;
+fn printed(rt: &HostRuntime, path: &str, lines: &[&[u8]]) -> Result<ArrayVec<u8, 256>, ProgramEnd> {
+    let card = card_in(rt, 0, open_file(rt, 0, path)?)?;
     let mut rack = Rack::new(Page::new());
     // The reader holds no link yet.
     let _ = rack.insert(1, card);
@@ -115,24 +99,24 @@ fn printed(rt: &HostRuntime, path: &str, lines: &[&[u8]]) -> Result<ArrayVec<u8,
 }
 
 // A copy in which so many writes to the destination are passed on, and the next one is cut short.
-fn cut_copy(rt: &HostRuntime, left: u16, fill: u8) -> Result<CopyStatus, Ending> {
+fn cut_copy(rt: &HostRuntime, left: u16, fill: u8) -> Result<CopyStatus, ProgramEnd> {
     let mut words = Vec::new(rt.alloc());
     for word in ["ANN", "B1", "OWNER", "COPY"] {
         let word = String::from_str(rt.alloc(), word)?;
         words.push(word).map_err(AllocError::from)?;
     }
-    let source = card_in(rt, FileBench::open(rt.clone()?, "from.card", false)?)?;
-    let dest = FileBench::open(rt.clone()?, "to.card", false)?;
+    let source = card_in(rt, 0, open_file(rt, 0, "from.card")?)?;
+    let dest = open_file(rt, 1, "to.card")?;
     let dest = cut_card_in(rt, CutBench::new(dest, left, fill))?;
     let mut rack = Rack::new(Page::new());
     // Neither reader holds a link yet.
     let _ = rack.insert(1, source);
     let _ = rack.insert(2, dest);
-    Ok(run_copy(&words, &mut rack, &mut Nobody {}))
+    Ok(run_copy(&words, &mut rack, &mut Nobody))
 }
 
 #[test]
-fn a_copy_that_is_cut_short_is_whole_or_nothing(rt: HostRuntime) -> Result<(), Ending> {
+fn a_copy_that_is_cut_short_is_whole_or_nothing(rt: HostRuntime) -> Result<(), ProgramEnd> {
     make_card(&rt, "from.card")?;
     let lines: &[&[u8]] = &[
         b"PRESENT OWNER",
@@ -181,8 +165,8 @@ const SIZES: [usize; 13] = [
 ];
 
 // Makes a card of long rows in a file, with a table W.
-fn make_wide_card(rt: &HostRuntime, path: &str) -> Result<(), Ending> {
-    let mut bench = FileBench::open(rt.clone()?, path, true)?;
+fn make_wide_card(rt: &HostRuntime, path: &str) -> Result<(), ProgramEnd> {
+    let mut bench = FileBench::open(rt.clone()?, path, true).map_err(Ending::from)?;
     let _ = Card::format(&mut bench, 2048);
     let _ = migrate(&mut bench);
     Ok(())
@@ -238,9 +222,9 @@ fn present_owner<L: CardLink>(link: &mut L) -> u16 {
 }
 
 // Fills W of one card with rows of these sizes, and copies it to the other. It tells how the copy ended, and whether all else was done.
-fn copy_wide(rt: &HostRuntime) -> Result<(Option<CopyEnd>, bool), Ending> {
-    let mut source = card_in(rt, FileBench::open(rt.clone()?, "wide.card", false)?)?;
-    let mut dest = card_in(rt, FileBench::open(rt.clone()?, "copy.card", false)?)?;
+fn copy_wide(rt: &HostRuntime) -> Result<(Option<CopyEnd>, bool), ProgramEnd> {
+    let mut source = card_in(rt, 0, open_file(rt, 0, "wide.card")?)?;
+    let mut dest = card_in(rt, 1, open_file(rt, 1, "copy.card")?)?;
     let source = &mut *source;
     let dest = &mut *dest;
     let mut fine = present_owner(source) == 0x9000 && present_owner(dest) == 0x9000;
@@ -252,13 +236,13 @@ fn copy_wide(rt: &HostRuntime) -> Result<(Option<CopyEnd>, bool), Ending> {
         && source.live()
         && dest.live()
     {
-        end = Some(copy(source, dest, &name, &name, &mut Nobody {}));
+        end = Some(copy(source, dest, &name, &name, &mut Nobody));
     }
     Ok((end, fine))
 }
 
 #[test]
-fn rows_of_one_to_five_parts_are_copied(rt: HostRuntime) -> Result<(), Ending> {
+fn rows_of_one_to_five_parts_are_copied(rt: HostRuntime) -> Result<(), ProgramEnd> {
     let made: &[&[u8]] = &[b"PRESENT OWNER", b"CREATE TABLE W (A, B, C, D, E, F)"];
     for path in ["wide.card", "copy.card"] {
         make_wide_card(&rt, path)?;

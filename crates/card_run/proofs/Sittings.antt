@@ -1,5 +1,5 @@
 -- A terminal that answers a line of a run: from what it says of the line to what the run is owed.
-use Rattle.std.proofs.Common.{◌≡◌, ◌⊎◌, ℕ, ◌+◌, ◌≤◌, ◌<◌, Bool, true, false, List, [], ◌∷◌, ◌++◌, length, map, Option, Some, None, Result, Ok, Err, IfSome, IsSome, IsTrue, inl, inr, refl, sym, ap, subst, ◌∙◌, arith, length-append}
+use Rattle.std.proofs.Common.{◌≡◌, ◌⊎◌, ℕ, ◌+◌, ◌≤◌, ◌<◌, Bool, false, List, [], ◌∷◌, ◌++◌, length, map, Option, Some, None, Result, Ok, Err, IfSome, IsSome, IsTrue, inl, inr, refl, sym, ap, subst, ◌∙◌, arith, length-append}
 use Rattle.std.specs.List.{concat}
 use Rattle.std.specs.Prelude.{OnOk, IfOk, IfErr, IsErrOf}
 use Rattle.eeprom.specs.Chip.{Chip, LeftSince, Throughout}
@@ -22,7 +22,9 @@ use Rattle.terminal.specs.declared.line_end.LineEnd.{LineEnd}
 use Rattle.terminal.specs.declared.line_end.LineEnd.TheVariants as ends
 use Rattle.terminal.specs.Holding.{Holding, Sits, terminal_at}
 use Rattle.terminal.specs.Line as terminal
-use Rattle.terminal.specs.Line.{IsMoment, refuses, rows_in}
+use Rattle.terminal.specs.declared.refusal.Refusal.{Refusal}
+use Rattle.terminal.specs.declared.refusal.Refusal.TheVariants.{TooLong}
+use Rattle.terminal.specs.Line.{IsMoment, refusal_in, rows_in}
 use Rattle.terminal.proofs.Ended.{line-is}
 use Rattle.line_run.specs.declared.line_stop.LineStop.TheVariants.{Eeprom, Outlet, NoMemory}
 use Rattle.line_run.specs.Answering.{Answered, Failed}
@@ -174,33 +176,33 @@ line-cut-short is_at given mark chip is sitting line holding old new cut moments
 
 -- it was answered,
 pub heard-answered : {L : Type 0} (is_at : L → Machine → Type 0) (given : L → Option (List ℕ)) (mark : L → ℕ) (chip : L → Chip) → IsTold is_at given mark chip
-    → (sitting : Sitting) (line : Option (List ℕ)) (rows : List Values) (refused : Bool) (holding : Holding) (end : LineEnd) (old new : L)
-    → terminal.EndsSo is_at given sitting.at.machine (statement_lines.effect sitting.at line) rows refused holding end old new
+    → (sitting : Sitting) (line : Option (List ℕ)) (rows : List Values) (refusal : Option Refusal) (holding : Holding) (end : LineEnd) (old new : L)
+    → terminal.EndsSo is_at given sitting.at.machine (statement_lines.effect sitting.at line) rows refusal holding end old new
     → LeavesOpen (IsMoment (mark old) sitting.at.machine.committed (statement_lines.effect sitting.at line).commits) (chip old) (chip new) → Throughout (chip old) (chip new) (λ g left. g ≤ (chip new).still.mark)
     → OnOk (heard_as end) (Answered term_lines sitting (term_lines.effect sitting line) (λ next. Sits is_at next.at holding new) (chip old) (chip new))
-heard-answered is_at given mark chip is sitting line rows refused holding ends.Answered old new end moments marks = line-answered is_at given mark chip is sitting line holding old new end.0 moments marks
-heard-answered is_at given mark chip is sitting line rows refused holding ends.Refused old new end moments marks = line-answered is_at given mark chip is sitting line holding old new end.0 moments marks
-heard-answered is_at given mark chip is sitting line rows refused holding ends.Mute old new end moments marks = tt
-heard-answered is_at given mark chip is sitting line rows refused holding ends.SinkFault old new end moments marks = tt
+heard-answered is_at given mark chip is sitting line rows refusal holding ends.Answered old new end moments marks = line-answered is_at given mark chip is sitting line holding old new end.0 moments marks
+heard-answered is_at given mark chip is sitting line rows refusal holding (ends.Refused why) old new end moments marks = line-answered is_at given mark chip is sitting line holding old new end.0 moments marks
+heard-answered is_at given mark chip is sitting line rows refusal holding ends.Mute old new end moments marks = tt
+heard-answered is_at given mark chip is sitting line rows refusal holding ends.SinkFault old new end moments marks = tt
 
--- and says whether it was refused;
-pub heard-refused : {L : Type 0} (is_at : L → Machine → Type 0) (given : L → Option (List ℕ)) (m : Machine) (does : Effect TerminalState) (rows : List Values) (refused : Bool) (holding : Holding) (end : LineEnd) (old new : L)
-    → terminal.EndsSo is_at given m does rows refused holding end old new → IfOk (heard_as end) (λ was. was ≡ refused)
-heard-refused is_at given m does rows refused holding ends.Answered old new end = sym end.1
-heard-refused is_at given m does rows refused holding ends.Refused old new end = sym end.1
-heard-refused is_at given m does rows refused holding ends.Mute old new end = tt
-heard-refused is_at given m does rows refused holding ends.SinkFault old new end = tt
+-- and says why it was refused, if it was;
+pub heard-refusal : {L : Type 0} (is_at : L → Machine → Type 0) (given : L → Option (List ℕ)) (m : Machine) (does : Effect TerminalState) (rows : List Values) (refusal : Option Refusal) (holding : Holding) (end : LineEnd) (old new : L)
+    → terminal.EndsSo is_at given m does rows refusal holding end old new → IfOk (heard_as end) (λ why. why ≡ refusal)
+heard-refusal is_at given m does rows refusal holding ends.Answered old new end = sym end.1
+heard-refusal is_at given m does rows refusal holding (ends.Refused why) old new end = sym end.1
+heard-refusal is_at given m does rows refusal holding ends.Mute old new end = tt
+heard-refusal is_at given m does rows refusal holding ends.SinkFault old new end = tt
 
 -- or a device failed in it.
 pub heard-failed : {L : Type 0} (is_at : L → Machine → Type 0) (given : L → Option (List ℕ)) (mark : L → ℕ) (chip : L → Chip) → IsTold is_at given mark chip
-    → (sitting : Sitting) (line : Option (List ℕ)) (rows : List Values) (refused : Bool) (holding : Holding) (end : LineEnd) (old new : L)
-    → terminal.EndsSo is_at given sitting.at.machine (statement_lines.effect sitting.at line) rows refused holding end old new → (statement_lines.effect sitting.at line).faulty ≡ first_texts (map row_text rows)
+    → (sitting : Sitting) (line : Option (List ℕ)) (rows : List Values) (refusal : Option Refusal) (holding : Holding) (end : LineEnd) (old new : L)
+    → terminal.EndsSo is_at given sitting.at.machine (statement_lines.effect sitting.at line) rows refusal holding end old new → (statement_lines.effect sitting.at line).faulty ≡ first_texts (map row_text rows)
     → LeavesOpen (IsMoment (mark old) sitting.at.machine.committed (statement_lines.effect sitting.at line).commits) (chip old) (chip new) → Throughout (chip old) (chip new) (λ g left. g ≤ (chip new).still.mark)
     → IfErr (heard_as end) (λ stop. Failed stop term_lines sitting (term_lines.effect sitting line) (chip old) (chip new))
-heard-failed is_at given mark chip is sitting line rows refused holding ends.Answered old new end faulty moments marks = tt
-heard-failed is_at given mark chip is sitting line rows refused holding ends.Refused old new end faulty moments marks = tt
-heard-failed is_at given mark chip is sitting line rows refused holding ends.Mute old new end faulty moments marks = line-cut-off is_at given mark chip is sitting line rows old new faulty end moments
-heard-failed is_at given mark chip is sitting line rows refused holding ends.SinkFault old new end faulty moments marks = line-cut-short is_at given mark chip is sitting line holding old new end moments marks
+heard-failed is_at given mark chip is sitting line rows refusal holding ends.Answered old new end faulty moments marks = tt
+heard-failed is_at given mark chip is sitting line rows refusal holding (ends.Refused why) old new end faulty moments marks = tt
+heard-failed is_at given mark chip is sitting line rows refusal holding ends.Mute old new end faulty moments marks = line-cut-off is_at given mark chip is sitting line rows old new faulty end moments
+heard-failed is_at given mark chip is sitting line rows refusal holding ends.SinkFault old new end faulty moments marks = line-cut-short is_at given mark chip is sitting line holding old new end moments marks
 
 pub faulty-read : (state : TerminalState) (read : Result Statement ScriptFault) → (read_effect state read).faulty ≡ first_texts (map row_text (rows_in state read))
 faulty-read state (Ok statement) = refl
@@ -224,7 +226,7 @@ quiet-causes eeprom eeprom_now outlet outlet_now value eeprom_same outlet_same =
 pub heard-causes : {L : Type 0} (is_live : L → Bool) (faults sink_faults : L → ℕ) (end : LineEnd) (old new : L) → terminal.EndsBy is_live faults sink_faults end old new
     → Causes (record { eeprom = faults old; outlet = sink_faults old }) (record { eeprom = faults new; outlet = sink_faults new }) (heard_as end)
 heard-causes is_live faults sink_faults ends.Answered old new works = quiet-causes (faults old) (faults new) (sink_faults old) (sink_faults new) _ works.faults_same works.sink_same
-heard-causes is_live faults sink_faults ends.Refused old new works = quiet-causes (faults old) (faults new) (sink_faults old) (sink_faults new) _ works.faults_same works.sink_same
+heard-causes is_live faults sink_faults (ends.Refused why) old new works = quiet-causes (faults old) (faults new) (sink_faults old) (sink_faults new) _ works.faults_same works.sink_same
 heard-causes is_live faults sink_faults ends.Mute old new mute = record {
   quiet = tt;
   eeprom = λ is. mute.0.rose;
@@ -251,25 +253,25 @@ heard-causes is_live faults sink_faults ends.SinkFault old new broke = record {
 -- no device failed: the card answers still
 pub heard-live : {L : Type 0} (is_live : L → Bool) (faults sink_faults : L → ℕ) (end : LineEnd) (old new : L) → terminal.EndsBy is_live faults sink_faults end old new → IsTrue (is_live old) → OnOk (heard_as end) (IsTrue (is_live new))
 heard-live is_live faults sink_faults ends.Answered old new works live = subst IsTrue (sym works.live) live
-heard-live is_live faults sink_faults ends.Refused old new works live = subst IsTrue (sym works.live) live
+heard-live is_live faults sink_faults (ends.Refused why) old new works live = subst IsTrue (sym works.live) live
 heard-live is_live faults sink_faults ends.Mute old new mute live = tt
 heard-live is_live faults sink_faults ends.SinkFault old new broke live = tt
 
 -- and no line wants memory
 pub heard-memory : (end : LineEnd) → IsErrOf (heard_as end) NoMemory → ⊥
 heard-memory ends.Answered is = absurd cc
-heard-memory ends.Refused is = absurd cc
+heard-memory (ends.Refused why) is = absurd cc
 heard-memory ends.Mute is = absurd cc
 heard-memory ends.SinkFault is = absurd cc
 
 -- What a terminal tells of the state that it holds is told of where the run is.
 pub read-ends : {L : Type 0} (is_at : L → Machine → Type 0) (given : L → Option (List ℕ)) (state : TerminalState) (channel : ℕ) (octets : List ℕ) (holding : Holding) (end : LineEnd) (old new : L) → length octets ≤ 1000 → channel ≡ state.channel
-    → terminal.EndsSo is_at given state.machine (line_effect statement_lines (terminal_at state.machine channel) octets) (rows_in (terminal_at state.machine channel) (statement_of octets)) (refuses (terminal_at state.machine channel) (statement_of octets)) holding end
+    → terminal.EndsSo is_at given state.machine (line_effect statement_lines (terminal_at state.machine channel) octets) (rows_in (terminal_at state.machine channel) (statement_of octets)) (refusal_in (terminal_at state.machine channel) (statement_of octets)) holding end
     old new
-    → terminal.EndsSo is_at given state.machine (statement_lines.effect state (Some octets)) (rows_in state (statement_of octets)) (refuses state (statement_of octets)) holding end old new
+    → terminal.EndsSo is_at given state.machine (statement_lines.effect state (Some octets)) (rows_in state (statement_of octets)) (refusal_in state (statement_of octets)) holding end old new
 read-ends is_at given state channel octets holding end old new short same ended =
-    subst (λ (does : Effect TerminalState). terminal.EndsSo is_at given state.machine does (rows_in state (statement_of octets)) (refuses state (statement_of octets)) holding end old new) (line-is state octets short)
-    (subst (λ (n : ℕ). terminal.EndsSo is_at given state.machine (line_effect statement_lines (terminal_at state.machine n) octets) (rows_in (terminal_at state.machine n) (statement_of octets)) (refuses (terminal_at state.machine n) (statement_of octets)) holding
+    subst (λ (does : Effect TerminalState). terminal.EndsSo is_at given state.machine does (rows_in state (statement_of octets)) (refusal_in state (statement_of octets)) holding end old new) (line-is state octets short)
+    (subst (λ (n : ℕ). terminal.EndsSo is_at given state.machine (line_effect statement_lines (terminal_at state.machine n) octets) (rows_in (terminal_at state.machine n) (statement_of octets)) (refusal_in (terminal_at state.machine n) (statement_of octets)) holding
     end old new) same ended)
 
 pub read-moments : (state : TerminalState) (channel mark : ℕ) (octets : List ℕ) (old new : Chip) → length octets ≤ 1000 → channel ≡ state.channel
@@ -280,9 +282,9 @@ read-moments state channel mark octets old new short same moments =
     (subst (λ (n : ℕ). LeavesOpen (IsMoment mark state.machine.committed (line_effect statement_lines (terminal_at state.machine n) octets).commits) old new) same moments)
 
 pub long-ends : {L : Type 0} (is_at : L → Machine → Type 0) (given : L → Option (List ℕ)) (state : TerminalState) (channel : ℕ) (holding : Holding) (end : LineEnd) (old new : L) → channel ≡ state.channel
-    → terminal.EndsSo is_at given state.machine (statement_lines.effect (terminal_at state.machine channel) None) [] true holding end old new → terminal.EndsSo is_at given state.machine (statement_lines.effect state None) [] true holding end old new
+    → terminal.EndsSo is_at given state.machine (statement_lines.effect (terminal_at state.machine channel) None) [] (Some TooLong) holding end old new → terminal.EndsSo is_at given state.machine (statement_lines.effect state None) [] (Some TooLong) holding end old new
 long-ends is_at given state channel holding end old new same ended =
-    subst (λ (n : ℕ). terminal.EndsSo is_at given state.machine (statement_lines.effect (terminal_at state.machine n) None) [] true holding end old new) same ended
+    subst (λ (n : ℕ). terminal.EndsSo is_at given state.machine (statement_lines.effect (terminal_at state.machine n) None) [] (Some TooLong) holding end old new) same ended
 
 -- a terminal that was just made sits on a card that was just opened
 pub sits-opened : {L : Type 0} (is_at : L → Machine → Type 0) (holding : Holding) (link : L) (db : Database) → holding ≡ record { channel = 0; transaction = None } → is_at link (start db) → SitsSo is_at holding link false (opened db)

@@ -1,5 +1,5 @@
 -- Statements as the lines of a run, which tells whether one was refused.
-use Rattle.std.specs.Prelude.{◌≡◌, ℕ, ◌||◌, Bool, true, false, List, Option, Some, None, Result, Ok, Err}
+use Rattle.std.specs.Prelude.{◌≡◌, ℕ, ◌||◌, Bool, false, List, Option, Some, None, is_some, Result, Ok, Err}
 use Rattle.scql_model.specs.Database.{Database}
 use Rattle.scql_model.specs.Lines.{Effect, Language}
 use Rattle.scql_model.specs.Machine.{Machine, start}
@@ -8,7 +8,9 @@ use Rattle.planner.specs.StatementLines.{TerminalState, statement_lines}
 use Rattle.terminal.specs.declared.line_end.LineEnd.{LineEnd}
 use Rattle.terminal.specs.declared.line_end.LineEnd.TheVariants as ends
 use Rattle.terminal.specs.Holding.{Holding, Sits}
-use Rattle.terminal.specs.Line.{refuses}
+use Rattle.terminal.specs.declared.refusal.Refusal.{Refusal}
+use Rattle.terminal.specs.declared.refusal.Refusal.TheVariants.{TooLong}
+use Rattle.terminal.specs.Line.{refusal_in}
 use Rattle.line_run.specs.declared.line_stop.LineStop.{LineStop}
 use Rattle.line_run.specs.declared.line_stop.LineStop.TheVariants.{Eeprom, Outlet}
 
@@ -17,10 +19,13 @@ pub record Sitting : Type 0 where
   pub at : TerminalState
   pub refused : Bool
 
--- a line that is too long is refused, and any other one where its closing line is a refusal or an error
+-- why a line is refused, if it is: one that is too long, and any other one where its closing line is a refusal or an error
+abbrev pub refusal_at : TerminalState → Option (List ℕ) → Option Refusal
+refusal_at state None = Some TooLong
+refusal_at state (Some line) = refusal_in state (statement_of line)
+
 abbrev pub is_refused : TerminalState → Option (List ℕ) → Bool
-is_refused state None = true
-is_refused state (Some line) = refuses state (statement_of line)
+is_refused state line = is_some (refusal_at state line)
 
 -- what a line does
 abbrev pub goes_on_so : Effect TerminalState → Bool → Effect Sitting
@@ -45,9 +50,9 @@ pub record SitsSo {L : Type 0} (is_at : L → Machine → Type 0) (holding : Hol
   pub sits : Sits is_at sitting.at holding link
   pub tells : refused ≡ sitting.refused
 
--- whether a line was refused, by how it ended, or which device failed in it
-abbrev pub heard_as : LineEnd → Result Bool LineStop
-heard_as ends.Answered = Ok false
-heard_as ends.Refused = Ok true
+-- why a line was refused, if it was, by how it ended; or which device failed in it
+abbrev pub heard_as : LineEnd → Result (Option Refusal) LineStop
+heard_as ends.Answered = Ok None
+heard_as (ends.Refused why) = Ok (Some why)
 heard_as ends.Mute = Err Eeprom
 heard_as ends.SinkFault = Err Outlet

@@ -22,6 +22,7 @@ use program::Status;
 const LONGEST_TEXT: usize = 71;
 
 /// Says how many records of each kind the card has, and how many cells they take.
+#[inline(never)]
 pub(crate) fn run_check<B: Bench>(card: &Card, bench: &mut B) -> Status
     requires { IsReady card.now (B.chip bench.old) }
     ensures says { (m : Machine) → IsAt card.now (B.chip bench.old) m → Says result m.committed (B.faults bench.old) (B.faults bench.new) (B.chip bench.old).still.given (B.chip bench.new).still.given }

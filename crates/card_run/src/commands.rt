@@ -130,6 +130,7 @@ impl<'a, B: Bench> Responder for CommandCard<'a, B> {
 }
 
 /// Answers the lines of the input as commands.
+#[inline(never)]
 pub(crate) fn answer_commands<S: Source, B: Bench>(
     card: Card,
     source: &mut S,

@@ -40,6 +40,7 @@ struct Loader<'a, B: Bench> {
 }
 
 /// Runs the script of so many rows from a number, and says what came of it. Meanwhile a person is shown how far it has come.
+#[inline(never)]
 pub(crate) fn run_load<B: Bench, P: Person>(
     card: Card,
     bench: &mut B,

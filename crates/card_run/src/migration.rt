@@ -16,6 +16,7 @@ use migrate::migrate;
 use program::Status;
 
 /// Makes the rows of the card that is there longer, where they aren't so yet, and says which of both it found.
+#[inline(never)]
 pub(crate) fn run_migration<B: Bench>(bench: &mut B) -> Status
     requires room { HasRoom fewest_cells (B.chip bench.old) }
     ensures migrates { (db : Database) → IsOpenTo (B.chip bench.old) db

@@ -22,6 +22,7 @@ use eeprom::{Bench, Heap};
 use program::Status;
 
 /// Opens the card that the words ask for. Nothing is given, and no line is read.
+#[inline(never)]
 pub(crate) fn open_card<B: Bench>(alloc: Heap, form: Form, bench: &mut B) -> Result<Card, Status>
     requires { IsWithinLimits form }
     ensures starts { IfOk result (λ card. (db : Database) → Begins form (B.chip bench.old) db → IsAt card (B.chip bench.new) (start db)) }

@@ -18,6 +18,7 @@ ghost use Rattle.card_run.specs.Showing.{LinesReadShown};
 ghost use Rattle.card_run.specs.Migrating.{Migrates};
 ghost use Rattle.card_run.specs.Checking.{Checks};
 ghost use Rattle.card_run.specs.Loading.{Loads};
+ghost use Rattle.person.specs.Showing.{ShowsSome};
 ghost use Rattle.card_run.specs.Progress.{ShowsLoad};
 ghost use Rattle.card_run.specs.Statements.{opened, term_lines, was_refused};
 
@@ -32,7 +33,7 @@ use eeprom::{Bench, Heap, Source};
 use person::Person;
 use program::Status;
 
-/// Runs the card of the bench by the words behind the file's name. A person may be shown how far it has come.
+/// Runs the card of the bench by the words behind the file's name. A person may be shown how far it has come, and be told of its lines.
 pub fn run_card<S: Source, B: Bench, P: Person>(
     alloc: Heap,
     words: &[String],
@@ -84,11 +85,13 @@ pub fn run_card<S: Source, B: Bench, P: Person>(
     ensures load { (rows seed : ℕ) → form_in (map string_bytes words.now) ≡ Some (Form.Load rows seed) → Loads rows seed result source.old source.new (B.chip bench.old) (B.chip bench.new)
         (record { eeprom = B.faults bench.old; source = S.source_faults source.old; outlet = B.sink_faults bench.old })
         (record { eeprom = B.faults bench.new; source = S.source_faults source.new; outlet = B.sink_faults bench.new }) }
-    // Nothing is shown to a person but in a load,
-    ensures unwatched { ((rows seed : ℕ) → form_in (map string_bytes words.now) ≡ Some (Form.Load rows seed) → ⊥) → person.new ≡ person.old }
-    // and there how far it has come.
+    // Nothing is shown to a person but in a load and in `term`:
+    ensures unwatched { ((rows seed : ℕ) → form_in (map string_bytes words.now) ≡ Some (Form.Load rows seed) → ⊥) → (form_in (map string_bytes words.now) ≡ Some Form.Term → ⊥) → person.new ≡ person.old }
+    // in a load how far it has come,
     ensures watched { (rows seed : ℕ) → form_in (map string_bytes words.now) ≡ Some (Form.Load rows seed)
         → ShowsLoad P.lost P.shown rows seed result (IsOpenTo (B.chip bench.old)) person.old person.new }
+    // and in `term` some text.
+    ensures told { form_in (map string_bytes words.now) ≡ Some Form.Term → ShowsSome P.lost P.shown person.old person.new }
     // A run of `migrate` reads no line.
     ensures migrate { form_in (map string_bytes words.now) ≡ Some Form.Migrate → Migrates result source.old source.new (B.chip bench.old) (B.chip bench.new)
         (record { eeprom = B.faults bench.old; source = S.source_faults source.old; outlet = B.sink_faults bench.old })
@@ -105,7 +108,7 @@ pub fn run_card<S: Source, B: Bench, P: Person>(
             Form::Check => run_check(&card, bench),
             Form::Migrate => run_migration(bench),
             Form::Load { rows, seed } => run_load(card, bench, person, rows, seed),
-            Form::Term => answer_statements(card, source, bench),
+            Form::Term => answer_statements(card, source, bench, person),
             Form::New { .. } | Form::Apdu => answer_commands(card, source, bench),
         },
     }

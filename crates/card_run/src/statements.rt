@@ -5,6 +5,7 @@ ghost use Rattle.scql_model.specs.Database.{Database};
 ghost use Rattle.scql_model.specs.Lines.{longest_line};
 ghost use Rattle.scql_model.specs.Machine.{start};
 ghost use Rattle.terminal.specs.Holding.{Sits};
+ghost use Rattle.person.specs.Showing.{ShowsSome};
 ghost use Rattle.card.specs.Behind.{KeepsBehind};
 ghost use Rattle.card.specs.Card.{IsReady, IsAt};
 ghost use Rattle.card.specs.LiveCard.{IsReadyAt, LastsOn};
@@ -15,24 +16,42 @@ ghost use Rattle.line_input.specs.Reading.{longest_input};
 ghost use Rattle.program.specs.Ends.{RunsTo};
 ghost use Rattle.card_run.specs.Run.{TellsRefusals};
 ghost use Rattle.line_run.specs.Causes.{Causes, Faults};
-ghost use Rattle.card_run.specs.Statements.{Sitting, heard_as, is_refused, opened, term_lines, was_refused};
+ghost use Rattle.card_run.specs.Statements.{Sitting, heard_as, opened, refusal_at, term_lines, was_refused};
 
 use card::{Card, LiveCard};
 use eeprom::{Bench, Outlet, Source};
+use guide::{Cells, Guide, Message, Statements, Why};
 use line_run::{LineStop, Responder, run_lines};
+use person::{Person, Presence};
 use program::Status;
-use terminal::{LineEnd, Terminal};
+use terminal::{LineEnd, Refusal, Terminal};
 
-/// A terminal with its card, which is asked by statements, and whether one was refused so far.
+/// A terminal with its card, which is asked by statements, whether one was refused so far, and a person who is told of them.
 #[derive(Drop)]
-pub(crate) struct StatementCard<'a, B: Bench> {
+pub(crate) struct StatementCard<'a, 'b, B: Bench, P: Person> {
     pub(crate) terminal: Terminal,
     pub(crate) card: LiveCard<'a, B>,
     pub(crate) refused: bool,
+    pub(crate) guide: &'b mut Guide<Statements>,
+    pub(crate) person: &'b mut P,
 }
 
-impl<'a, B: Bench> Responder for StatementCard<'a, B> {
-    ghost use Rattle.std.specs.Prelude.{IsTrue, false};
+impl<'a, 'b, B: Bench, P: Person> StatementCard<'a, 'b, B, P> {
+    // The card, and the person, as lines have left them.
+    fn into_parts(self) -> (LiveCard<'a, B>, &'b mut P)
+        ensures card { result.0 ≡ self.entry.card }
+        ensures name { result.1.ghost_name ≡ self.entry.person.ghost_name }
+        ensures person { result.1.now ≡ self.entry.person.now }
+    {
+        (self.card, self.person)
+    }
+}
+
+impl<'a, 'b, B: Bench, P: Person> Responder for StatementCard<'a, 'b, B, P> {
+    ghost use Rattle.std.specs.Prelude.{◌≡◌, IsTrue, false};
+    ghost use Rattle.std.proofs.Common.{◌∙◌, refl};
+    ghost use Rattle.person.specs.Showing.{ShowsSome};
+    ghost use Rattle.guide.proofs.Told.{told-none, told-then};
     ghost use Rattle.card.specs.LiveCard.{IsReadyAt, LastsOn};
     ghost use Rattle.card.specs.LiveCardLaws.{lasts-same, lasts-then};
     ghost use Rattle.card_run.specs.Statements.{Sitting, SitsSo, term_lines};
@@ -52,11 +71,15 @@ impl<'a, B: Bench> Responder for StatementCard<'a, B> {
 
     ghost takes_memory = { false };
 
-    ghost goes_on = { λ old new. LastsOn B.chip old.card new.card };
+    // The person is the same still, and was shown some text.
+    ghost goes_on = { λ old new. LastsOn B.chip old.card new.card × ShowsSome P.lost P.shown old.person.now new.person.now × (new.person.ghost_name ≡ old.person.ghost_name) };
 
     fn answer_line(&mut self, line: Option<&[u8]>) -> Result<(), LineStop> {
-        let refused = answer_line(&mut self.terminal, &mut self.card, line)?;
-        self.refused |= refused;
+        self.guide.before(line, self.person);
+        let refusal = answer_line(&mut self.terminal, &mut self.card, line)?;
+        self.refused |= refusal.is_some();
+        self.guide
+            .behind(line, refusal.map(why_of), None, self.person);
         Ok(())
     }
 
@@ -64,16 +87,19 @@ impl<'a, B: Bench> Responder for StatementCard<'a, B> {
 
     ghost over = { λ r ready sitting at. sitting-over r.card.card (B.chip r.card.bench) sitting at.sits.at };
 
-    ghost goes_on_same = { λ r. lasts-same B.chip r.card };
+    ghost goes_on_same = { λ r. (lasts-same B.chip r.card, told-none P.lost P.shown r.person.now, refl) };
 
-    ghost goes_on_then = { λ old mid new ready first second. lasts-then B.chip old.card mid.card new.card first second };
+    ghost goes_on_then = { λ old mid new ready first second.
+        (lasts-then B.chip old.card mid.card new.card first.0 second.0, told-then P.lost P.shown old.person.now mid.person.now new.person.now first.1 second.1, second.2 ∙ first.2) };
 }
 
-/// Answers the lines of the input as statements.
-pub(crate) fn answer_statements<S: Source, B: Bench>(
+/// Answers the lines of the input as statements, and tells a person of them.
+#[inline(never)]
+pub(crate) fn answer_statements<S: Source, B: Bench, P: Person>(
     card: Card,
     source: &mut S,
     bench: &mut B,
+    person: &mut P,
 ) -> Status
     requires { IsReady card (B.chip bench.old) }
     ensures runs { (db : Database) → IsAt card (B.chip bench.old) (start db)
@@ -87,6 +113,46 @@ pub(crate) fn answer_statements<S: Source, B: Bench>(
         (record { eeprom = B.faults bench.new; source = S.source_faults source.new; outlet = B.sink_faults bench.new }) }
     // Nothing is written behind the card's image.
     ensures behind { KeepsBehind (λ was. card.store.chains.cells) (B.chip bench.old) (B.chip bench.new) }
+    ensures told { ShowsSome P.lost P.shown person.old person.new }
+{
+    let presence = person.presence();
+    let mut guide = Guide::new(Statements::new(), presence);
+    guide.greet(cells_of(&card, bench, presence), person);
+    let status = carry_out(card, source, bench, &mut guide, person);
+    take_leave(status, &mut guide, person);
+    status
+}
+
+// Says how many lines were refused, where all of them were read.
+fn take_leave<P: Person>(status: Status, guide: &mut Guide<Statements>, person: &mut P)
+    ensures { ShowsSome P.lost P.shown person.old person.new }
+{
+    match status {
+        Status::Done | Status::Refused => guide.leave(person),
+        _ => guide.tell(&Message::new(), person),
+    }
+}
+
+// The same between the greeting and the end.
+fn carry_out<S: Source, B: Bench, P: Person>(
+    card: Card,
+    source: &mut S,
+    bench: &mut B,
+    guide: &mut Guide<Statements>,
+    person: &mut P,
+) -> Status
+    requires { IsReady card (B.chip bench.old) }
+    ensures runs { (db : Database) → IsAt card (B.chip bench.old) (start db)
+        → Becomes (λ input left. RunsTo B.chip B.faults term_lines (opened db) result input left bench.old bench.new) (S.left source.old) (S.left source.new) }
+    ensures status { is_of_opened result ≡ true }
+    ensures whole { reads_all result ≡ true → Becomes (λ input left. (left ≡ []) × (length input ≤ longest_input)) (S.left source.old) (S.left source.new) }
+    ensures refusals { (db : Database) → IsAt card (B.chip bench.old) (start db) → TellsRefusals term_lines was_refused (opened db) result (S.left source.old) (S.left source.new) }
+    ensures too_long { result ≡ Status.TooLong → Becomes (λ input left. longest_input < length input) (S.left source.old) (S.left source.new) }
+    ensures ends { EndsBy result
+        (record { eeprom = B.faults bench.old; source = S.source_faults source.old; outlet = B.sink_faults bench.old })
+        (record { eeprom = B.faults bench.new; source = S.source_faults source.new; outlet = B.sink_faults bench.new }) }
+    ensures behind { KeepsBehind (λ was. card.store.chains.cells) (B.chip bench.old) (B.chip bench.new) }
+    ensures told { ShowsSome P.lost P.shown person.old person.new }
 {
     let terminal = Terminal::new();
     let card = LiveCard::new(card, bench);
@@ -94,25 +160,52 @@ pub(crate) fn answer_statements<S: Source, B: Bench>(
         terminal,
         card,
         refused: false,
+        guide,
+        person,
     };
     let (end, statements) = run_lines(source, statements);
     let status = Status::of_input(end, statements.refused);
-    statements.card.into_bench();
+    let (card, _person) = statements.into_parts();
+    card.into_bench();
     status
 }
 
-// Answers a whole line, and tells whether it was refused.
+// How many cells of a card are used, where somebody is there who is told.
+fn cells_of<B: Bench>(card: &Card, bench: &mut B, presence: Presence) -> Option<Cells>
+    requires { IsReady card.now (B.chip bench.old) }
+    ensures { bench.new ≡ bench.old }
+{
+    if presence == Presence::Away {
+        return None;
+    }
+    let counts = card.counts(bench).ok()?;
+    Some(Cells {
+        used: counts.weight,
+        all: counts.cells,
+    })
+}
+
+// Why a line was refused, as a person is told.
+fn why_of(refusal: Refusal) -> Why {
+    match refusal {
+        Refusal::Word { word } => Why::Word { word },
+        Refusal::Fault { fault } => Why::Fault { fault },
+        Refusal::TooLong => Why::TooLong,
+    }
+}
+
+// Answers a whole line, and tells why it was refused, if it was.
 fn answer_line<B: Bench>(
     terminal: &mut Terminal,
     card: &mut LiveCard<'_, B>,
     line: Option<&[u8]>,
-) -> Result<bool, LineStop>
+) -> Result<Option<Refusal>, LineStop>
     requires live { IsTrue card.old.card.live }
     requires short { IfSome line (λ octets. length octets.now ≤ longest_line) }
     ensures answered { (sitting : Sitting) → Sits (λ l m. IsReadyAt l.card (B.chip l.bench) m) sitting.at terminal.old card.old
         → OnOk result (Answered term_lines sitting (term_lines.effect sitting (option_map (λ octets. octets.now) line.entry)) (λ next. Sits (λ l m. IsReadyAt l.card (B.chip l.bench) m) next.at terminal.new card.new) (B.chip card.old.bench) (B.chip card.new.bench)) }
-    ensures refused { (sitting : Sitting) → Sits (λ l m. IsReadyAt l.card (B.chip l.bench) m) sitting.at terminal.old card.old
-        → IfOk result (λ refused. refused ≡ is_refused sitting.at (option_map (λ octets. octets.now) line.entry)) }
+    ensures refusal { (sitting : Sitting) → Sits (λ l m. IsReadyAt l.card (B.chip l.bench) m) sitting.at terminal.old card.old
+        → IfOk result (λ refusal. refusal ≡ refusal_at sitting.at (option_map (λ octets. octets.now) line.entry)) }
     ensures failed { (sitting : Sitting) → Sits (λ l m. IsReadyAt l.card (B.chip l.bench) m) sitting.at terminal.old card.old
         → IfErr result (λ stop. Failed stop term_lines sitting (term_lines.effect sitting (option_map (λ octets. octets.now) line.entry)) (B.chip card.old.bench) (B.chip card.new.bench)) }
     ensures live { OnOk result (IsTrue card.new.card.live) }
@@ -126,12 +219,12 @@ fn answer_line<B: Bench>(
     }
 }
 
-fn heard(end: LineEnd) -> Result<bool, LineStop>
+fn heard(end: LineEnd) -> Result<Option<Refusal>, LineStop>
     ensures { result ≡ heard_as end }
 {
     match end {
-        LineEnd::Answered => Ok(false),
-        LineEnd::Refused => Ok(true),
+        LineEnd::Answered => Ok(None),
+        LineEnd::Refused { why } => Ok(Some(why)),
         LineEnd::Mute => Err(LineStop::Eeprom),
         LineEnd::SinkFault => Err(LineStop::Outlet),
     }

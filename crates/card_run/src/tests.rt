@@ -9,10 +9,11 @@ mod power_loss;
 mod reads;
 mod scripts;
 mod statements;
+mod telling;
 
 use crate::run::run_card;
 use eeprom::{FaultPlan, MemBench, MemSource, SteadySource};
-use person::Person;
+use person::Nobody;
 use program::Status;
 use std::alloc::{AllocError, Global};
 use std::test::Fail;
@@ -87,22 +88,6 @@ const FULL_CARD_ANSWERS: &str = "9000
 6A84
 9000
 ";
-
-/// Nobody, who is shown nothing.
-#[derive(Drop)]
-struct Nobody;
-
-impl Person for Nobody {
-    ghost use Rattle.std.specs.Prelude.{Some, true, []};
-
-    ghost shown = { λ nobody. Some [] };
-
-    ghost lost = { λ nobody. true };
-
-    fn show(&mut self, text: &[u8]) {
-        let _ = text;
-    }
-}
 
 // A bench of so many equal octets, which never fails.
 fn bench_of(alloc: Global, size: usize, octet: u8) -> Result<MemBench, AllocError> {

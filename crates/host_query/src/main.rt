@@ -3,31 +3,23 @@
 
 use file_bench::{FileBench, StdSource};
 use person::{Prompted, Watcher};
-use program::{About, Ending, Status, command_line, end_program, hold_streams};
+use program::{About, Ending, ProgramEnd, Status, hold_streams, run_program};
 use query_run::run_query;
 use scql_base::Name;
 use std::io::{IsTerminal, Stderr};
 use std::process::ExitCode;
 
 fn main(rt: HostRuntime) -> ExitCode {
-    let ending = match answer(&rt) {
-        Ok(status) => Ending::Run(status),
-        Err(ending) => ending,
-    };
-    end_program(&rt, ending, USAGE)
+    run_program(&rt, ABOUT, run_words)
 }
 
-fn answer(rt: &HostRuntime) -> Result<Status, Ending> {
-    let words = command_line(rt)?;
-    if let Some(status) = ABOUT.answer(rt, &words) {
-        return Ok(status);
-    }
-    match words.as_slice() {
+fn run_words(rt: &HostRuntime, words: &[String]) -> ProgramEnd {
+    match words {
         [path, user] => match Name::read(user.as_bytes()) {
-            Some(user) => run_over(rt, path, user),
-            None => Ok(Status::Usage),
+            Some(user) => ProgramEnd::of_run_over(0, run_over(rt, path, user)),
+            None => ProgramEnd::from(Ending::Run(Status::Usage)),
         },
-        _ => Ok(Status::Usage),
+        _ => ProgramEnd::from(Ending::Run(Status::Usage)),
     }
 }
 
@@ -35,8 +27,11 @@ fn run_over(rt: &HostRuntime, path: &str, user: Name) -> Result<Status, Ending> 
     let _streams = hold_streams(rt);
     let mut bench = FileBench::open(rt.clone()?, path, false)?;
     let mut source = Prompted::new(StdSource::new(rt.clone()?), stderr_where(rt, is_typed(rt)));
-    let person = Watcher::new(stderr_where(rt, rt.stderr().is_terminal()));
-    let (status, _) = run_query(rt.alloc(), user, &mut source, &mut bench, person);
+    let is_read = rt.stderr().is_terminal();
+    let person = Watcher::new(stderr_where(rt, is_read));
+    let types = rt.stdin().is_terminal();
+    let notices = Watcher::of_session(stderr_where(rt, is_read), types, path);
+    let (status, _, _) = run_query(rt.alloc(), user, &mut source, &mut bench, person, notices);
     Ok(status.into())
 }
 
@@ -50,9 +45,9 @@ fn is_typed(rt: &HostRuntime) -> bool {
     rt.stdin().is_terminal() && rt.stdout().is_terminal()
 }
 
-const USAGE: &str = "usage: host_query FILE USER";
-
 const ABOUT: About = About {
+    name: "host_query",
+    usage: "usage: host_query FILE USER",
     help: HELP,
     version: "host_query 0.1.0",
 };

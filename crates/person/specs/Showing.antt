@@ -13,6 +13,10 @@ pub record Shows {P : Type 0} (lost : P → Bool) (shown : P → Option (List �
   pub follows : IsShown (lost new) text (shown old) (shown new)
   pub over : lost old ≡ true → (shown new ≡ shown old) × (lost new ≡ true)
 
+-- some text is shown so
+abbrev pub ShowsSome : {P : Type 0} → (P → Bool) → (P → Option (List ℕ)) → P → P → Type 0
+ShowsSome lost shown old new = (text : List ℕ) × Shows lost shown text old new
+
 -- at a screen it isn't told what was shown, and where there is none nothing was
 abbrev pub shown_on : {S : Type 0} → Option S → Option (List ℕ)
 shown_on None = Some []

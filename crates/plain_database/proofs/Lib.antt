@@ -7,7 +7,9 @@ pub mod MadeRecords
 pub mod Reached
 pub mod Removed
 pub mod ReplacedRecords
+pub mod RisingStamps
 pub mod RoomOfKinds
+pub mod SomePrivilege
 pub mod SoughtRows
 pub mod SpelledSizes
 pub mod ValuesPlaced

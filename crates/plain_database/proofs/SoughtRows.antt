@@ -1,5 +1,5 @@
 -- A row that a cursor shows is sought in the table.
-use Rattle.std.proofs.Common.{◌≡◌, ℕ, ◌<◌, suc, Bool, true, List, [], ◌∷◌, map, filter, Option, Some, None, refl, sym, ap, subst, ◌∙◌, inl, inr, arith}
+use Rattle.std.proofs.Common.{◌≡◌, ℕ, ◌<◌, suc, Bool, true, false, List, [], ◌∷◌, map, filter, Option, Some, None, refl, sym, ap, subst, ◌∙◌, inl, inr, arith}
 use Rattle.std.specs.Prelude.{◌==◌, ◌&&◌, IfSome, option_map}
 use Rattle.std.specs.List.{find}
 use Rattle.std.proofs.lemmas.Bool.{and_parts, cases_Bool, eqb-true, eq-eqb, ne_eqb}
@@ -21,7 +21,7 @@ use Rattle.scql_model.proofs.ChangedLists.{found-each}
 use Rattle.scql_model.proofs.KnownNames.{names-valid}
 use Rattle.scql_model.proofs.LongerLists.{find-passes}
 use Rattle.scql_model.proofs.SeenThrough.{IsSeenThrough-resolved_of}
-use Rattle.plain_database.specs.Sought.{admits, is_sought, row_through, sought_row}
+use Rattle.plain_database.specs.Sought.{admits, is_in_table, is_sought, row_through, sought_row}
 use Rattle.plain_database.specs.declared.sought.Sought.{Sought}
 
 -- what is sought among the images of some elements is sought among the elements
@@ -37,6 +37,25 @@ find-image t g p f q (x ∷ xs) =
       ]
       | inr a ↦ rw a rest
     ]
+
+-- what is found among the elements that pass one test passes both
+pub find-filter : {X : Type 0} (p q both : X → Bool) (xs : List X) → ((x : X) → both x ≡ (q x && p x)) → find p (filter q xs) ≡ find both xs
+find-filter p q both [] is = refl
+find-filter p q both (x ∷ xs) is = elim (cases_Bool (q x)) [
+  | inl t ↦ elim (cases_Bool (p x)) [ inl u ↦ rw (is x, t, u) refl | inr f ↦ rw (is x, t, f) (find-filter p q both xs is) ]
+  | inr f ↦ rw (is x, f) (find-filter p q both xs is)
+]
+
+pub and-swap : (a b c : Bool) → (a && (b && c)) ≡ (b && (a && c))
+and-swap true b c = refl
+and-swap false true c = refl
+and-swap false false c = refl
+
+pub find-admitted : (r : Resolved) (conditions : List Condition) (sought : Sought) (rows : List RowRecord)
+    → find (is_in_table r conditions) (filter (λ (s : RowRecord). admits sought s.stamp) rows) ≡ find (is_sought r conditions sought) rows
+find-admitted r conditions sought rows =
+    find-filter (is_in_table r conditions) (λ (s : RowRecord). admits sought s.stamp) (is_sought r conditions sought) rows
+    (λ s. and-swap (s.table == r.table) (admits sought s.stamp) (matches r.all conditions s.row && passes_filters r s.row))
 
 -- the columns and conditions of a cursor are named among the columns of its contents
 pub cursor-named : (db : Database) (c : Cursor) (r : Resolved) → IsCursorOf db c → resolved_of db.objects c.object ≡ Some r → are_named_among (contents_of db c.object).columns c.columns c.conditions ≡ true

@@ -24,7 +24,11 @@ admits (At place) stamp = stamp == place
 abbrev pub sought_row : Database → Cursor → Sought → Option StampedRow
 sought_row db c sought = find (λ (r : StampedRow). admits sought r.stamp) (chosen (contents_of db c.object) c)
 
--- a row of the table, which passes what is resolved and the conditions
+-- a row of the table passes what is resolved and the conditions
+abbrev pub is_in_table : Resolved → List Condition → RowRecord → Bool
+is_in_table resolved conditions r = r.table == resolved.table && (matches resolved.all conditions r.row && passes_filters resolved r.row)
+
+-- and may be the one
 abbrev pub is_sought : Resolved → List Condition → Sought → RowRecord → Bool
 is_sought resolved conditions sought r =
     r.table == resolved.table && (admits sought r.stamp && (matches resolved.all conditions r.row && passes_filters resolved r.row))

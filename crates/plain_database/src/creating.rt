@@ -141,6 +141,7 @@ impl PlainDatabase {
     // Whether a view may rest on an object: whether that doesn't stand at the greatest depth.
     #[tactic(auto, unfolding(scql_model::specs::Objects::depth_of))]
     fn may_have_view(&self, base: &Object) -> bool
+        requires valid { IsValid self.now }
         ensures { result ≡ rules.may_have_view self.now.objects base.now }
     {
         match self.depth_below(DEEPEST + 1, base.stamp) {
@@ -151,6 +152,7 @@ impl PlainDatabase {
 
     // How deep the object of a stamp stands over a table, where that is below a number.
     fn depth_below(&self, most: u8, stamp: u32) -> Option<u8>
+        requires valid { IsValid self.now }
         ensures depth { result ≡ objects.depth_below most self.now.objects stamp }
         ensures below { IfSome result (λ depth. depth < most) }
     {

@@ -3,10 +3,9 @@ ghost use Rattle.std.specs.Prelude.{◌≡◌, ◌≤◌, OnErr, OnOk, length, n
 ghost use Rattle.std.specs.List.{position};
 ghost use Rattle.eeprom.specs.Slots.{put_in_order};
 ghost use Rattle.scql_model.specs.Database.{IsValid};
-ghost use Rattle.scql_model.specs.Edits.{record_stamp};
 
-use crate::PlainDatabase;
 use crate::record::Record;
+use crate::{PlainDatabase, Stamped};
 use eeprom::Heap;
 use scql_base::{Grant, Object, RowRecord, User};
 use std::alloc::AllocError;
@@ -68,7 +67,7 @@ impl PlainDatabase {
 
 // Puts a record before the first of a greater stamp.
 fn put<R: Record>(records: &mut Vec<R, Heap>, entry: R) -> Result<(), AllocError>
-    ensures put { OnOk result (records.new.items ≡ put_in_order (λ r. record_stamp (R.entry r)) entry records.old.items) }
+    ensures put { OnOk result (records.new.items ≡ put_in_order R.stamp_of entry records.old.items) }
     ensures same { OnErr result (records.new.items ≡ records.old.items) }
     ensures capacity { vec_capacity records.old ≤ vec_capacity records.new }
 {
@@ -81,7 +80,7 @@ fn put<R: Record>(records: &mut Vec<R, Heap>, entry: R) -> Result<(), AllocError
 
 // The place of the first record of a greater stamp.
 fn first_behind<R: Record>(records: &[R], stamp: u32) -> Option<usize>
-    ensures { result ≡ position (λ r. nat_lt stamp (record_stamp (R.entry r))) records.now }
+    ensures { result ≡ position (λ r. nat_lt stamp (R.stamp_of r)) records.now }
 {
     records.iter().position(|record| stamp < record.stamp())
 }

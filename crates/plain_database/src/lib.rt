@@ -25,6 +25,7 @@ mod searches;
 mod seen;
 mod sizes;
 mod sought;
+mod stamped;
 mod user_creating;
 mod user_deleting;
 
@@ -36,3 +37,4 @@ pub use reaching::is_opened;
 pub use resolved::Resolved;
 pub use seen::ShownRow;
 pub use sought::Sought;
+pub use stamped::Stamped;

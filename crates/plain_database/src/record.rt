@@ -1,18 +1,15 @@
 // What the records of each kind have in common.
 ghost use Rattle.std.specs.Prelude.{◌≡◌, ◌<◌};
-ghost use Rattle.scql_model.specs.Edits.{AnyRecord, cells_of_record, of_grant, of_object, of_row, of_user, record_stamp};
+ghost use Rattle.scql_model.specs.Edits.{AnyRecord, cells_of_record, of_grant, of_object, of_row, of_user};
 
+use crate::Stamped;
 use crate::sizes::{cells_for, object_size};
 use scql_base::{Grant, Object, Row, RowRecord, User};
 
 /// A record of one kind.
-pub(crate) trait Record: Drop {
+pub(crate) trait Record: Stamped {
     /// The record among those of all kinds.
     ghost entry: { Self → AnyRecord };
-
-    /// Its stamp.
-    fn stamp(&self) -> u32
-        ensures { result ≡ record_stamp (entry self.now) };
 
     /// How many cells it takes.
     fn cells(&self) -> u32
@@ -27,10 +24,6 @@ pub(crate) trait Record: Drop {
 impl Record for User {
     ghost entry = { λ user. of_user user };
 
-    fn stamp(&self) -> u32 {
-        self.stamp
-    }
-
     fn cells(&self) -> u32 {
         cells_for(13 + self.name.octets().len() + self.secret.as_slice().len())
     }
@@ -42,10 +35,6 @@ impl Record for User {
 
 impl Record for Object {
     ghost entry = { λ object. of_object object };
-
-    fn stamp(&self) -> u32 {
-        self.stamp
-    }
 
     fn cells(&self) -> u32 {
         cells_for(object_size(self))
@@ -59,10 +48,6 @@ impl Record for Object {
 impl Record for Grant {
     ghost entry = { λ grant. of_grant grant };
 
-    fn stamp(&self) -> u32 {
-        self.stamp
-    }
-
     fn cells(&self) -> u32 {
         cells_for(14)
     }
@@ -74,10 +59,6 @@ impl Record for Grant {
 
 impl Record for RowRecord {
     ghost entry = { λ row. of_row row };
-
-    fn stamp(&self) -> u32 {
-        self.stamp
-    }
 
     fn cells(&self) -> u32 {
         prove!(self.row.len() <= Row::MOST);

@@ -5,11 +5,12 @@ ghost use Rattle.eeprom.specs.Slots.{Rises, has, replaced};
 ghost use Rattle.scql_base.specs.declared.records.RowRecord as rows;
 ghost use Rattle.scql_model.specs.Database.{IsValid, user_stamped};
 ghost use Rattle.scql_model.specs.Step.{with_tries};
-ghost use Rattle.scql_model.specs.Edits.{cells_of_record, changing, of_grant, of_row, record_stamp, with_edits};
+ghost use Rattle.scql_model.specs.Edits.{cells_of_record, changing, of_grant, of_row, with_edits};
 ghost use Rattle.plain_database.specs.Effects.{ended};
 
-use crate::PlainDatabase;
 use crate::record::Record;
+use crate::stamped::place_of;
+use crate::{PlainDatabase, Stamped};
 use eeprom::Heap;
 use scql_base::{Grant, RowRecord, StatusWord};
 
@@ -57,20 +58,12 @@ impl PlainDatabase {
 
 // Puts a record in the place of the one that has its stamp.
 fn replace<R: Record>(records: &mut Vec<R, Heap>, entry: R)
-    requires rises { Rises (λ r. record_stamp (R.entry r)) records.old.items }
-    ensures items { records.new.items ≡ replaced (λ r. record_stamp (R.entry r)) entry records.old.items }
+    requires rises { Rises R.stamp_of records.old.items }
+    ensures items { records.new.items ≡ replaced R.stamp_of entry records.old.items }
     ensures capacity { vec_capacity records.new ≡ vec_capacity records.old }
 {
     match place_of(records, entry.stamp()) {
         Some(at) => records[at] = entry,
         None => {}
     }
-}
-
-// The place of the record of a stamp.
-fn place_of<R: Record>(records: &[R], stamp: u32) -> Option<usize>
-    ensures place { result ≡ position (has (λ r. record_stamp (R.entry r)) stamp) records.now }
-    ensures within { IfSome result (λ at. at < length records.now) }
-{
-    records.iter().position(|record| record.stamp() == stamp)
 }

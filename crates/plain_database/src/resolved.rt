@@ -1,6 +1,7 @@
 // A view down to its table.
 ghost use Rattle.std.specs.Prelude.{◌≡◌, ◌<◌, ◌≤◌, ◌+◌, ◌∷◌, IfSome, length};
 ghost use Rattle.std.specs.List.{list_all};
+ghost use Rattle.scql_model.specs.Database.{IsValid};
 ghost use Rattle.scql_model.specs.Matching as matching;
 ghost use Rattle.scql_model.specs.Resolving as resolving;
 
@@ -89,6 +90,7 @@ impl PlainDatabase {
     /// The table or view of a stamp, resolved.
     #[tactic(auto, unfolding(scql_model::specs::Resolving::resolved_of))]
     pub fn resolved(&self, stamp: u32) -> Option<Resolved<'_>>
+        requires valid { IsValid self.now }
         ensures { result ≡ resolving.resolved_of self.now.objects stamp }
     {
         self.resolved_below(DEEPEST + 1, stamp)
@@ -96,7 +98,8 @@ impl PlainDatabase {
 
     // The table or view of a stamp, resolved, from at most so many objects over one another.
     fn resolved_below(&self, most: u8, stamp: u32) -> Option<Resolved<'_>>
-        requires { most ≤ 5 }
+        requires valid { IsValid self.now }
+        requires few { most ≤ 5 }
         ensures resolved { result ≡ resolving.resolved_below most self.now.objects stamp }
         ensures few { IfSome result (λ r. length r.filters + 1 ≤ most) }
     {

@@ -23,11 +23,16 @@ impl PlainDatabase {
     pub fn appears(&self, actor: Actor, object: &Object) -> bool
         ensures { result ≡ rights.appears self.now actor object.now }
     {
-        is_owned_by(actor, object.owner)
-            || self.holds(actor, object, Privilege::Select)
-            || self.holds(actor, object, Privilege::Insert)
-            || self.holds(actor, object, Privilege::Update)
-            || self.holds(actor, object, Privilege::Delete)
+        is_owned_by(actor, object.owner) || self.has_grant(actor, object)
+    }
+
+    // Whether some grant gives an actor some privilege on an object.
+    fn has_grant(&self, actor: Actor, object: &Object) -> bool
+        ensures { result ≡ list_any (λ grant. list_any (λ bit. rights.gives actor object.now bit grant) rights.all_privileges) self.now.grants }
+    {
+        self.grants
+            .iter()
+            .any(|grant| gives_some(grant, actor, object))
     }
 
     // Whether some grant gives an actor a privilege on an object.
@@ -68,6 +73,16 @@ pub(crate) fn is_maker(profile: Profile) -> bool
         Profile::DbO | Profile::Dboo => true,
         Profile::Dbbu => false,
     }
+}
+
+// Whether a grant gives an actor some privilege on an object.
+fn gives_some(grant: &Grant, actor: Actor, object: &Object) -> bool
+    ensures { result ≡ list_any (λ bit. rights.gives actor object.now bit grant.now) rights.all_privileges }
+{
+    gives(grant, actor, object, Privilege::Select)
+        || gives(grant, actor, object, Privilege::Insert)
+        || gives(grant, actor, object, Privilege::Update)
+        || gives(grant, actor, object, Privilege::Delete)
 }
 
 // Whether a grant gives an actor a privilege on an object.

@@ -1,10 +1,12 @@
-// Searches among the users and the objects.
+// Searches among the users and the objects: by a name through all, by a stamp by halves.
 ghost use Rattle.std.specs.Prelude.{◌≡◌, option_copied};
+ghost use Rattle.scql_model.specs.Database.{IsValid};
 ghost use Rattle.scql_model.specs.Objects as objects;
 ghost use Rattle.scql_model.specs.Rights as rights;
 ghost use Rattle.scql_model.specs.Rules as rules;
 
 use crate::PlainDatabase;
+use crate::stamped::find_stamped;
 use scql_base::{Actor, Name, Object, User};
 
 impl PlainDatabase {
@@ -19,16 +21,18 @@ impl PlainDatabase {
 
     /// The user of a stamp.
     pub fn user_stamped(&self, stamp: u32) -> Option<&User>
+        requires valid { IsValid self.now }
         ensures { option_copied result ≡ rules.user_stamped self.now.users stamp }
     {
-        self.users.iter().find(|user| user.stamp == stamp)
+        find_stamped(self.users(), stamp)
     }
 
     /// The object of a stamp.
     pub fn object_stamped(&self, stamp: u32) -> Option<&Object>
+        requires valid { IsValid self.now }
         ensures { option_copied result ≡ objects.object_stamped self.now.objects stamp }
     {
-        self.objects.iter().find(|object| object.stamp == stamp)
+        find_stamped(self.objects(), stamp)
     }
 
     /// The object of a name, where it appears to an actor.
@@ -42,8 +46,14 @@ impl PlainDatabase {
 
     /// The object of a stamp, where it appears to an actor.
     pub fn seen_stamped(&self, actor: Actor, stamp: u32) -> Option<&Object>
+        requires valid { IsValid self.now }
         ensures { option_copied result ≡ rights.seen_stamped self.now actor stamp }
     {
-        self.objects.iter().find(|object| object.stamp == stamp && self.appears(actor, object))
+        let object = self.object_stamped(stamp)?;
+        if self.appears(actor, object) {
+            Some(object)
+        } else {
+            None
+        }
     }
 }

@@ -61,25 +61,30 @@ impl PlainDatabase {
         conditions: &[Condition],
         sought: Sought,
     ) -> Option<&RowRecord>
+        requires valid { IsValid self.now }
         ensures { option_copied result ≡ find (model.is_sought resolved.now conditions.now sought) self.now.rows }
     {
-        self.rows
-            .iter()
-            .find(|row| is_sought(row, resolved, conditions, sought))
+        find_among(sought.admitted(self.rows()), resolved, conditions)
     }
 }
 
-// Whether a record is a row of the table that is admitted, and passes what is resolved and the conditions.
-fn is_sought(
-    row: &RowRecord,
+// The first of some records that is a row of the table, and passes what is resolved and the conditions.
+fn find_among<'a>(
+    rows: &'a [RowRecord],
     resolved: &Resolved<'_>,
     conditions: &[Condition],
-    sought: Sought,
-) -> bool
-    ensures { result ≡ model.is_sought resolved.now conditions.now sought row.now }
+) -> Option<&'a RowRecord>
+    ensures { option_copied result ≡ find (model.is_in_table resolved.now conditions.now) rows.now }
+{
+    rows.iter()
+        .find(|row| is_in_table(row, resolved, conditions))
+}
+
+// Whether a record is a row of the table, and passes what is resolved and the conditions.
+fn is_in_table(row: &RowRecord, resolved: &Resolved<'_>, conditions: &[Condition]) -> bool
+    ensures { result ≡ model.is_in_table resolved.now conditions.now row.now }
 {
     row.table == resolved.table()
-        && sought.admits(row.stamp)
         && matches(resolved.all(), conditions, &row.row)
         && resolved.passes(&row.row)
 }

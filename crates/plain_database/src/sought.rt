@@ -1,6 +1,10 @@
 // Which of a cursor's rows is sought.
-ghost use Rattle.std.specs.Prelude.{◌≡◌};
+ghost use Rattle.std.specs.Prelude.{◌≡◌, filter};
+ghost use Rattle.eeprom.specs.Slots.{Rises};
 ghost use Rattle.plain_database.specs.Sought as model;
+
+use crate::Stamped;
+use crate::stamped::{behind_stamp, with_stamp};
 
 /// Which of the rows that a cursor shows is sought.
 #[derive(Clone, Copy, PartialEq, Eq, Debug)]
@@ -13,14 +17,15 @@ pub enum Sought {
 }
 
 impl Sought {
-    /// Whether the row of a stamp may be the one.
-    pub fn admits(self, stamp: u32) -> bool
-        ensures { result ≡ model.admits self stamp }
+    /// Those of some records whose rows may be the one.
+    pub fn admitted<R: Stamped>(self, records: &[R]) -> &[R]
+        requires rises { Rises R.stamp_of records.now }
+        ensures { result.now ≡ filter (λ r. model.admits self (R.stamp_of r)) records.now }
     {
         match self {
-            Sought::First => true,
-            Sought::Behind { stamp: before } => before < stamp,
-            Sought::At { stamp: place } => stamp == place,
+            Sought::First => records,
+            Sought::Behind { stamp } => behind_stamp(records, stamp),
+            Sought::At { stamp } => with_stamp(records, stamp),
         }
     }
 }

@@ -11,6 +11,7 @@ mod objects;
 mod octets;
 mod opening;
 mod rows;
+mod searches;
 mod slot;
 mod slots;
 mod stamps;

@@ -7,6 +7,7 @@ ghost use Rattle.scql_model.specs.Objects as objects;
 ghost use Rattle.scql_model.specs.Rules as model;
 ghost use Rattle.plain_image.specs.Rules as rules;
 
+use crate::searches::object_stamped;
 use crate::stamps::do_rise;
 use crate::users::is_made_by_maker;
 use plain_database::{PlainDatabase, are_named_among};
@@ -74,7 +75,7 @@ fn is_founded(database: &PlainDatabase, object: &Object) -> bool
             conditions,
         } => {
             columns.are_different()
-                && match database.object_stamped(*base) {
+                && match object_stamped(database, *base) {
                     Some(base) => rests_on(database, object, columns, conditions, base),
                     None => false,
                 }
@@ -124,7 +125,7 @@ fn depth_below(database: &PlainDatabase, most: u8, stamp: u32) -> Option<u8>
     if most == 0 {
         return None;
     }
-    match &database.object_stamped(stamp)?.kind {
+    match &object_stamped(database, stamp)?.kind {
         ObjectKind::Table { .. } => Some(0),
         ObjectKind::View { base, .. } => {
             let depth = depth_below(database, most - 1, *base)?;

@@ -4,6 +4,7 @@ ghost use Rattle.std.specs.List.{list_all};
 ghost use Rattle.scql_model.specs.Rules as model;
 ghost use Rattle.plain_image.specs.Rules as rules;
 
+use crate::searches::object_stamped;
 use crate::stamps::do_rise;
 use plain_database::PlainDatabase;
 use scql_base::{Object, ObjectKind, RowRecord};
@@ -34,7 +35,7 @@ fn is_right_row(database: &PlainDatabase, row: &RowRecord) -> bool
 fn has_table(database: &PlainDatabase, row: &RowRecord) -> bool
     ensures { result ≡ model.has_table database.now.objects row.now }
 {
-    match database.object_stamped(row.table) {
+    match object_stamped(database, row.table) {
         Some(object) => fits_table(row, object),
         None => false,
     }

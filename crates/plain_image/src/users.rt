@@ -4,6 +4,7 @@ ghost use Rattle.std.specs.List.{list_all, list_any};
 ghost use Rattle.scql_model.specs.Rules as model;
 ghost use Rattle.plain_image.specs.Rules as rules;
 
+use crate::searches::user_stamped;
 use crate::stamps::do_rise;
 use plain_database::PlainDatabase;
 use scql_base::{Name, Profile, User};
@@ -23,7 +24,7 @@ pub(crate) fn are_right_users(database: &PlainDatabase) -> bool
 pub(crate) fn is_made_by_maker(database: &PlainDatabase, stamp: u32) -> bool
     ensures { result ≡ model.is_made_by_maker database.now.users stamp }
 {
-    match database.user_stamped(stamp) {
+    match user_stamped(database, stamp) {
         Some(user) => is_maker(user.profile),
         None => false,
     }

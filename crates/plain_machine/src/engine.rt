@@ -1,10 +1,12 @@
 // What carries out commands: the committed database and the working one, the open transaction, and the sessions.
 ghost use Rattle.std.specs.Prelude.{◌≡◌, ◌<◌, IfOk, is_some};
 ghost use Rattle.scql_base.specs.Words.{done};
+ghost use Rattle.scql_model.specs.Database.{IsValid};
 ghost use Rattle.scql_model.specs.Machine as machine;
 ghost use Rattle.scql_model.specs.Replies.{said};
 ghost use Rattle.scql_model.specs.Sessions as model;
 ghost use Rattle.scql_model.specs.Transactions.{own_transaction};
+ghost use Rattle.scql_model.specs.ValidMachine.{IsValidMachine};
 
 mod changing;
 mod channels;
@@ -95,7 +97,8 @@ impl Engine {
 
     // For whom a channel acts.
     fn actor(&self, channel: u8) -> Actor
-        requires { channel < 4 }
+        requires channel { channel < 4 }
+        requires valid { IsValidMachine self.now }
         ensures { result ≡ machine.actor self.now channel }
     {
         match self.sessions.user(channel) {
@@ -125,6 +128,7 @@ fn say(reply: &mut Reply, word: StatusWord)
 
 // For whom a session acts that presents a user: the user where proved and still there, else PUBLIC.
 fn actor_of(database: &PlainDatabase, user: PresentedUser) -> Actor
+    requires valid { IsValid database.now }
     ensures { result ≡ machine.actor_of database.now user }
 {
     if !user.proved {

@@ -13,8 +13,17 @@ use Rattle.scql_model.specs.Matching.{Columns, matches}
 use Rattle.scql_model.specs.Objects.{StampedRow, dictionary_columns}
 use Rattle.plain_database.specs.Sought.{admits}
 use Rattle.plain_database.specs.declared.sought.Sought.{Sought}
-use Rattle.plain_database.proofs.SoughtRows.{find-image}
+use Rattle.plain_database.proofs.SoughtRows.{and-swap, find-filter, find-image}
 use Rattle.plain_reading.specs.Found.{is_sought_row, row_cut}
+
+-- the first of the records that are admitted of which it is told, and whose row meets the conditions, is told and sought
+pub told-admitted : {X : Type 0} (tells : X → Bool) (told : X → StampedRow) (stamp_of : X → ℕ) (columns : Columns) (conditions : List Condition) (sought : Sought) (records : List X)
+    → ((x : X) → (told x).stamp ≡ stamp_of x)
+    → find (λ x. tells x && matches columns conditions (told x).values) (filter (λ x. admits sought (stamp_of x)) records)
+    ≡ find (λ x. tells x && is_sought_row columns conditions sought (told x)) records
+told-admitted tells told stamp_of columns conditions sought records same =
+    find-filter (λ x. tells x && matches columns conditions (told x).values) (λ x. admits sought (stamp_of x)) (λ x. tells x && is_sought_row columns conditions sought (told x)) records
+    (λ x. rw (same x) (and-swap (tells x) (admits sought (stamp_of x)) (matches columns conditions (told x).values)))
 
 -- the row is that of the first record that is told and sought
 pub shown-told : {X : Type 0} (tells : X → Bool) (told : X → StampedRow) (columns wanted : Columns) (conditions : List Condition) (sought : Sought) (records : List X) (found : Option X)

@@ -2,8 +2,10 @@
 ghost use Rattle.std.specs.Prelude.{◌≡◌, ◌&&◌, List, filter, length, map, option_copied, option_map, true};
 ghost use Rattle.std.specs.List.{find};
 ghost use Rattle.scql_model.specs.Contents.{narrowed};
-ghost use Rattle.scql_model.specs.Database.{are_among, are_different};
+ghost use Rattle.eeprom.specs.Slots.{Rises};
+ghost use Rattle.scql_model.specs.Database.{IsValid, are_among, are_different};
 ghost use Rattle.scql_model.specs.Dictionaries.{rows_told, tells_of};
+ghost use Rattle.scql_model.specs.Matching as matching;
 ghost use Rattle.scql_model.specs.Objects as objects;
 ghost use Rattle.plain_database.specs.Sought.{admits, row_shown};
 ghost use Rattle.plain_reading.specs.Found.{is_sought_row};
@@ -24,6 +26,7 @@ pub(crate) fn find_told(
     cursor: &Cursor,
     sought: Sought,
 ) -> Option<ShownRow>
+    requires valid { IsValid database.now }
     requires different { are_different cursor.now.columns ≡ true }
     requires among { are_among cursor.now.columns (objects.dictionary_columns subject) ≡ true }
     ensures { option_map row_shown result ≡ find (λ r. admits sought r.stamp)
@@ -58,6 +61,8 @@ impl<'a> Dictionary<'a> {
         cursor: &Cursor,
         sought: Sought,
     ) -> Option<ShownRow>
+        requires valid { IsValid self.now.database.now }
+        requires rises { Rises R.stamp_of records.now }
         requires different { are_different cursor.now.columns ≡ true }
         requires among { are_among cursor.now.columns self.now.columns.now ≡ true }
         requires many { (entry : R) → length (R.told self.now.database.now entry).values ≡ length self.now.columns.now }
@@ -69,7 +74,7 @@ impl<'a> Dictionary<'a> {
         let values = found.values(self.database);
         prove!(values.len() <= Row::MOST);
         Some(ShownRow {
-            stamp: found.stamp(self.database),
+            stamp: found.stamp(),
             values: cut_to(self.columns, &cursor.columns, &values),
         })
     }
@@ -81,28 +86,49 @@ impl<'a> Dictionary<'a> {
         cursor: &Cursor,
         sought: Sought,
     ) -> Option<&'b R>
+        requires valid { IsValid self.now.database.now }
+        requires rises { Rises R.stamp_of records.now }
         ensures { option_copied result ≡ find (λ r. tells_of self.now.owner (R.owned_by self.now.database.now r)
             && is_sought_row self.now.columns.now cursor.now.conditions sought (R.told self.now.database.now r)) records.now }
     {
-        records.iter().find(|entry| self.tells_of(*entry) && self.is_sought(*entry, cursor, sought))
+        self.find_among(sought.admitted(records), cursor)
+    }
+
+    // The first record of which the dictionary tells, and whose row meets a cursor's conditions.
+    fn find_among<'b, R: Told>(&self, records: &'b [R], cursor: &Cursor) -> Option<&'b R>
+        requires valid { IsValid self.now.database.now }
+        ensures { option_copied result ≡ find (λ r. tells_of self.now.owner (R.owned_by self.now.database.now r)
+            && matching.matches self.now.columns.now cursor.now.conditions (R.told self.now.database.now r).values) records.now }
+    {
+        records.iter().find(|entry| self.shows(*entry, cursor))
+    }
+
+    // Whether it tells of a record, and the row meets a cursor's conditions.
+    fn shows<R: Told>(&self, entry: &R, cursor: &Cursor) -> bool
+        requires valid { IsValid self.now.database.now }
+        ensures { result ≡ (tells_of self.now.owner (R.owned_by self.now.database.now entry.now)
+            && matching.matches self.now.columns.now cursor.now.conditions (R.told self.now.database.now entry.now).values) }
+    {
+        self.tells_of(entry) && self.meets(entry, cursor)
     }
 
     // Whether it tells of a record.
     fn tells_of<R: Told>(&self, entry: &R) -> bool
+        requires valid { IsValid self.now.database.now }
         ensures { result ≡ tells_of self.now.owner (R.owned_by self.now.database.now entry.now) }
     {
         self.owner == OWNER || entry.owner(self.database) == self.owner
     }
 
-    // Whether the row of a record is the one that is sought.
-    fn is_sought<R: Told>(&self, entry: &R, cursor: &Cursor, sought: Sought) -> bool
-        ensures { result ≡ is_sought_row self.now.columns.now cursor.now.conditions sought (R.told self.now.database.now entry.now) }
+    // Whether the row of a record meets a cursor's conditions.
+    fn meets<R: Told>(&self, entry: &R, cursor: &Cursor) -> bool
+        requires valid { IsValid self.now.database.now }
+        ensures { result ≡ matching.matches self.now.columns.now cursor.now.conditions (R.told self.now.database.now entry.now).values }
     {
-        sought.admits(entry.stamp(self.database))
-            && matches(
-                self.columns,
-                cursor.conditions.as_slice(),
-                &entry.values(self.database),
-            )
+        matches(
+            self.columns,
+            cursor.conditions.as_slice(),
+            &entry.values(self.database),
+        )
     }
 }

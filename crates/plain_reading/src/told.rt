@@ -1,35 +1,36 @@
 // Records as the rows of dictionaries that tell of them.
-ghost use Rattle.std.specs.Prelude.{ℕ, ◌≡◌, ◌+◌, ◌<◌, ◌≤◌, [], ◌∷◌, ◌++◌, length};
+ghost use Rattle.std.specs.Prelude.{ℕ, ◌≡◌, ◌+◌, ◌<◌, ◌≤◌, [], ◌∷◌, ◌++◌, length, refl};
 ghost use Rattle.scql_base.specs.Row.{row_size};
 ghost use Rattle.scql_base.specs.declared.row.TheConstants.Row.{LARGEST, LONGEST_VALUE, MOST};
-ghost use Rattle.scql_model.specs.Database.{Database};
+ghost use Rattle.scql_model.specs.Database.{Database, IsValid};
 ghost use Rattle.scql_model.specs.Dictionaries as model;
 ghost use Rattle.scql_model.specs.Objects.{StampedRow};
 
 use crate::names::{grantee_name, object_name, object_owner, user_name};
 use crate::texts::columns_text;
-use plain_database::PlainDatabase;
+use plain_database::{PlainDatabase, Stamped};
 use scql_base::{Grant, Object, ObjectKind, Row, User};
 
 /// A record of which dictionaries tell.
-pub(crate) trait Told: Drop {
+pub(crate) trait Told: Stamped {
     /// The row that tells of it.
     ghost told: { Database → Self → StampedRow };
 
     /// The stamp of the user who owns it.
     ghost owned_by: { Database → Self → ℕ };
 
-    /// The stamp of its row.
-    fn stamp(&self, database: &PlainDatabase) -> u32
-        ensures { result ≡ (told database.now self.now).stamp };
-
     /// The stamp of its owner.
     fn owner(&self, database: &PlainDatabase) -> u32
+        requires valid { IsValid database.now }
         ensures { result ≡ owned_by database.now self.now };
 
     /// The values of its row.
     fn values(&self, database: &PlainDatabase) -> Row
+        requires valid { IsValid database.now }
         ensures { result ≡ (told database.now self.now).values };
+
+    /// Its row has its stamp.
+    ghost same_stamp: { (db : Database) (x : Self) → (told db x).stamp ≡ Self.stamp_of x };
 }
 
 impl Told for Object {
@@ -37,9 +38,7 @@ impl Told for Object {
 
     ghost owned_by = { λ _ object. object.owner };
 
-    fn stamp(&self, _database: &PlainDatabase) -> u32 {
-        self.stamp
-    }
+    ghost same_stamp = { λ _ _. refl };
 
     fn owner(&self, _database: &PlainDatabase) -> u32 {
         self.owner
@@ -62,9 +61,7 @@ impl Told for User {
 
     ghost owned_by = { λ _ user. user.owner };
 
-    fn stamp(&self, _database: &PlainDatabase) -> u32 {
-        self.stamp
-    }
+    ghost same_stamp = { λ _ _. refl };
 
     fn owner(&self, _database: &PlainDatabase) -> u32 {
         self.owner
@@ -84,9 +81,7 @@ impl Told for Grant {
 
     ghost owned_by = { λ database grant. model.object_owner database grant.object };
 
-    fn stamp(&self, _database: &PlainDatabase) -> u32 {
-        self.stamp
-    }
+    ghost same_stamp = { λ _ _. refl };
 
     fn owner(&self, database: &PlainDatabase) -> u32 {
         object_owner(database, self.object)
@@ -114,6 +109,7 @@ fn kind_letter(kind: &ObjectKind) -> u8
 
 // Puts what BASE tells.
 fn put_base(row: &mut Row, database: &PlainDatabase, kind: &ObjectKind)
+    requires valid { IsValid database.now }
     requires count { length row.old < MOST }
     requires room { row_size row.old + 8 < LARGEST }
     ensures put { row.new ≡ row.old ++ model.base_told database.now kind.now ∷ [] }

@@ -1,11 +1,12 @@
 -- How a program ends, by which number, and with which text.
-use Rattle.std.specs.Prelude.{ℕ, Bool, true, false, List, Option, Some, None, codes}
+use Rattle.std.specs.Prelude.{ℕ, Bool, true, false, List, Option, Some, None, Result, Ok, Err, codes}
 use Rattle.file_bench.specs.declared.file_fault.FileFault.{FileFault}
 use Rattle.file_bench.specs.declared.file_fault.FileFault.TheVariants as file_faults
 use Rattle.line_input.specs.declared.input.InputEnd.{InputEnd}
 use Rattle.line_input.specs.declared.input.InputEnd.TheVariants as ends
 use Rattle.line_run.specs.declared.line_stop.LineStop.{LineStop}
 use Rattle.line_run.specs.declared.line_stop.LineStop.TheVariants as stops
+use Rattle.program.specs.declared.program_end.ProgramEnd.{ProgramEnd}
 use Rattle.program.specs.declared.ending.Ending.{Ending}
 use Rattle.program.specs.declared.ending.Ending.TheVariants.{Run, NoFile, Held}
 use Rattle.program.specs.declared.status.Status.{Status}
@@ -52,6 +53,24 @@ abbrev pub said_at : Ending → List ℕ → Option (List ℕ)
 said_at (Run status) usage = said_of status usage
 said_at NoFile usage = Some (codes "no file")
 said_at Held usage = Some (codes "file held")
+
+-- whether that is said of one of the program's files
+abbrev pub is_of_file : Ending → Bool
+is_of_file (Run Eeprom) = true
+is_of_file (Run NotACard) = true
+is_of_file (Run TooSmall) = true
+is_of_file (Run status) = false
+is_of_file NoFile = true
+is_of_file Held = true
+
+-- how a program ended whose run ended so, or didn't begin, and over which file
+abbrev pub ended_as : Result Status ProgramEnd → ProgramEnd
+ended_as (Ok status) = record { ending = Run status; word = None }
+ended_as (Err ended) = ended
+
+abbrev pub ended_over : ℕ → Result Status Ending → ProgramEnd
+ended_over word (Ok status) = record { ending = Run status; word = Some word }
+ended_over word (Err ending) = record { ending = ending; word = Some word }
 
 -- how a run ends that read its input to its end, in which a line was refused or none
 abbrev pub ends_as : Bool → Status

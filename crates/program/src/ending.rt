@@ -2,7 +2,7 @@
 ghost use Rattle.std.specs.Prelude.{◌≡◌, ◌↔◌, ◌≤◌, IsSome, option_map};
 ghost use Rattle.std.specs.IoError.{error_kind};
 ghost use Rattle.std.specs.declared.io.ErrorKind.TheVariants.{OutOfMemory};
-ghost use Rattle.program.specs.Numbers.{ending_of, exit_status_of, said_at};
+ghost use Rattle.program.specs.Numbers.{ending_of, exit_status_of, is_of_file, said_at};
 ghost use Rattle.program.specs.declared.status.Status.TheVariants.{NoMemory, Usage};
 ghost use Rattle.program.specs.declared.ending.Ending.TheVariants.{Run};
 
@@ -10,7 +10,6 @@ use crate::Status;
 use file_bench::FileFault;
 use std::alloc::AllocError;
 use std::io;
-use std::process::ExitCode;
 
 #[derive(Clone, Copy, PartialEq, Eq, Debug)]
 pub enum Ending {
@@ -44,15 +43,18 @@ impl Ending {
             Ending::Held => Some("file held"),
         }
     }
-}
 
-/// Ends a program: by its exit status, with a line on standard error where there is one.
-pub fn end_program(rt: &HostRuntime, ending: Ending, usage: &'static str) -> ExitCode {
-    if let Some(message) = ending.message(usage) {
-        // Where standard error takes nothing, the exit status says the same.
-        let _ = rt.eprintln(message);
+    /// Whether that is said of one of the program's files.
+    pub fn is_of_file(self) -> bool
+        ensures { result ≡ is_of_file self }
+    {
+        matches!(
+            self,
+            Ending::Run(Status::Eeprom | Status::NotACard | Status::TooSmall)
+                | Ending::NoFile
+                | Ending::Held
+        )
     }
-    ExitCode::from(ending.number())
 }
 
 impl From<FileFault> for Ending {

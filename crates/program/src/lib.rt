@@ -3,12 +3,15 @@
 
 mod about;
 mod ending;
+mod program_end;
+mod running;
 mod status;
 mod streams;
 mod words;
 
 pub use about::About;
-pub use ending::{Ending, end_program};
+pub use ending::Ending;
+pub use program_end::ProgramEnd;
+pub use running::run_program;
 pub use status::Status;
 pub use streams::hold_streams;
-pub use words::command_line;

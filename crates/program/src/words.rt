@@ -3,7 +3,7 @@ use crate::Ending;
 use std::env;
 
 /// The words of the command line behind the program's name.
-pub fn command_line(rt: &HostRuntime) -> Result<Vec<String>, Ending> {
+pub(crate) fn command_line(rt: &HostRuntime) -> Result<Vec<String>, Ending> {
     let mut words = env::args(rt)?;
     words.next();
     Ok(words.collect(rt.alloc())?)

@@ -9,6 +9,7 @@ use Rattle.scql_model.specs.Heard.{IsLawful, committed_in}
 use Rattle.scql_model.specs.Machine.{Machine}
 use Rattle.scql_model.specs.Opens.{Opens}
 use Rattle.person.specs.Showing.{Shows}
+use Rattle.guide.proofs.Told.{told-none, told-then}
 use Rattle.person.proofs.Texts.{shows-none, shows-then}
 use Rattle.query_run.specs.Answering.{ShowsCounts}
 use Rattle.query_run.specs.Progress.{fetched_text, fetched_texts}
@@ -34,9 +35,14 @@ counts-then lost shown a b c first second = record {
       (shows-then lost shown (fetched_texts first.counts) (fetched_texts second.counts) a b c first.shows second.shows);
 }
 
-pub leads-none : {L P : Type 0} (goes_on : L → L → Type 0) (lost : P → Bool) (shown : P → Option (List ℕ)) (link : L) (person : P) → goes_on link link → LeadsOn goes_on lost shown link link person person
-leads-none goes_on lost shown link person goes = record { goes = goes; watches = counts-none lost shown person }
+pub leads-none : {L P N : Type 0} (goes_on : L → L → Type 0) (lost : P → Bool) (shown : P → Option (List ℕ)) (missed : N → Bool) (told : N → Option (List ℕ)) (link : L) (person : P) (notices : N) → goes_on link link
+    → LeadsOn goes_on lost shown missed told link link person person notices notices
+leads-none goes_on lost shown missed told link person notices goes = record { goes = goes; watches = counts-none lost shown person; hears = told-none missed told notices }
 
-pub leads-then : {L P : Type 0} (goes_on : L → L → Type 0) (lost : P → Bool) (shown : P → Option (List ℕ)) (old mid new : L) (a b c : P) → (goes_on old mid → goes_on mid new → goes_on old new) → LeadsOn goes_on lost shown old mid a b
-    → LeadsOn goes_on lost shown mid new b c → LeadsOn goes_on lost shown old new a c
-leads-then goes_on lost shown old mid new a b c goes first second = record { goes = goes first.goes second.goes; watches = counts-then lost shown a b c first.watches second.watches }
+pub leads-then : {L P N : Type 0} (goes_on : L → L → Type 0) (lost : P → Bool) (shown : P → Option (List ℕ)) (missed : N → Bool) (told : N → Option (List ℕ)) (old mid new : L) (a b c : P) (x y z : N) → (goes_on old mid → goes_on mid new → goes_on old new)
+    → LeadsOn goes_on lost shown missed told old mid a b x y → LeadsOn goes_on lost shown missed told mid new b c y z → LeadsOn goes_on lost shown missed told old new a c x z
+leads-then goes_on lost shown missed told old mid new a b c x y z goes first second = record {
+  goes = goes first.goes second.goes;
+  watches = counts-then lost shown a b c first.watches second.watches;
+  hears = told-then missed told x y z first.hears second.hears;
+}

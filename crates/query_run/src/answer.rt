@@ -3,6 +3,7 @@ ghost use Rattle.std.specs.Prelude.{◌≡◌};
 ghost use Rattle.query_run.specs.Answers as model;
 
 use eeprom::Heap;
+use guide::Why;
 use row_join::{Combination, Fetched};
 use scql_base::StatusWord;
 
@@ -30,6 +31,15 @@ impl Answer {
         match self {
             Answer::Rows { .. } => false,
             Answer::TooMany | Answer::Refused { .. } => true,
+        }
+    }
+
+    /// Why there are no rows, where there are none.
+    pub(crate) fn why(&self) -> Option<Why> {
+        match self {
+            Answer::Rows { .. } => None,
+            Answer::TooMany => Some(Why::TooMany),
+            Answer::Refused { word } => Some(Why::Word { word: *word }),
         }
     }
 }

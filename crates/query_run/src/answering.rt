@@ -18,6 +18,7 @@ use crate::finding::find_answer;
 use crate::printing::{print_answer, say};
 use card_link::Desk;
 use eeprom::{Heap, SinkFault};
+use guide::Why;
 use line_run::LineStop;
 use person::Person;
 use query::Query;
@@ -44,12 +45,13 @@ fn told(said: Result<(), SinkFault>, refused: bool) -> Result<bool, LineStop>
     }
 }
 
-// Answers a query, and tells whether it was refused. Nothing is printed before all is fetched, joined and put in order.
+// Answers a query, and tells whether it was refused, and why. Nothing is printed before all is fetched, joined and put in order.
 fn answer_query<L: Desk, P: Person>(
     alloc: Heap,
     desk: &mut L,
     query: &Query,
     person: &mut P,
+    why: &mut Option<Why>,
 ) -> Result<bool, LineStop>
     requires live { IsTrue (L.is_live desk.old) }
     requires sendable { AllByRecursion CanBeAsked query.now.objects }
@@ -65,17 +67,21 @@ fn answer_query<L: Desk, P: Person>(
     ensures shows { ShowsCounts P.lost P.shown person.old person.new }
 {
     match find_answer(alloc, desk, query, person) {
-        Ok(answer) => told(print_answer(desk, query, &answer), answer.is_refusal()),
+        Ok(answer) => {
+            *why = answer.why();
+            told(print_answer(desk, query, &answer), answer.is_refusal())
+        }
         Err(end) => Err(stop_of(end)),
     }
 }
 
-// Answers the octets of a line, and tells whether it was refused.
+// Answers the octets of a line, and tells whether it was refused, and why.
 fn answer_octets<L: Desk, P: Person>(
     alloc: Heap,
     desk: &mut L,
     line: &[u8],
     person: &mut P,
+    why: &mut Option<Why>,
 ) -> Result<bool, LineStop>
     requires live { IsTrue (L.is_live desk.old) }
     requires short { length line.now ≤ longest_line }
@@ -92,17 +98,21 @@ fn answer_octets<L: Desk, P: Person>(
         return Ok(false);
     }
     match Query::read(line) {
-        Ok(query) => answer_query(alloc, desk, &query, person),
-        Err(fault) => told(say(desk, &fault_text(fault)), true),
+        Ok(query) => answer_query(alloc, desk, &query, person, why),
+        Err(fault) => {
+            *why = Some(Why::Fault { fault });
+            told(say(desk, &fault_text(fault)), true)
+        }
     }
 }
 
-/// Answers a whole line, and tells whether it was refused.
+/// Answers a whole line, and tells whether it was refused, and why.
 pub(crate) fn answer_line<L: Desk, P: Person>(
     alloc: Heap,
     desk: &mut L,
     line: Option<&[u8]>,
     person: &mut P,
+    why: &mut Option<Why>,
 ) -> Result<bool, LineStop>
     requires live { IsTrue (L.is_live desk.old) }
     requires short { IfSome line (λ octets. length octets.now ≤ longest_line) }
@@ -116,7 +126,10 @@ pub(crate) fn answer_line<L: Desk, P: Person>(
     ensures shows { ShowsCounts P.lost P.shown person.old person.new }
 {
     match line {
-        Some(octets) => answer_octets(alloc, desk, octets, person),
-        None => told(say(desk, b"error line too long\n"), true),
+        Some(octets) => answer_octets(alloc, desk, octets, person, why),
+        None => {
+            *why = Some(Why::TooLong);
+            told(say(desk, b"error line too long\n"), true)
+        }
     }
 }

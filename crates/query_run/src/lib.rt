@@ -7,6 +7,7 @@ mod fetching;
 mod finding;
 mod printing;
 mod progress;
+mod queries;
 mod responding;
 mod run;
 mod status;
@@ -14,6 +15,7 @@ mod told_desk;
 mod unfetched;
 mod user_run;
 
+pub use queries::Queries;
 pub use run::answer_queries;
 pub use status::QueryStatus;
 pub use told_desk::ToldDesk;

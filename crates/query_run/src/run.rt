@@ -6,23 +6,39 @@ ghost use Rattle.scql_model.specs.Machine.{Machine};
 ghost use Rattle.query_run.specs.Answering.{ShowsCounts};
 ghost use Rattle.query_run.specs.Fetching.{ReadsAs};
 ghost use Rattle.query_run.specs.QueryLines.{Asking, query_lines};
+ghost use Rattle.person.specs.Showing.{ShowsSome};
 ghost use Rattle.program.specs.Ends.{AllFaults, EndsBy, RunsTo, reads_all};
 ghost use Rattle.query_run.specs.Running.{PrintsQueries};
 ghost use Rattle.query_run.specs.Statuses.{program_status};
 
 use crate::responding::QueryDesk;
-use crate::{QueryStatus, ToldDesk};
+use crate::{Queries, QueryStatus, ToldDesk};
 use eeprom::{Heap, Source};
-use line_run::run_lines;
+use guide::{Guide, Message};
+use line_input::InputEnd;
+use line_run::{LineStop, run_lines};
 use person::Person;
 
-/// Answers the lines of the input as queries on channel 0 of a card, and gives back its desk and the person who watched.
-pub fn answer_queries<S: Source, D: ToldDesk, P: Person>(
+// Says how many lines were refused, where the input was read to its end.
+fn take_leave<N: Person>(end: &InputEnd<LineStop>, guide: &mut Guide<Queries>, notices: &mut N)
+    ensures { ShowsSome N.lost N.shown notices.old notices.new }
+{
+    match end {
+        InputEnd::Ended => guide.leave(notices),
+        _ => guide.tell(&Message::new(), notices),
+    }
+}
+
+/// Answers the lines of the input as queries on channel 0 of a card, and gives back its desk, the person who watched how rows are fetched,
+/// and the one who was told of the lines.
+pub fn answer_queries<S: Source, D: ToldDesk, P: Person, N: Person>(
     alloc: Heap,
     source: &mut S,
     desk: D,
     person: P,
-) -> (QueryStatus, D, P)
+    mut guide: Guide<Queries>,
+    mut notices: N,
+) -> (QueryStatus, D, P, N)
     requires { IsTrue (D.is_live desk) }
     // One extent says which of the lines were answered and in which the run stopped. At each moment the image opens to what it opened to.
     ensures runs { (m : Machine) → ReadsAs D.is_at m desk
@@ -39,11 +55,15 @@ pub fn answer_queries<S: Source, D: ToldDesk, P: Person>(
     ensures opened { ¬ (result.0 ≡ QueryStatus.NotACard) }
     ensures goes_on { D.goes_on desk result.1 }
     ensures shows { ShowsCounts P.lost P.shown person result.2 }
+    ensures told { ShowsSome N.lost N.shown notices result.3 }
 {
+    guide.greet(None, &mut notices);
     let queries = QueryDesk {
         alloc,
         desk,
         person,
+        guide,
+        notices,
         refused: false,
     };
     let (end, queries) = run_lines(source, queries);
@@ -51,8 +71,11 @@ pub fn answer_queries<S: Source, D: ToldDesk, P: Person>(
         alloc: _,
         desk,
         person,
+        mut guide,
+        mut notices,
         refused,
     } = queries;
+    take_leave(&end, &mut guide, &mut notices);
     let status = QueryStatus::of_input(end, refused);
-    (status, desk, person)
+    (status, desk, person, notices)
 }

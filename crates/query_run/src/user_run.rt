@@ -8,6 +8,7 @@ ghost use Rattle.scql_model.specs.Opens.{Opens};
 ghost use Rattle.card.specs.Card.{IsAt, IsReady};
 ghost use Rattle.card.specs.Making.{OpensToNone};
 ghost use Rattle.card_asking.specs.Presenting.{presented};
+ghost use Rattle.person.specs.Showing.{ShowsSome};
 ghost use Rattle.program.specs.Ends.{AllFaults, EndsBy, reads_all};
 ghost use Rattle.query_run.specs.Answering.{ShowsCounts};
 ghost use Rattle.query_run.specs.Printing.{Leads};
@@ -16,11 +17,13 @@ ghost use Rattle.query_run.specs.Statuses.{program_status};
 ghost use Rattle.query_run.specs.UserRuns.{AnswersFor, IsUnopened, IsWithout, PrintsFor, ReadsAll, RunsFor, StaysOpen, TellsRefusal};
 
 use crate::printing::say;
-use crate::{QueryStatus, ToldDesk, answer_queries};
+use crate::queries::user_refused;
+use crate::{Queries, QueryStatus, ToldDesk, answer_queries};
 use card::{Card, LiveCard, OpenRefusal};
 use card_asking::{Unpresented, present};
 use card_link::Desk;
 use eeprom::{Bench, Heap, Source};
+use guide::Guide;
 use person::Person;
 use planner::Closing;
 use scql_base::{Name, StatusWord};
@@ -41,13 +44,14 @@ fn refuse<D: Desk>(desk: &mut D, word: StatusWord) -> QueryStatus
 }
 
 // Presents a user on a desk, and answers the lines of the input as queries; or tells the refusal, and reads no line.
-fn answer_for<S: Source, D: ToldDesk, P: Person>(
+fn answer_for<S: Source, D: ToldDesk, P: Person, N: Person>(
     alloc: Heap,
     user: &Name,
     source: &mut S,
     mut desk: D,
     person: P,
-) -> (QueryStatus, D, P)
+    mut notices: N,
+) -> (QueryStatus, D, P, N)
     requires { IsTrue (D.is_live desk) }
     ensures runs { (m : Machine) → D.is_at desk m
         → AnswersFor D.chip D.faults (presented m user.now) (program_status result.0) source.old source.new (S.left source.old) (S.left source.new) desk result.1 }
@@ -63,26 +67,30 @@ fn answer_for<S: Source, D: ToldDesk, P: Person>(
     ensures opened { ¬ (result.0 ≡ QueryStatus.NotACard) }
     ensures goes_on { D.goes_on desk result.1 }
     ensures shows { ShowsCounts P.lost P.shown person result.2 }
+    ensures told { ShowsSome N.lost N.shown notices result.3 }
 {
+    let guide = Guide::new(Queries::new(user), notices.presence());
     match present(&mut desk, user) {
-        Ok(()) => answer_queries(alloc, source, desk, person),
+        Ok(()) => answer_queries(alloc, source, desk, person, guide, notices),
         Err(Unpresented::Refused { word }) => {
             let status = refuse(&mut desk, word);
-            (status, desk, person)
+            guide.tell(&user_refused(user, word), &mut notices);
+            (status, desk, person, notices)
         }
-        Err(Unpresented::Mute) => (QueryStatus::Eeprom, desk, person),
+        Err(Unpresented::Mute) => (QueryStatus::Eeprom, desk, person, notices),
     }
 }
 
 // The same on a card that is open.
-fn answer_on<S: Source, B: Bench, P: Person>(
+fn answer_on<S: Source, B: Bench, P: Person, N: Person>(
     alloc: Heap,
     user: &Name,
     source: &mut S,
     card: Card,
     bench: &mut B,
     person: P,
-) -> (QueryStatus, P)
+    notices: N,
+) -> (QueryStatus, P, N)
     requires { IsReady card (B.chip bench.old) }
     ensures runs { (m : Machine) → IsAt card (B.chip bench.old) m
         → AnswersFor B.chip B.faults (presented m user.now) (program_status result.0) source.old source.new (S.left source.old) (S.left source.new) bench.old bench.new }
@@ -97,11 +105,12 @@ fn answer_on<S: Source, B: Bench, P: Person>(
         (record { eeprom = B.faults bench.new; source = S.source_faults source.new; outlet = B.sink_faults bench.new }) }
     ensures opened { ¬ (result.0 ≡ QueryStatus.NotACard) }
     ensures shows { ShowsCounts P.lost P.shown person result.1 }
+    ensures told { ShowsSome N.lost N.shown notices result.2 }
 {
     let desk = LiveCard::new(card, bench);
-    let (status, desk, person) = answer_for(alloc, user, source, desk, person);
+    let (status, desk, person, notices) = answer_for(alloc, user, source, desk, person, notices);
     desk.into_bench();
-    (status, person)
+    (status, person, notices)
 }
 
 // How a run ends whose card doesn't open.
@@ -116,14 +125,15 @@ fn status_of(refusal: OpenRefusal) -> QueryStatus
 }
 
 /// Opens the card of the bench, presents a user on channel 0, and answers the lines of the input as queries; a refusal is told, and then no line is read.
-/// The person who watches is given back.
-pub fn run_query<S: Source, B: Bench, P: Person>(
+/// The person who watches how rows are fetched is given back, and so is the one who is told of the lines.
+pub fn run_query<S: Source, B: Bench, P: Person, N: Person>(
     alloc: Heap,
     user: Name,
     source: &mut S,
     bench: &mut B,
     person: P,
-) -> (QueryStatus, P)
+    notices: N,
+) -> (QueryStatus, P, N)
     // The card was opened at the database to which the image opens, the user presented, and from there on the lines answered; or it wasn't opened, for a fault or want of memory.
     ensures runs { (image : List ℕ) (db : Database) → (B.chip bench.old).image ≡ Some image → Opens image db
         → RunsFor B.chip B.faults db user (program_status result.0) source.old source.new (S.left source.old) (S.left source.new) bench.old bench.new }
@@ -146,9 +156,10 @@ pub fn run_query<S: Source, B: Bench, P: Person>(
         (record { eeprom = B.faults bench.old; source = S.source_faults source.old; outlet = B.sink_faults bench.old })
         (record { eeprom = B.faults bench.new; source = S.source_faults source.new; outlet = B.sink_faults bench.new }) }
     ensures shows { ShowsCounts P.lost P.shown person result.1 }
+    ensures told { ShowsSome N.lost N.shown notices result.2 }
 {
     match Card::open(alloc, bench) {
-        Ok(card) => answer_on(alloc, &user, source, card, bench, person),
-        Err(refusal) => (status_of(refusal), person),
+        Ok(card) => answer_on(alloc, &user, source, card, bench, person, notices),
+        Err(refusal) => (status_of(refusal), person, notices),
     }
 }

@@ -3,10 +3,10 @@
 
 ghost use Rattle.std.specs.Prelude.{◌≤◌, length};
 
-use file_bench::{FileBench, StdOutlet, StdSource};
-use file_card::card_in;
+use file_bench::{StdOutlet, StdSource};
+use file_card::{card_in, open_file};
 use person::Watcher;
-use program::{About, Ending, Status, command_line, end_program, hold_streams};
+use program::{About, Ending, ProgramEnd, Status, hold_streams, run_program};
 use rack_run::run_rack;
 use reader_rack::Rack;
 use std::alloc::AllocError;
@@ -20,22 +20,14 @@ mod tests;
 const READERS: usize = 4;
 
 fn main(rt: HostRuntime) -> ExitCode {
-    let ending = match answer(&rt) {
-        Ok(status) => Ending::Run(status),
-        Err(ending) => ending,
-    };
-    end_program(&rt, ending, USAGE)
+    run_program(&rt, ABOUT, run_words)
 }
 
-fn answer(rt: &HostRuntime) -> Result<Status, Ending> {
-    let words = command_line(rt)?;
-    if let Some(status) = ABOUT.answer(rt, &words) {
-        return Ok(status);
+fn run_words(rt: &HostRuntime, words: &[String]) -> ProgramEnd {
+    if words.is_empty() || READERS < words.len() || !are_different(words) {
+        return ProgramEnd::from(Ending::Run(Status::Usage));
     }
-    if words.is_empty() || READERS < words.len() || !are_different(&words) {
-        return Ok(Status::Usage);
-    }
-    run_over(rt, &words)
+    ProgramEnd::of_run(run_over(rt, words))
 }
 
 // Whether no file is named twice.
@@ -51,26 +43,27 @@ fn are_different(paths: &[String]) -> bool {
 }
 
 // Runs over the cards of these files. All files are opened before the first card is.
-fn run_over(rt: &HostRuntime, paths: &[String]) -> Result<Status, Ending>
+fn run_over(rt: &HostRuntime, paths: &[String]) -> Result<Status, ProgramEnd>
     requires { length paths.now ≤ 4 }
 {
     let _streams = hold_streams(rt);
     let mut benches = Vec::with_capacity(rt.alloc(), READERS)?;
-    for path in paths {
-        let bench = FileBench::open(rt.clone()?, path, false)?;
+    for (word, path) in paths.iter().enumerate() {
+        let bench = open_file(rt, word, path)?;
         benches.push(bench).map_err(AllocError::from)?;
     }
     let mut rack = Rack::new(StdOutlet::new(rt.clone()?));
     let mut reader = 1;
-    for bench in benches {
-        let card = card_in(rt, bench)?;
+    for (word, bench) in benches.into_iter().enumerate() {
+        let card = card_in(rt, word, bench)?;
         // The reader holds no link yet.
         let _ = rack.insert(reader, card);
         reader += 1;
     }
     let mut source = StdSource::new(rt.clone()?);
     let mut person = Watcher::new(typing_screen(rt));
-    Ok(run_rack(&mut source, &mut rack, &mut person).into())
+    let mut notices = Watcher::of_session(notice_screen(rt), rt.stdin().is_terminal(), "");
+    Ok(run_rack(&mut source, &mut rack, &mut person, &mut notices).into())
 }
 
 // Standard error, where a person types statements, and reads what comes of them.
@@ -82,9 +75,18 @@ fn typing_screen(rt: &HostRuntime) -> Option<Stderr> {
     }
 }
 
-const USAGE: &str = "usage: rack_cli FILE {FILE}";
+// Standard error, where a person reads it.
+fn notice_screen(rt: &HostRuntime) -> Option<Stderr> {
+    if rt.stderr().is_terminal() {
+        Some(rt.stderr())
+    } else {
+        None
+    }
+}
 
 const ABOUT: About = About {
+    name: "rack_cli",
+    usage: "usage: rack_cli FILE {FILE}",
     help: HELP,
     version: "rack_cli 0.1.0",
 };

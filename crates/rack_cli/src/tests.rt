@@ -6,7 +6,7 @@ use arrayvec::ArrayVec;
 use card::{Card, SlotCard};
 use card_link::{CardLink, FailingLink, Outcome, Recorder};
 use eeprom::{FaultPlan, MemBench, Outlet, SinkFault, SteadySource};
-use person::Person;
+use person::{Nobody, Person, Presence};
 use rack_run::{RackStatus, run_rack};
 use reader_rack::Rack;
 use scql_base::StatusWord;
@@ -47,7 +47,7 @@ impl Outlet for Page {
 // A person who keeps what is shown, as far as there is room.
 #[derive(Drop)]
 struct Watching {
-    text: ArrayVec<u8, 64>,
+    text: ArrayVec<u8, 512>,
 }
 
 impl Watching {
@@ -68,6 +68,14 @@ impl Person for Watching {
     fn show(&mut self, text: &[u8]) {
         // A text that is full stays as it is.
         let _ = self.text.try_extend_from_slice(text);
+    }
+
+    fn presence(&self) -> Presence {
+        Presence::Watching
+    }
+
+    fn show_title(&mut self) {
+        self.show(b"");
     }
 }
 
@@ -173,14 +181,15 @@ fn boxed(alloc: Global, card: Telling) -> Result<Box<Telling>, AllocError>
 }
 
 // Runs lines over a rack.
-fn run_lines<O: Outlet, L: CardLink, P: Person>(
+fn run_lines<O: Outlet, L: CardLink, P: Person, N: Person>(
     alloc: Global,
     lines: &str,
     rack: &mut Rack<O, L>,
     person: &mut P,
+    notices: &mut N,
 ) -> Result<RackStatus, AllocError> {
     let mut source = SteadySource::new(Vec::from_slice(alloc, lines.as_bytes())?, 100);
-    Ok(run_rack(&mut source, rack, person))
+    Ok(run_rack(&mut source, rack, person, notices))
 }
 
 /// A table of items, a view of those at one place, and a user who may read it.
@@ -207,7 +216,9 @@ fn each_card_answers_for_itself(rt: HostRuntime) -> Result<(), Fail> {
     assert!(rt; rack.insert(1, first).is_ok());
     assert!(rt; rack.insert(2, second).is_ok());
     let mut person = Watching::new();
-    assert!(rt; run_lines(alloc, FILLING, &mut rack, &mut person)? == RackStatus::Done);
+    assert!(rt;
+        run_lines(alloc, FILLING, &mut rack, &mut person, &mut Nobody)? == RackStatus::Done
+    );
     let mut person = Watching::new();
     let lines = "PRESENT ANN
 READER 2
@@ -219,7 +230,10 @@ READER 2
 BEGIN
 EJECT 2
 ";
-    assert!(rt; run_lines(alloc, lines, &mut rack, &mut person)? == RackStatus::Refused);
+    let mut notices = Watching::new();
+    assert!(rt;
+        run_lines(alloc, lines, &mut rack, &mut person, &mut notices)? == RackStatus::Refused
+    );
     let text = rack.outlet().text.as_slice();
     assert!(rt; text.starts_with(FILLED.as_bytes()));
     assert!(rt;
@@ -227,6 +241,16 @@ EJECT 2
             == b"ok\nok\nrefused 6A88\nok\n'0040'\n'0050'\nrows 2\nok\nok\nno card\nno card\n".as_slice()
     );
     assert!(rt; person.text.as_slice() == b"1> 1> 2> 2> 1> 1> 1> 2> 2> 2> ".as_slice());
+    assert!(rt;
+        notices.text.as_slice()
+            == b"line 3: not found: no user ANN
+line 5: QTY
+line 8: this reader has no card that answers
+line 9: this reader has no card that answers
+3 of 9 lines were refused or are no statement (exit status 1).
+"
+                .as_slice()
+    );
     Ok(())
 }
 
@@ -251,7 +275,7 @@ PRESENT NOBODY
 PRESENT OWNER
 ";
     let mut person = Watching::new();
-    assert!(rt; run_lines(alloc, lines, &mut rack, &mut person)? == RackStatus::Mute);
+    assert!(rt; run_lines(alloc, lines, &mut rack, &mut person, &mut Nobody)? == RackStatus::Mute);
     assert!(rt;
         rack.outlet().text.as_slice()
             == b"ok\nok\ncard mute\nno card\nok\nok\nok\nrefused 6A88\nok\n".as_slice()

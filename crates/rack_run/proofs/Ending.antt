@@ -68,6 +68,15 @@ uncut TooLong P holds = holds
 becomes-so : {A B : Type 0} (P Q : A → B → Type 0) (old : Option A) (new : Option B) → ((a : A) (b : B) → P a b → Q a b) → Becomes P old new → Becomes Q old new
 becomes-so P Q old new weaker becomes = λ after told. let b = becomes after told in (b.0, b.1, weaker b.0 after b.2)
 
+-- What is told of lines that were handed on, and of the one in which the answerer stopped, may be less.
+read-weaker : {A E : Type 0} (P Q : A → List (Option (List ℕ)) → A → Type 0) (S T : A → Option (List ℕ) → E → A → Type 0) → ((a : A) (lines : List (Option (List ℕ))) (b : A) → P a lines b → Q a lines b)
+    → ((a : A) (line : Option (List ℕ)) (stop : E) (b : A) → S a line stop b → T a line stop b) → (end' : InputEnd E) (old new : A) (start now : Option (List ℕ)) → IsRead P S end' old new start now → IsRead Q T end' old new start now
+read-weaker P Q S T answers stops input_ends.Ended old new start now read = (read.0, answers old _ new read.1, read.2, read.3)
+read-weaker P Q S T answers stops input_ends.ReadFault old new start now read = (read.0, answers old _ new read.1, read.2, read.3)
+read-weaker P Q S T answers stops input_ends.TooLong old new start now read = (read.0, answers old _ new read.1, read.2, read.3)
+read-weaker P Q S T answers stops (input_ends.Stopped stop) old new start now read =
+    (read.0, record { mid = read.1.mid; answered = answers old _ read.1.mid read.1.answered; stopped = stops read.1.mid _ stop new read.1.stopped }, read.2, read.3)
+
 -- A run over a rack, as it is seen through what lines are handed to.
 abbrev pub seen : {A R L : Type 0} → (A → R) → (A → Tally) → (R → List (Reader L)) → (R → ℕ) → (R → Option (List ℕ)) → (R → ℕ) → A → View L
 seen rack tally readers current given sink a = record { readers = readers (rack a); current = current (rack a); given = given (rack a); sink = sink (rack a); tally = tally a }
@@ -140,11 +149,11 @@ cut-runs is_at is_live faults state octets a b c rack carries breaks =
           (here.sound number reader (λ rose. quiet (rose-later (count_at faults a.readers number) (count_at faults b.readers number) (count_at faults c.readers number) rose (breaks.cards number reader))));
     }
 
-pub read-runs : {A R L B P : Type 0} (rack : A → R) (tally : A → Tally) (readers : R → List (Reader L)) (current : R → ℕ) (given : R → Option (List ℕ)) (sink : R → ℕ) (is_at : L → Machine → Type 0) (is_live : L → Bool) (faults : L → ℕ)
+lines-runs : {A R L B P : Type 0} (rack : A → R) (tally : A → Tally) (readers : R → List (Reader L)) (current : R → ℕ) (given : R → Option (List ℕ)) (sink : R → ℕ) (is_at : L → Machine → Type 0) (is_live : L → Bool) (faults : L → ℕ)
     (lent : A → B) (person : B → P) (lost : P → Bool) (shown : P → Option (List ℕ)) (name name' : A → ℕ) (end' : InputEnd SinkFault) (old new : A) (first last : R) (start now : Option (List ℕ)) (status : RackStatus)
     → tally old ≡ nothing_yet → rack old ≡ first → last ≡ rack new → status ≡ status_at end' (tally new) → IsRead (Answers rack tally readers current given sink is_at is_live faults lent person lost shown name name') (Stops rack tally readers current given sink is_at is_live faults lent name) end' old new start now
     → Runs is_at is_live faults status start now (readers first) (current first) (readers last) (current last) (given first) (given last)
-read-runs {A} {R} {L} rack tally readers current given sink is_at is_live faults lent person lost shown name name' end' old new first last start now status fresh from to is read =
+lines-runs {A} {R} {L} rack tally readers current given sink is_at is_live faults lent person lost shown name name' end' old new first last start now status fresh from to is read =
     subst (λ (r : R). Runs is_at is_live faults status start now (readers r) (current r) (readers last) (current last) (given r) (given last)) from
     (subst (λ (r : R). Runs is_at is_live faults status start now (readers (rack old)) (current (rack old)) (readers r) (current r) (given (rack old)) (given r)) (sym to) (go end' is read)) where
       go : (e : InputEnd SinkFault) → status ≡ status_at e (tally new) → IsRead (Answers rack tally readers current given sink is_at is_live faults lent person lost shown name name') (Stops rack tally readers current given sink is_at is_live faults lent name) e old new start now
@@ -168,12 +177,12 @@ read-runs {A} {R} {L} rack tally readers current given sink is_at is_live faults
             read.1.answered.0 read.1.stopped.0;
       })
 
--- What a person was shown.
-pub read-prompts : {A R L B P : Type 0} (rack : A → R) (tally : A → Tally) (readers : R → List (Reader L)) (current : R → ℕ) (given : R → Option (List ℕ)) (sink : R → ℕ) (is_at : L → Machine → Type 0) (is_live : L → Bool) (faults : L → ℕ)
+-- What a person was shown of the prompts.
+lines-prompts : {A R L B P : Type 0} (rack : A → R) (tally : A → Tally) (readers : R → List (Reader L)) (current : R → ℕ) (given : R → Option (List ℕ)) (sink : R → ℕ) (is_at : L → Machine → Type 0) (is_live : L → Bool) (faults : L → ℕ)
     (lent : A → B) (person : B → P) (lost : P → Bool) (shown : P → Option (List ℕ)) (name name' : A → ℕ) (end' : InputEnd SinkFault) (old new : A) (before after : P) (number : ℕ) (start now : Option (List ℕ)) (status : RackStatus)
     → current (rack old) ≡ number → Shows lost shown (prompt number) before (person (lent old)) → after ≡ person (lent new) → status ≡ status_at end' (tally new) → IsRead (Answers rack tally readers current given sink is_at is_live faults lent person lost shown name name') (Stops rack tally readers current given sink is_at is_live faults lent name) end' old new start now
     → ShowsPrompts lost shown status start now number before after
-read-prompts {A} {R} {L} {B} {P} rack tally readers current given sink is_at is_live faults lent person lost shown name name' end' old new before after number start now status from prompted to is read =
+lines-prompts {A} {R} {L} {B} {P} rack tally readers current given sink is_at is_live faults lent person lost shown name name' end' old new before after number start now status from prompted to is read =
     subst (λ (p : P). ShowsPrompts lost shown status start now number before p) (sym to) (go end' is read) where
       all : (lines : List (Option (List ℕ))) (last : P) → Shows lost shown (prompts_behind (current (rack old)) lines) (person (lent old)) last → Shows lost shown (prompts number lines) before last
       all lines last behind = shows-then lost shown (prompt number) (prompts_behind number lines) before (person (lent old)) last prompted (subst (λ (n : ℕ). Shows lost shown (prompts_behind n lines) (person (lent old)) last) from behind)
@@ -196,3 +205,35 @@ read-prompts {A} {R} {L} {B} {P} rack tally readers current given sink is_at is_
             are_taken = read.3;
             shows = subst (λ (p : P). Shows lost shown (prompts number (taken_lines read.0 false)) before p) (sym (ap person read.1.stopped.1)) (all _ (person (lent read.1.mid)) read.1.answered.1);
           })
+
+-- So it is where more is told of the lines, and of the one in which the outlet failed.
+module _ {A R L B P : Type 0} (rack : A → R) (tally : A → Tally) (readers : R → List (Reader L)) (current : R → ℕ) (given : R → Option (List ℕ)) (sink : R → ℕ) (is_at : L → Machine → Type 0) (is_live : L → Bool) (faults : L → ℕ)
+    (lent : A → B) (person : B → P) (lost : P → Bool) (shown : P → Option (List ℕ)) (name name' : A → ℕ) (told : A → A → Type 0) where
+  abbrev pub Reads : InputEnd SinkFault → A → A → Option (List ℕ) → Option (List ℕ) → Type 0
+  Reads =
+      IsRead (λ (a : A) (lines : List (Option (List ℕ))) (b : A). Answers rack tally readers current given sink is_at is_live faults lent person lost shown name name' a lines b × told a b)
+      (λ (a : A) (line : Option (List ℕ)) (stop : SinkFault) (b : A). Stops rack tally readers current given sink is_at is_live faults lent name a line stop b × told a b)
+
+  weaker : (end' : InputEnd SinkFault) (old new : A) (start now : Option (List ℕ)) → Reads end' old new start now
+      → IsRead (Answers rack tally readers current given sink is_at is_live faults lent person lost shown name name') (Stops rack tally readers current given sink is_at is_live faults lent name) end' old new start now
+  weaker end' old new start now read = read-weaker (λ (a : A) (lines : List (Option (List ℕ))) (b : A). Answers rack tally readers current given sink is_at is_live faults lent person lost shown name name' a lines b × told a b) (Answers rack tally readers current given sink is_at is_live faults lent person lost shown name name')
+      (λ (a : A) (line : Option (List ℕ)) (stop : SinkFault) (b : A). Stops rack tally readers current given sink is_at is_live faults lent name a line stop b × told a b) (Stops rack tally readers current given sink is_at is_live faults lent name)
+      (λ a lines b both. both.0) (λ a line stop b both. both.0) end' old new start now read
+
+  pub read-runs : (end' : InputEnd SinkFault) (old new : A) (first last : R) (start now : Option (List ℕ)) (status : RackStatus)
+      → tally old ≡ nothing_yet → rack old ≡ first → last ≡ rack new → status ≡ status_at end' (tally new) → Reads end' old new start now
+      → Runs is_at is_live faults status start now (readers first) (current first) (readers last) (current last) (given first) (given last)
+  read-runs end' old new first last start now status fresh from to is read =
+      lines-runs rack tally readers current given sink is_at is_live faults lent person lost shown name name' end' old new first last start now status fresh from to is (weaker end' old new start now read)
+
+  pub read-prompts : (end' : InputEnd SinkFault) (old new : A) (before after : P) (number : ℕ) (start now : Option (List ℕ)) (status : RackStatus)
+      → current (rack old) ≡ number → Shows lost shown (prompt number) before (person (lent old)) → after ≡ person (lent new) → status ≡ status_at end' (tally new) → Reads end' old new start now
+      → ShowsPrompts lost shown status start now number before after
+  read-prompts end' old new before after number start now status from prompted to is read =
+      lines-prompts rack tally readers current given sink is_at is_live faults lent person lost shown name name' end' old new before after number start now status from prompted to is (weaker end' old new start now read)
+
+  pub read-told : ((a b c : A) → told a b → told b c → told a c) → (end' : InputEnd SinkFault) (old new : A) (start now : Option (List ℕ)) → Reads end' old new start now → told old new
+  read-told follow input_ends.Ended old new start now read = read.1.1
+  read-told follow input_ends.ReadFault old new start now read = read.1.1
+  read-told follow input_ends.TooLong old new start now read = read.1.1
+  read-told follow (input_ends.Stopped stop) old new start now read = follow old read.1.mid new read.1.answered.1 read.1.stopped.1

@@ -1,6 +1,6 @@
 -- What is told of a line, as a run goes on behind it.
 use Rattle.std.proofs.Common.{◌≡◌, ◌≢◌, inl, inr, ℕ, ◌≤◌, ◌==◌, ◌&&◌, Bool, true, false, List, [], ◌∷◌, Option, Some, None, Result, Ok, Err, refl, sym, ap, subst, ◌∙◌, arith, append-nil, if◌then◌else◌}
-use Rattle.std.specs.Prelude.{◌||◌, IfErr, IsErr, IsSomeAnd, is_none}
+use Rattle.std.specs.Prelude.{◌||◌, IfErr, IsErr, IsSomeAnd, is_none, is_some}
 use Rattle.person.specs.Showing.{Shows}
 use Rattle.rack_run.specs.Prompts.{prompt, prompts_behind}
 use Rattle.std.specs.Option.{option_map_or}
@@ -14,6 +14,7 @@ use Rattle.script.specs.Tokens.{after_blanks}
 use Rattle.terminal.specs.Holding.{Holding}
 use Rattle.reader_rack.specs.declared.rack_end.RackEnd.{RackEnd}
 use Rattle.reader_rack.specs.declared.rack_end.RackEnd.TheVariants as ends
+use Rattle.reader_rack.specs.declared.rack_refusal.RackRefusal.TheVariants.{NoCard}
 use Rattle.reader_rack.specs.declared.reader.Reader.{Reader}
 use Rattle.reader_rack.specs.declared.statement.RackStatement.{RackStatement}
 use Rattle.reader_rack.specs.declared.statement.RackStatement.TheVariants.{Select, Eject}
@@ -43,18 +44,18 @@ by-reader P current here others n = go (n == current) refl where
 -- no device failed
 abbrev IsSound : RackEnd → Type 0
 IsSound ends.Answered = Unit {0}
-IsSound ends.Refused = Unit {0}
+IsSound (ends.Refused why) = Unit {0}
 IsSound end' = ⊥
 
 works-of : (end' : RackEnd) (live live' : Bool) (faults faults' sink sink' : ℕ) → IsSound end' → EndsBy end' live live' faults faults' sink sink' → Works live live' faults faults' sink sink'
 works-of ends.Answered live live' faults faults' sink sink' sound works = works
-works-of ends.Refused live live' faults faults' sink sink' sound works = works
+works-of (ends.Refused why) live live' faults faults' sink sink' sound works = works
 works-of ends.Mute live live' faults faults' sink sink' sound works = absurd sound
 works-of ends.SinkFault live live' faults faults' sink sink' sound works = absurd sound
 
 printed-of : (end' : RackEnd) (sink sink' : ℕ) → IsSound end' → IsPrintedBy end' sink sink' → sink' ≡ sink
 printed-of ends.Answered sink sink' sound same = same
-printed-of ends.Refused sink sink' sound same = same
+printed-of (ends.Refused why) sink sink' sound same = same
 printed-of ends.Mute sink sink' sound same = absurd sound
 printed-of ends.SinkFault sink sink' sound same = absurd sound
 
@@ -180,7 +181,7 @@ not-for number state (Some line) other = and-false (is_none (rack_statement line
 
 -- Effects.
 
-unheard-muted : (asks_nothing : Bool) (held : Held) (text : List ℕ) → (if asks_nothing then says [] false held else says text true held).muted ≡ false
+unheard-muted : (asks_nothing : Bool) (held : Held) (text : List ℕ) → (if asks_nothing then says [] None held else says text (Some NoCard) held).muted ≡ false
 unheard-muted true held text = refl
 unheard-muted false held text = refl
 
@@ -204,18 +205,18 @@ sound-muted : (state : RackState) (line : Option (List ℕ)) → (rack_effect st
 sound-muted state None = refl
 sound-muted state (Some line) = taken-muted state (rack_statement line) line
 
-asked-refused : (held : Held) (line : List ℕ) (rows : ℕ) → (asked held line (Some rows)).muted ≡ true → (asked held line (Some rows)).refused ≡ false
+asked-refused : (held : Held) (line : List ℕ) (rows : ℕ) → (asked held line (Some rows)).muted ≡ true → (asked held line (Some rows)).refusal ≡ None
 asked-refused nothing line rows muted = absurd cc (unheard-muted (is_nothing (after_blanks line)) nothing _, muted)
 asked-refused mute line rows muted = absurd cc (unheard-muted (is_nothing (after_blanks line)) mute _, muted)
 asked-refused (sits state) line rows muted = refl
 
-taken-refused : (state : RackState) (statement : Option RackStatement) (line : List ℕ) (rows : ℕ) → (taken state statement line (Some rows)).muted ≡ true → (taken state statement line (Some rows)).refused ≡ false
+taken-refused : (state : RackState) (statement : Option RackStatement) (line : List ℕ) (rows : ℕ) → (taken state statement line (Some rows)).muted ≡ true → (taken state statement line (Some rows)).refusal ≡ None
 taken-refused state (Some (Select m)) line rows muted = absurd cc
 taken-refused state (Some (Eject m)) line rows muted = absurd cc (ejected-muted (state.reader m), muted)
 taken-refused state None line rows muted = asked-refused (state.reader state.current) line rows muted
 
 -- a line in which a card went mute is none that was refused
-mute-refused : (state : RackState) (line : Option (List ℕ)) (rows : ℕ) → (rack_effect state line (Some rows)).muted ≡ true → (rack_effect state line (Some rows)).refused ≡ false
+mute-refused : (state : RackState) (line : Option (List ℕ)) (rows : ℕ) → (rack_effect state line (Some rows)).muted ≡ true → (rack_effect state line (Some rows)).refusal ≡ None
 mute-refused state None rows muted = absurd cc
 mute-refused state (Some line) rows muted = taken-refused state (rack_statement line) line rows muted
 
@@ -234,7 +235,7 @@ or-true false false is = absurd cc
 -- a line in which no device failed
 sound-carried : {L : Type 0} (is_at : L → Machine → Type 0) (is_live : L → Bool) (faults : L → ℕ) (line : Option (List ℕ)) (end' : RackEnd) (old new : View L) → IsSound end'
     → ((state : RackState) → IsRack is_at is_live old.readers old.current state → (turned : RackEffect RackState) → turned ≡ rack_effect state line None
-    → IsRack is_at is_live new.readers new.current turned.next × Prints turned.text old.given new.given × (new.tally.refused ≡ (old.tally.refused || (turned.refused || false))))
+    → IsRack is_at is_live new.readers new.current turned.next × Prints turned.text old.given new.given × (new.tally.refused ≡ (old.tally.refused || (is_some turned.refusal || false))))
     → Does is_live faults line end' old.readers old.current new.readers new.current old.sink new.sink → new.tally.muted ≡ old.tally.muted → CarriesOut is_at is_live faults old (line ∷ []) new
 sound-carried {L} is_at is_live faults line end' old new sound done does muted =
     let quiet = line-quiet is_live faults line end' old.readers old.current new.readers old.sink new.sink sound does.readers in
@@ -266,16 +267,16 @@ line-carried {L} is_at is_live faults line ends.Answered old new reader went don
     let ended = done state rack in (
       subst (λ (e : RackEffect RackState). IsRack is_at is_live new.readers new.current e.next) (sym is) ended.0.there,
       subst (λ (e : RackEffect RackState). Prints e.text old.given new.given) (sym is) ended.0.text,
-      ap (λ (t : Tally). t.refused) tally ∙ or-false old.tally.refused turned.refused (ap (λ (e : RackEffect RackState). e.refused) is ∙ ended.1),
+      ap (λ (t : Tally). t.refused) tally ∙ or-false old.tally.refused (is_some turned.refusal) (ap is_some (ap (λ (e : RackEffect RackState). e.refusal) is ∙ ended.1)),
     ))
     does (ap (λ (t : Tally). t.muted) tally)
-line-carried {L} is_at is_live faults line ends.Refused old new reader went done does tally =
-    sound-carried is_at is_live faults line ends.Refused old new tt
+line-carried {L} is_at is_live faults line (ends.Refused why) old new reader went done does tally =
+    sound-carried is_at is_live faults line (ends.Refused why) old new tt
     (λ state rack turned is.
     let ended = done state rack in (
       subst (λ (e : RackEffect RackState). IsRack is_at is_live new.readers new.current e.next) (sym is) ended.0.there,
       subst (λ (e : RackEffect RackState). Prints e.text old.given new.given) (sym is) ended.0.text,
-      ap (λ (t : Tally). t.refused) tally ∙ or-true old.tally.refused turned.refused (ap (λ (e : RackEffect RackState). e.refused) is ∙ ended.1),
+      ap (λ (t : Tally). t.refused) tally ∙ or-true old.tally.refused (is_some turned.refusal) (ap is_some (ap (λ (e : RackEffect RackState). e.refusal) is ∙ ended.1)),
     ))
     does (ap (λ (t : Tally). t.muted) tally)
 line-carried {L} is_at is_live faults line ends.Mute old new reader went done does tally =
@@ -291,7 +292,7 @@ line-carried {L} is_at is_live faults line ends.Mute old new reader went done do
             of_lines = refl;
             at = ended.1.there;
             text = subst (λ (t : List ℕ). Prints t old.given new.given) (sym (append-nil (rack_effect state line (Some ended.0)).text)) ended.1.text;
-            refused = ap (λ (t : Tally). t.refused) tally ∙ or-false old.tally.refused (rack_effect state line (Some ended.0)).refused (mute-refused state line ended.0 ended.2);
+            refused = ap (λ (t : Tally). t.refused) tally ∙ or-false old.tally.refused (is_some (rack_effect state line (Some ended.0)).refusal) (ap is_some (mute-refused state line ended.0 ended.2));
             muted = ap (λ (t : Tally). t.muted) tally ∙ or-true old.tally.muted (rack_effect state line (Some ended.0)).muted ended.2;
             asides = λ n is_reader. line-aside is_at is_live faults line ends.Mute old.readers old.current new.readers old.sink new.sink state (Some ended.0) n is_reader rack does.readers;
             sound = λ n is_reader still. sound-others (ejects n line) (is_for n state line) (record { turn = record { line = line; fails = Some ended.0 }; text = (rack_effect state line (Some ended.0)).text })

@@ -1,5 +1,6 @@
 pub mod Carrying
 pub mod Prompts
+pub mod RackGrammar
 pub mod Runs
 pub mod Status
 pub mod Turns

@@ -18,7 +18,7 @@ nothing_yet = record { refused = false; muted = false }
 -- another line ended so
 abbrev pub with_end : RackEnd → Tally → Tally
 with_end ends.Answered tally = tally
-with_end ends.Refused tally = record { refused = true; muted = tally.muted }
+with_end (ends.Refused why) tally = record { refused = true; muted = tally.muted }
 with_end ends.Mute tally = record { refused = tally.refused; muted = true }
 with_end ends.SinkFault tally = tally
 

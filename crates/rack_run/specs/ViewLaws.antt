@@ -1,6 +1,6 @@
 -- Lemmas, in specs/ since the ghost members of a run cite them: no line leaves a run as it is, and lines and then others are carried out as all of them.
 use Rattle.std.proofs.Common.{◌≡◌, inl, inr, ℕ, ◌≤◌, Bool, true, false, List, [], ◌∷◌, ◌++◌, Option, Some, None, refl, sym, ap, subst, ◌∙◌, arith, append_assoc, if◌then◌else◌}
-use Rattle.std.specs.Prelude.{map, ◌||◌}
+use Rattle.std.specs.Prelude.{map, is_some, ◌||◌}
 use Rattle.std.proofs.lemmas.List.Elements.{All-cons, All-head, All-nil, All-tail}
 use Rattle.eeprom.specs.Fault.{Rose}
 use Rattle.eeprom.specs.Output.{Prints}
@@ -73,8 +73,8 @@ or_assoc false b c = refl
 was_refused-append : (first second : List Turn) (rack : RackState) → was_refused rack (first ++ second) ≡ (was_refused rack first || was_refused (rack_after rack first) second)
 was_refused-append [] second rack = refl
 was_refused-append (turn ∷ first) second rack =
-    ap (λ (b : Bool). (turn_effect rack turn).refused || b) (was_refused-append first second (turn_effect rack turn).next)
-    ∙ sym (or_assoc (turn_effect rack turn).refused (was_refused (turn_effect rack turn).next first) (was_refused (rack_after (turn_effect rack turn).next first) second))
+    ap (λ (b : Bool). is_some (turn_effect rack turn).refusal || b) (was_refused-append first second (turn_effect rack turn).next)
+    ∙ sym (or_assoc (is_some (turn_effect rack turn).refusal) (was_refused (turn_effect rack turn).next first) (was_refused (rack_after (turn_effect rack turn).next first) second))
 
 was_muted-append : (first second : List Turn) (rack : RackState) → was_muted rack (first ++ second) ≡ (was_muted rack first || was_muted (rack_after rack first) second)
 was_muted-append [] second rack = refl

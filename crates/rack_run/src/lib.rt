@@ -4,9 +4,11 @@
 mod answering;
 mod line_rack;
 mod prompt;
+mod rack_lines;
 mod run;
 mod status;
 mod tally;
+mod why;
 
 pub use run::run_rack;
 pub use status::RackStatus;

@@ -30,7 +30,7 @@ impl Tally {
     {
         match end {
             RackEnd::Answered => {}
-            RackEnd::Refused => self.refused = true,
+            RackEnd::Refused { .. } => self.refused = true,
             RackEnd::Mute => self.muted = true,
             RackEnd::SinkFault => return Err(SinkFault),
         }

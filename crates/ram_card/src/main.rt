@@ -11,28 +11,20 @@ mod ram;
 use card_run::run_card;
 use file_bench::StdSource;
 use person::Watcher;
-use program::{About, Ending, Status, command_line, end_program};
+use program::{About, Ending, ProgramEnd, Status, run_program};
 use ram::RamBench;
 use std::io::Stderr;
 use std::process::ExitCode;
 
 fn main(rt: HostRuntime) -> ExitCode {
-    let ending = match answer(&rt) {
-        Ok(status) => Ending::Run(status),
-        Err(ending) => ending,
-    };
-    end_program(&rt, ending, USAGE)
+    run_program(&rt, ABOUT, run_words)
 }
 
-fn answer(rt: &HostRuntime) -> Result<Status, Ending> {
-    let words = command_line(rt)?;
-    if let Some(status) = ABOUT.answer(rt, &words) {
-        return Ok(status);
-    }
+fn run_words(rt: &HostRuntime, words: &[String]) -> ProgramEnd {
     if words.is_empty() {
-        run_in_memory(rt)
+        ProgramEnd::of_run(run_in_memory(rt).map_err(ProgramEnd::from))
     } else {
-        Ok(Status::Usage)
+        ProgramEnd::from(Ending::Run(Status::Usage))
     }
 }
 
@@ -52,9 +44,9 @@ fn run_in_memory(rt: &HostRuntime) -> Result<Status, Ending>
     Ok(run_card(rt.alloc(), &words, &mut source, &mut bench, &mut nobody))
 }
 
-const USAGE: &str = "usage: ram_card";
-
 const ABOUT: About = About {
+    name: "ram_card",
+    usage: "usage: ram_card",
     help: HELP,
     version: "ram_card 0.1.0",
 };

@@ -1,7 +1,7 @@
 -- A line at a desk is one at a reader.
 use Rattle.std.proofs.Common.{◌≡◌, ℕ, ◌≤◌, Bool, true, false, List, ◌++◌, length, map, take, Option, Some, None, codes, refl, sym, ◌∙◌, ap, subst, append_assoc, inl, inr}
 use Rattle.std.specs.List.{concat}
-use Rattle.std.specs.Prelude.{Result}
+use Rattle.std.specs.Prelude.{IsTrue, Result, option_map}
 use Rattle.std.specs.Option.{option_map_or}
 use Rattle.std.proofs.lemmas.Bool.{false≢true}
 use Rattle.std.proofs.Math.Seq.{take-append_seam}
@@ -16,32 +16,34 @@ use Rattle.planner.specs.StatementLines.{TerminalState, read_effect, statement_l
 use Rattle.planner.specs.Text.{row_text}
 use Rattle.terminal.specs.declared.line_end.LineEnd.{LineEnd}
 use Rattle.terminal.specs.declared.line_end.LineEnd.TheVariants as line_ends
+use Rattle.terminal.specs.declared.refusal.Refusal.{Refusal}
 use Rattle.terminal.specs.Holding.{Holding, Knows, Sits, terminal_at}
-use Rattle.terminal.specs.Line.{EndsSo, refuses, rows_in}
+use Rattle.terminal.specs.Line.{EndsSo, refusal_in, rows_in}
 use Rattle.terminal.proofs.Ended.{line-is}
 use Rattle.terminal.proofs.Went.{prints-both}
 use Rattle.reader_rack.specs.declared.rack_end.RackEnd.{RackEnd}
 use Rattle.reader_rack.specs.declared.reader.Reader.{Reader}
 use Rattle.reader_rack.specs.declared.rack_end.RackEnd.TheVariants as ends
+use Rattle.reader_rack.specs.declared.rack_refusal.RackRefusal.TheVariants.{Line}
 use Rattle.reader_rack.specs.RackText.{Held, nothing, mute, sits, RackEffect, asked, heard, unheard}
 use Rattle.reader_rack.specs.Readers.{EndsEffect, Holds, IsHeld, IsSaidOrCut, answers}
 
 -- a line of a terminal that sits with a link ends so, over the link and an outlet
 abbrev pub EndsLine : {L O : Type 0} → (L → Machine → Type 0) → (O → Option (List ℕ)) → TerminalState → Result Statement ScriptFault → Holding → LineEnd → L × O → L × O → Type 0
 EndsLine {L} {O} is_at given state read holding end' old new =
-    EndsSo (λ (p : L × O) (m : Machine). is_at p.0 m) (λ (p : L × O). given p.1) state.machine (read_effect state read) (rows_in state read) (refuses state read) holding end' old new
+    EndsSo (λ (p : L × O) (m : Machine). is_at p.0 m) (λ (p : L × O). given p.1) state.machine (read_effect state read) (rows_in state read) (refusal_in state read) holding end' old new
 
 pub sits-line : {L O : Type 0} (is_at : L → Machine → Type 0) (given : O → Option (List ℕ)) (state : TerminalState) (holding holding' : Holding) (line : List ℕ) (end' : LineEnd) (old new : L × O)
     → Sits is_at state holding old.0 → length line ≤ longest_line
     → ((m : Machine) → is_at old.0 m → Knows holding.transaction m
     → EndsSo (λ (p : L × O) (m : Machine). is_at p.0 m) (λ (p : L × O). given p.1) m (line_effect statement_lines (terminal_at m holding.channel) line) (rows_in (terminal_at m holding.channel) (statement_of line))
-    (refuses (terminal_at m holding.channel) (statement_of line)) holding' end' old new)
+    (refusal_in (terminal_at m holding.channel) (statement_of line)) holding' end' old new)
     → EndsLine is_at given state (statement_of line) holding' end' old new
 sits-line {L} {O} is_at given state holding holding' line end' old new there short ends =
-    subst (λ (does : Effect TerminalState). EndsSo (λ (p : L × O) (m : Machine). is_at p.0 m) (λ (p : L × O). given p.1) state.machine does (rows_in state (statement_of line)) (refuses state (statement_of line)) holding' end' old new)
+    subst (λ (does : Effect TerminalState). EndsSo (λ (p : L × O) (m : Machine). is_at p.0 m) (λ (p : L × O). given p.1) state.machine does (rows_in state (statement_of line)) (refusal_in state (statement_of line)) holding' end' old new)
     (line-is state line short)
     (subst (λ (channel : ℕ). EndsSo (λ (p : L × O) (m : Machine). is_at p.0 m) (λ (p : L × O). given p.1) state.machine (line_effect statement_lines (terminal_at state.machine channel) line) (rows_in (terminal_at state.machine channel) (statement_of line))
-    (refuses (terminal_at state.machine channel) (statement_of line)) holding' end' old new)
+    (refusal_in (terminal_at state.machine channel) (statement_of line)) holding' end' old new)
     there.channel (ends state.machine there.at there.knows))
 
 -- where the card goes mute, some of its rows were printed, and then it is said
@@ -75,14 +77,24 @@ ends-mute is_at is_live given state read holding end' old mid text result now si
         },
       )
 
+-- where the line is refused, it is for that reason
+pub ends-refused : {L O : Type 0} (is_at : L → Machine → Type 0) (is_live : L → Bool) (given : O → Option (List ℕ)) (state : TerminalState) (read : Result Statement ScriptFault) (holding : Holding) (why : Refusal) (end' : LineEnd) (old new : L × O)
+    → end' ≡ line_ends.Refused why → IsTrue (is_live new.0) → EndsLine is_at given state read holding end' old new
+    → EndsEffect (IsHeld is_at is_live (Some new.0) holding) (heard state read) (ends.Refused (Line why)) (given old.1) (given new.1)
+ends-refused is_at is_live given state read holding why end' old new is live ended =
+    let done = subst (λ (e : LineEnd). EndsLine is_at given state read holding e old new) is ended in (
+      record { there = (live, record { at = done.0.sits.at; channel = done.0.sits.channel; knows = done.0.sits.knows }); text = done.0.text },
+      ap (option_map Line) done.1,
+    )
+
 -- what was done to one thing was done to another that becomes so with it
 abbrev pub mapped : {S T : Type 0} → (S → T) → RackEffect S → RackEffect T
-mapped next does = record { text = does.text; next = next does.next; refused = does.refused; muted = does.muted }
+mapped next does = record { text = does.text; next = next does.next; refusal = does.refusal; muted = does.muted }
 
 pub ends-mapped : {S T : Type 0} (at : S → Type 0) (at' : T → Type 0) (next : S → T) (effect : Option ℕ → RackEffect S) (end' : RackEnd) (given now : Option (List ℕ))
     → ((x : S) → at x → at' (next x)) → EndsEffect at effect end' given now → EndsEffect at' (λ (fails : Option ℕ). mapped next (effect fails)) end' given now
 ends-mapped at at' next effect ends.Answered given now over done = (record { there = over _ done.0.there; text = done.0.text }, done.1)
-ends-mapped at at' next effect ends.Refused given now over done = (record { there = over _ done.0.there; text = done.0.text }, done.1)
+ends-mapped at at' next effect (ends.Refused why) given now over done = (record { there = over _ done.0.there; text = done.0.text }, done.1)
 ends-mapped at at' next effect ends.Mute given now over done = (done.0, record { there = over _ done.1.there; text = done.1.text }, done.2)
 ends-mapped at at' next effect ends.SinkFault given now over done = done
 

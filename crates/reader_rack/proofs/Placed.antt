@@ -10,6 +10,8 @@ use Rattle.terminal.specs.Failing.{IsStart}
 use Rattle.terminal.specs.Holding.{Holding, terminal_at}
 use Rattle.reader_rack.specs.declared.rack_end.RackEnd.{RackEnd}
 use Rattle.reader_rack.specs.declared.rack_end.RackEnd.TheVariants as ends
+use Rattle.reader_rack.specs.declared.rack_refusal.RackRefusal.{RackRefusal}
+use Rattle.reader_rack.specs.declared.rack_refusal.RackRefusal.TheVariants.{NoCard}
 use Rattle.reader_rack.specs.declared.reader.Reader.{Reader}
 use Rattle.reader_rack.specs.RackText.{Held, nothing, mute, sits, RackEffect, RackState, asked, ejected, rack_effect, stated, taken, to_reader, with_reader}
 use Rattle.reader_rack.specs.Racks.{Asks, IsRack, IsSetAside, OthersStay, answers_at, count_at, holds_at, is_held, link_at, reader_at}
@@ -159,29 +161,29 @@ eject-counts {L} faults readers place d new within is n = go (n - 1 == place) re
 
 -- what is said of a link that is set aside, or isn't there
 
-abbrev EndsWith : RackEnd → Bool → Type 0
-EndsWith ends.Answered refused = refused ≡ false
-EndsWith ends.Refused refused = refused ≡ true
-EndsWith ends.Mute refused = ⊥
-EndsWith ends.SinkFault refused = ⊥
+abbrev EndsWith : RackEnd → Option RackRefusal → Type 0
+EndsWith ends.Answered refusal = refusal ≡ None
+EndsWith (ends.Refused why) refusal = refusal ≡ Some why
+EndsWith ends.Mute refusal = ⊥
+EndsWith ends.SinkFault refusal = ⊥
 
 said-so : {S : Type 0} (at : S → Type 0) (does : RackEffect S) (text : List ℕ) (end' result : RackEnd) (given now : Option (List ℕ)) (sink sink' : ℕ) → at does.next → does.text ≡ text
-    → EndsWith end' does.refused → IsSaidOrCut text end' result given now sink sink' → EndsEffect at (λ (fails : Option ℕ). does) result given now
-said-so at does text ends.Answered result given now sink sink' there is refused (inl said) =
-    subst (λ (r : RackEnd). EndsEffect at (λ (fails : Option ℕ). does) r given now) (sym said.ends) (record { there = there; text = subst (λ (t : List ℕ). Prints t given now) (sym is) said.printed }, refused)
-said-so at does text ends.Refused result given now sink sink' there is refused (inl said) =
-    subst (λ (r : RackEnd). EndsEffect at (λ (fails : Option ℕ). does) r given now) (sym said.ends) (record { there = there; text = subst (λ (t : List ℕ). Prints t given now) (sym is) said.printed }, refused)
-said-so at does text ends.Mute result given now sink sink' there is refused (inl said) = absurd refused
-said-so at does text ends.SinkFault result given now sink sink' there is refused (inl said) = absurd refused
-said-so at does text end' result given now sink sink' there is refused (inr cut) =
+    → EndsWith end' does.refusal → IsSaidOrCut text end' result given now sink sink' → EndsEffect at (λ (fails : Option ℕ). does) result given now
+said-so at does text ends.Answered result given now sink sink' there is refusal (inl said) =
+    subst (λ (r : RackEnd). EndsEffect at (λ (fails : Option ℕ). does) r given now) (sym said.ends) (record { there = there; text = subst (λ (t : List ℕ). Prints t given now) (sym is) said.printed }, refusal)
+said-so at does text (ends.Refused why) result given now sink sink' there is refusal (inl said) =
+    subst (λ (r : RackEnd). EndsEffect at (λ (fails : Option ℕ). does) r given now) (sym said.ends) (record { there = there; text = subst (λ (t : List ℕ). Prints t given now) (sym is) said.printed }, refusal)
+said-so at does text ends.Mute result given now sink sink' there is refusal (inl said) = absurd refusal
+said-so at does text ends.SinkFault result given now sink sink' there is refusal (inl said) = absurd refusal
+said-so at does text end' result given now sink sink' there is refusal (inr cut) =
     subst (λ (r : RackEnd). EndsEffect at (λ (fails : Option ℕ). does) r given now) (sym cut.ends) (None, subst (λ (t : List ℕ). IsStart t given now) (sym is) cut.start)
 
-eject-ok : (held : Held) → is_held held ≡ true → ((ejected held).text ≡ codes "ok\n") × ((ejected held).refused ≡ false)
+eject-ok : (held : Held) → is_held held ≡ true → ((ejected held).text ≡ codes "ok\n") × ((ejected held).refusal ≡ None)
 eject-ok nothing is = absurd cc
 eject-ok mute is = (refl, refl)
 eject-ok (sits state) is = (refl, refl)
 
-eject-none : (held : Held) → is_held held ≡ false → ((ejected held).text ≡ codes "no card\n") × ((ejected held).refused ≡ true)
+eject-none : (held : Held) → is_held held ≡ false → ((ejected held).text ≡ codes "no card\n") × ((ejected held).refusal ≡ Some NoCard)
 eject-none nothing is = (refl, refl)
 eject-none mute is = absurd cc
 eject-none (sits state) is = absurd cc
@@ -195,12 +197,12 @@ ejected-ok at state number statement found result given given' now sink sink' is
     (said-so at (to_reader state number (ejected (state.reader number))) (codes "ok\n") ends.Answered result given now sink sink' ejects.1 ok.0 ok.1 (subst (λ (g : Option (List ℕ)). IsSaidOrCut (codes "ok\n") ends.Answered result g now sink sink') same said))
 
 pub ejected-none : (at : RackState → Type 0) (state : RackState) (number : ℕ) (statement : RackStatement) (found : Bool) (result : RackEnd) (given given' now : Option (List ℕ)) (sink sink' : ℕ) → statement ≡ Eject number → found ≡ false
-    → (found ≡ is_held (state.reader number)) × at (with_reader state number (ejected (state.reader number)).next) → given' ≡ given → IsSaidOrCut (codes "no card\n") ends.Refused result given' now sink sink'
+    → (found ≡ is_held (state.reader number)) × at (with_reader state number (ejected (state.reader number)).next) → given' ≡ given → IsSaidOrCut (codes "no card\n") (ends.Refused NoCard) result given' now sink sink'
     → EndsEffect at (λ (fails : Option ℕ). stated state statement) result given now
 ejected-none at state number statement found result given given' now sink sink' is held ejects same said =
     let none = eject-none (state.reader number) (sym ejects.0 ∙ held) in
     subst (λ (s : RackStatement). EndsEffect at (λ (fails : Option ℕ). stated state s) result given now) (sym is)
-    (said-so at (to_reader state number (ejected (state.reader number))) (codes "no card\n") ends.Refused result given now sink sink' ejects.1 none.0 none.1 (subst (λ (g : Option (List ℕ)). IsSaidOrCut (codes "no card\n") ends.Refused result g now sink sink') same said))
+    (said-so at (to_reader state number (ejected (state.reader number))) (codes "no card\n") (ends.Refused NoCard) result given now sink sink' ejects.1 none.0 none.1 (subst (λ (g : Option (List ℕ)). IsSaidOrCut (codes "no card\n") (ends.Refused NoCard) result g now sink sink') same said))
 
 -- What a line does is what is done to it as the rack's own statement, or as any other line.
 pub taken-ends : (at : RackState → Type 0) (rack : RackState) (line : List ℕ) (statement : Option RackStatement) (result : RackEnd) (given now : Option (List ℕ)) → rack_statement line ≡ statement

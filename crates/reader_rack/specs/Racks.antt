@@ -55,7 +55,7 @@ pub record Asks {L : Type 0} (is_live : L → Bool) (faults : L → ℕ) (number
 -- the outlet failed where the end says so, and no card did
 abbrev pub IsPrintedBy : RackEnd → ℕ → ℕ → Type 0
 IsPrintedBy ends.Answered sink sink' = sink' ≡ sink
-IsPrintedBy ends.Refused sink sink' = sink' ≡ sink
+IsPrintedBy (ends.Refused why) sink sink' = sink' ≡ sink
 IsPrintedBy ends.Mute sink sink' = ⊥
 IsPrintedBy ends.SinkFault sink sink' = Rose sink sink' × (sink ≤ sink')
 

@@ -57,8 +57,8 @@ pub record IsDone {S : Type 0} (at : S → Type 0) (does : RackEffect S) (given 
 
 -- How a line ends that does this, by the number of rows behind which a card goes mute in it, if it does. Where the outlet fails, the start of the text was printed.
 abbrev pub EndsEffect : {S : Type 0} → (S → Type 0) → (Option ℕ → RackEffect S) → RackEnd → Option (List ℕ) → Option (List ℕ) → Type 0
-EndsEffect at effect ends.Answered given now = IsDone at (effect None) given now × ((effect None).refused ≡ false)
-EndsEffect at effect ends.Refused given now = IsDone at (effect None) given now × ((effect None).refused ≡ true)
+EndsEffect at effect ends.Answered given now = IsDone at (effect None) given now × ((effect None).refusal ≡ None)
+EndsEffect at effect (ends.Refused why) given now = IsDone at (effect None) given now × ((effect None).refusal ≡ Some why)
 EndsEffect at effect ends.Mute given now = (rows : ℕ) × IsDone at (effect (Some rows)) given now × ((effect (Some rows)).muted ≡ true)
 EndsEffect at effect ends.SinkFault given now = (fails : Option ℕ) × IsStart (effect fails).text given now
 
@@ -85,7 +85,7 @@ pub record Breaks (live live' : Bool) (faults faults' sink sink' : ℕ) : Type 0
 -- why a line ends so, by whether the card answers, how often it failed, and how often the outlet did, before and after
 abbrev pub EndsBy : RackEnd → (live live' : Bool) → (faults faults' sink sink' : ℕ) → Type 0
 EndsBy ends.Answered live live' faults faults' sink sink' = Works live live' faults faults' sink sink'
-EndsBy ends.Refused live live' faults faults' sink sink' = Works live live' faults faults' sink sink'
+EndsBy (ends.Refused why) live live' faults faults' sink sink' = Works live live' faults faults' sink sink'
 EndsBy ends.Mute live live' faults faults' sink sink' = Fails live' faults faults' sink sink'
 EndsBy ends.SinkFault live live' faults faults' sink sink' = Breaks live live' faults faults' sink sink'
 

@@ -7,6 +7,7 @@ mod laws;
 mod number;
 mod rack;
 mod rack_end;
+mod rack_refusal;
 mod reader;
 mod statement;
 
@@ -14,6 +15,7 @@ pub use boxed::BoxedLink;
 pub use laws::own_lines_are_a_terminals;
 pub use rack::Rack;
 pub use rack_end::RackEnd;
+pub use rack_refusal::RackRefusal;
 pub use statement::{RackStatement, rack_statement};
 
 #[cfg(test)]

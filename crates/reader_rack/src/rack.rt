@@ -17,14 +17,15 @@ ghost use Rattle.reader_rack.specs.Readers.{EndsEffect, empty, lending, with_lin
 ghost use Rattle.reader_rack.specs.Statements as statements;
 ghost use Rattle.reader_rack.specs.Statements.{IsReader, names_reader, selected};
 
-use crate::RackEnd;
 use crate::boxed::BoxedLink;
 use crate::number::ReaderNumber;
-use crate::reader::{Reader, say};
+use crate::reader::{Reader, say, say_no_card};
 use crate::statement::{RackStatement, rack_statement};
+use crate::{RackEnd, RackRefusal};
 use apdu::Reply;
 use card_link::{CardLink, Outcome};
 use eeprom::{Outlet, SinkFault};
+use terminal::Refusal;
 
 /// How many readers a rack has.
 const READERS: usize = 4;
@@ -136,7 +137,15 @@ impl<O: Outlet, L: CardLink> Rack<O, L> {
         ensures printed { IsPrintedBy result (O.sink_faults self.old.outlet) (O.sink_faults self.new.outlet) }
         ensures readers { (self.new.readers ≡ self.old.readers) × (self.new.current ≡ self.old.current) }
     {
-        say(&mut self.outlet, b"error line too long\n", RackEnd::Refused)
+        say(
+            &mut self.outlet,
+            b"error line too long\n",
+            RackEnd::Refused {
+                why: RackRefusal::Line {
+                    why: Refusal::TooLong,
+                },
+            },
+        )
     }
 
     /// Sets a reader's link aside without a command, and tells whether the reader held one.
@@ -242,7 +251,7 @@ impl<O: Outlet, L: CardLink> Rack<O, L> {
                 if self.eject(reader) {
                     say(&mut self.outlet, b"ok\n", RackEnd::Answered)
                 } else {
-                    say(&mut self.outlet, b"no card\n", RackEnd::Refused)
+                    say_no_card(&mut self.outlet)
                 }
             }
         }

@@ -1,5 +1,5 @@
 // A reader of a rack.
-ghost use Rattle.std.specs.Prelude.{◌≡◌, ◌≤◌, ◌∷◌, ℕ, Bool, true, false, IfSome, length, IsTrue, None, Some, is_some, if◌then◌else◌};
+ghost use Rattle.std.specs.Prelude.{◌≡◌, ◌≤◌, ◌∷◌, ℕ, Bool, true, false, IfSome, length, IsTrue, None, Some, is_some, if◌then◌else◌, codes};
 ghost use Rattle.scql_model.specs.Lines.{line_effect, longest_line};
 ghost use Rattle.eeprom.specs.Fault.{Rose};
 ghost use Rattle.scql_base.specs.Words.{memory_failure};
@@ -13,12 +13,12 @@ ghost use Rattle.script.specs.Line.{statement_of};
 ghost use Rattle.planner.specs.StatementLines.{TerminalState, statement_lines};
 ghost use Rattle.terminal.specs.Holding.{Knows, Sits, terminal_at};
 ghost use Rattle.terminal.specs.Line as lines;
-ghost use Rattle.terminal.specs.Line.{EndsSo, refuses, rows_in};
+ghost use Rattle.terminal.specs.Line.{EndsSo, refusal_in, rows_in};
 ghost use Rattle.reader_rack.specs.RackText.{Held, mute, sits, asked, heard, unheard};
 ghost use Rattle.reader_rack.specs.Readers.{EndsBy, EndsEffect, Holds, IsHeld, IsSaidOrCut, answers, count, lending, with_link};
 
-use crate::RackEnd;
 use crate::desk::RackDesk;
+use crate::{RackEnd, RackRefusal};
 use apdu::Reply;
 use card_link::{CardLink, Outcome};
 use eeprom::Outlet;
@@ -192,7 +192,9 @@ fn answer_at<L: CardLink, O: Outlet>(
 {
     match line_at(terminal, link, outlet, line) {
         LineEnd::Answered => RackEnd::Answered,
-        LineEnd::Refused => RackEnd::Refused,
+        LineEnd::Refused { why } => RackEnd::Refused {
+            why: RackRefusal::Line { why },
+        },
         LineEnd::Mute => say(outlet, b"card mute\n", RackEnd::Mute),
         LineEnd::SinkFault => RackEnd::SinkFault,
     }
@@ -206,7 +208,20 @@ fn answer_unheard<O: Outlet>(outlet: &mut O, line: &[u8]) -> RackEnd
     if is_nothing(line) {
         return RackEnd::Answered;
     }
-    say(outlet, b"no card\n", RackEnd::Refused)
+    say_no_card(outlet)
+}
+
+/// Says of a line that the reader that it is for holds no card that answers.
+pub(crate) fn say_no_card<O: Outlet>(outlet: &mut O) -> RackEnd
+    ensures { IsSaidOrCut (codes "no card\n") (RackEnd.Refused RackRefusal.NoCard) result (O.given outlet.old) (O.given outlet.new) (O.sink_faults outlet.old) (O.sink_faults outlet.new) }
+{
+    say(
+        outlet,
+        b"no card\n",
+        RackEnd::Refused {
+            why: RackRefusal::NoCard,
+        },
+    )
 }
 
 /// Prints a text that ends a line so.
@@ -230,7 +245,7 @@ fn line_at<L: CardLink, O: Outlet>(
     requires short { length line.now ≤ longest_line }
     ensures ends { (m : Machine) → L.is_at link.old m → Knows terminal.old.transaction m
         → EndsSo (λ (p : L × O) m. L.is_at p.0 m) (λ (p : L × O). O.given p.1) m (line_effect statement_lines (terminal_at m terminal.old.channel) line.now) (rows_in (terminal_at m terminal.old.channel) (statement_of line.now))
-        (refuses (terminal_at m terminal.old.channel) (statement_of line.now)) terminal.new result (link.old, outlet.old) (link.new, outlet.new) }
+        (refusal_in (terminal_at m terminal.old.channel) (statement_of line.now)) terminal.new result (link.old, outlet.old) (link.new, outlet.new) }
     ensures ends_by { lines.EndsBy (λ (p : L × O). L.is_live p.0) (λ (p : L × O). L.faults p.0) (λ (p : L × O). O.sink_faults p.1) result (link.old, outlet.old) (link.new, outlet.new) }
 {
     let mut desk = RackDesk { link, outlet };

@@ -1,11 +1,21 @@
 // Each call once, over a boxed link: what is printed, and how each line ends.
-use crate::{Rack, RackEnd};
+use crate::{Rack, RackEnd, RackRefusal};
 use apdu::Reply;
 use arrayvec::ArrayVec;
 use card_link::{CardLink, Outcome};
 use eeprom::{Outlet, SinkFault};
 use scql_base::StatusWord;
+use script::ScriptFault;
 use std::alloc::AllocError;
+use terminal::Refusal;
+
+fn refused(why: RackRefusal) -> RackEnd {
+    RackEnd::Refused { why }
+}
+
+fn refused_line(why: Refusal) -> RackEnd {
+    refused(RackRefusal::Line { why })
+}
 
 // A card that answers each command by 9000. Nothing is told of it.
 #[derive(Drop)]
@@ -87,15 +97,20 @@ fn each_reader_answers_for_itself(rt: HostRuntime) -> Result<(), AllocError> {
     });
     assert_eq!(rt; rack.insert(3, Box::new(alloc, Fine {})?).is_ok(), true);
 
-    assert_eq!(rt; rack.line(b"BEGIN"), RackEnd::Refused);
+    assert_eq!(rt; rack.line(b"BEGIN"), refused(RackRefusal::NoCard));
     assert_eq!(rt; rack.line(b"# BEGIN"), RackEnd::Answered);
     assert_eq!(rt; rack.line(b"READER 3;"), RackEnd::Answered);
-    assert_eq!(rt; rack.line(b"READER 0"), RackEnd::Refused);
+    assert_eq!(rt;
+        rack.line(b"READER 0"),
+        refused_line(Refusal::Fault {
+            fault: ScriptFault::At { place: 0 }
+        })
+    );
     assert_eq!(rt; rack.line(b"BEGIN"), RackEnd::Answered);
     assert_eq!(rt; rack.line(b"EJECT 3"), RackEnd::Answered);
     assert_eq!(rt; rack.eject(3), false);
-    assert_eq!(rt; rack.line(b"EJECT 4"), RackEnd::Refused);
-    assert_eq!(rt; rack.refuse_long_line(), RackEnd::Refused);
+    assert_eq!(rt; rack.line(b"EJECT 4"), refused(RackRefusal::NoCard));
+    assert_eq!(rt; rack.refuse_long_line(), refused_line(Refusal::TooLong));
     assert_eq!(rt;
         rack.outlet().text.as_slice(),
         b"no card\nok\nerror at 0\nok\nok\nno card\nerror line too long\n".as_slice()

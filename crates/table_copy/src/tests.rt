@@ -5,7 +5,7 @@ use crate::{CopyEnd, copy};
 use apdu::Reply;
 use arrayvec::ArrayVec;
 use card_link::{CardLink, FailingLink, Outcome, Recorder};
-use person::Person;
+use person::{Person, Presence};
 use scql_base::{Name, StatusWord};
 
 // A card that answers by these words, the last one first, and then by 9000. Where octets are asked for it gives a row of one value. Nothing is told of it.
@@ -80,6 +80,14 @@ impl Person for Screen {
     fn show(&mut self, text: &[u8]) {
         // A text that is full stays as it is.
         let _ = self.text.try_extend_from_slice(text);
+    }
+
+    fn presence(&self) -> Presence {
+        Presence::Watching
+    }
+
+    fn show_title(&mut self) {
+        self.show(b"");
     }
 }
 

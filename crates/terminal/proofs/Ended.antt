@@ -1,7 +1,7 @@
 -- How a line ends: its text, and its moments.
-use Rattle.std.proofs.Common.{◌≡◌, ◌⊎◌, ℕ, ◌≤◌, ◌==◌, nat_le, Bool, true, ◌&&◌, List, [], ◌∷◌, ◌++◌, length, map, Option, Ok, append_assoc, refl, sym, ◌∙◌, ap, subst, inl, inr, arith}
+use Rattle.std.proofs.Common.{◌≡◌, ◌⊎◌, ℕ, ◌≤◌, ◌==◌, nat_le, Bool, true, ◌&&◌, List, [], ◌∷◌, ◌++◌, length, map, Option, Some, Ok, append_assoc, refl, sym, ◌∙◌, ap, subst, inl, inr, arith}
 use Rattle.std.specs.List.{concat, list_all, AllByRecursion}
-use Rattle.std.proofs.lemmas.Bool.{and_parts, le-ltb, cases_Bool, eqb-true, eqb-false, false≢true}
+use Rattle.std.proofs.lemmas.Bool.{and_parts, le-ltb, cases_Bool, eqb-true, eqb-false}
 use Rattle.scql_base.specs.Row.{row_size, is_narrow}
 use Rattle.scql_base.proofs.Splitting.{params_of-again}
 use Rattle.scql_model.specs.Database.{Database}
@@ -27,13 +27,14 @@ use Rattle.planner.proofs.TransactionKnown.{transaction-told}
 use Rattle.terminal.specs.declared.failure.Failure.TheVariants.{Card, Outlet}
 use Rattle.terminal.specs.declared.line_end.LineEnd.{LineEnd}
 use Rattle.terminal.specs.declared.line_end.LineEnd.TheVariants as ends
+use Rattle.terminal.specs.declared.refusal.Refusal.{Refusal}
 use Rattle.scql_model.specs.Lives.{after_all}
 use Rattle.card_asking.proofs.Followed.{none-before}
 use Rattle.card_asking.proofs.Moments.{one-last}
 use Rattle.card_asking.proofs.Sound.{IsSound, select-or-none, sound}
 use Rattle.terminal.specs.Going.{printed_row, rows_text, ran_text, IsInRun, IsMute, IsCut, IsOver, FailsSo}
 use Rattle.terminal.specs.Holding.{Holding, Knows, Sits, terminal_at, holding_after}
-use Rattle.terminal.specs.Line.{IsAnswered, IsCutOff, IsCutShort, EndsSo, EndsBy, ClosesSo, IsMoment, is_refusal, refuses, rows_in}
+use Rattle.terminal.specs.Line.{IsAnswered, IsCutOff, IsCutShort, EndsSo, EndsBy, ClosesSo, IsMoment, refusal_of, refusal_in, rows_in}
 use Rattle.terminal.specs.Failing.{Works}
 use Rattle.terminal.proofs.Went.{prints-both, works-both}
 use Rattle.eeprom.specs.Fault.{Rose}
@@ -158,8 +159,8 @@ sits-after is_at m before s closing after new can knows holds closes at = record
 pub closes-ends : {L : Type 0} (is_at : L → Machine → Type 0) (given : L → Option (List ℕ)) (is_live : L → Bool) (faults sink_faults mark : L → ℕ) (m : Machine) (before : Holding) (s : Statement) (closing : Closing) (after : Holding) (result : LineEnd) (old mid new : L)
     → IsOverValid m → CanBeSent before.channel s → Knows before.transaction m → after ≡ holding_after s closing before
     → IsOver is_at given mark m (shown (meaning m before.channel s)) closing old mid
-    → ClosesSo given is_live faults sink_faults (closing_text closing) (is_refusal closing) result mid new → is_at new (meaning m before.channel s).machine
-    → EndsSo is_at given m (read_effect (terminal_at m before.channel) (Ok s)) (rows_in (terminal_at m before.channel) (Ok s)) (refuses (terminal_at m before.channel) (Ok s)) after result old new
+    → ClosesSo given is_live faults sink_faults (closing_text closing) (refusal_of closing) result mid new → is_at new (meaning m before.channel s).machine
+    → EndsSo is_at given m (read_effect (terminal_at m before.channel) (Ok s)) (rows_in (terminal_at m before.channel) (Ok s)) (refusal_in (terminal_at m before.channel) (Ok s)) after result old new
 closes-ends is_at given is_live faults sink_faults mark m before s closing after result old mid new over can knows holds o closes at = go result closes
   where
     whole : (text : List ℕ) → text ≡ closing_text closing → rows_text (shown (meaning m before.channel s)).rows ++ text ≡ meaning_text (meaning m before.channel s)
@@ -171,10 +172,10 @@ closes-ends is_at given is_live faults sink_faults mark m before s closing after
       text = subst (λ (text : List ℕ). Prints text (given old) (given new)) (whole (closing_text closing) refl) (prints-both (rows_text (shown (meaning m before.channel s)).rows) (closing_text closing) (given old) (given mid) (given new) o.printed printed);
     }
 
-    go : (result : LineEnd) → ClosesSo given is_live faults sink_faults (closing_text closing) (is_refusal closing) result mid new
-        → EndsSo is_at given m (read_effect (terminal_at m before.channel) (Ok s)) (rows_in (terminal_at m before.channel) (Ok s)) (refuses (terminal_at m before.channel) (Ok s)) after result old new
-    go ends.Answered c = (answered c.1, ap is_refusal (sym o.closes) ∙ c.0)
-    go ends.Refused c = (answered c.1, ap is_refusal (sym o.closes) ∙ c.0)
+    go : (result : LineEnd) → ClosesSo given is_live faults sink_faults (closing_text closing) (refusal_of closing) result mid new
+        → EndsSo is_at given m (read_effect (terminal_at m before.channel) (Ok s)) (rows_in (terminal_at m before.channel) (Ok s)) (refusal_in (terminal_at m before.channel) (Ok s)) after result old new
+    go ends.Answered c = (answered c.1, ap refusal_of (sym o.closes) ∙ c.0)
+    go (ends.Refused why) c = (answered c.1, ap refusal_of (sym o.closes) ∙ c.0)
     go ends.Mute c = absurd c
     go ends.SinkFault c = record {
       said = rows_text (shown (meaning m before.channel s)).rows ++ c.0.said;
@@ -189,22 +190,22 @@ closes-ends is_at given is_live faults sink_faults mark m before s closing after
       knows = knows-after m before s closing after can knows holds o.closes;
     }
 
-pub closes-by : {L : Type 0} (given : L → Option (List ℕ)) (is_live : L → Bool) (faults sink_faults : L → ℕ) (text : List ℕ) (refused : Bool) (result : LineEnd) (old mid new : L) → Works is_live faults sink_faults old mid
-    → ClosesSo given is_live faults sink_faults text refused result mid new → EndsBy is_live faults sink_faults result old new
-closes-by given is_live faults sink_faults text refused ends.Answered old mid new works c = works-both is_live faults sink_faults old mid new works c.2
-closes-by given is_live faults sink_faults text refused ends.Refused old mid new works c = works-both is_live faults sink_faults old mid new works c.2
-closes-by given is_live faults sink_faults text refused ends.Mute old mid new works c = absurd c
-closes-by given is_live faults sink_faults text refused ends.SinkFault old mid new works c =
+pub closes-by : {L : Type 0} (given : L → Option (List ℕ)) (is_live : L → Bool) (faults sink_faults : L → ℕ) (text : List ℕ) (refusal : Option Refusal) (result : LineEnd) (old mid new : L) → Works is_live faults sink_faults old mid
+    → ClosesSo given is_live faults sink_faults text refusal result mid new → EndsBy is_live faults sink_faults result old new
+closes-by given is_live faults sink_faults text refusal ends.Answered old mid new works c = works-both is_live faults sink_faults old mid new works c.2
+closes-by given is_live faults sink_faults text refusal (ends.Refused why) old mid new works c = works-both is_live faults sink_faults old mid new works c.2
+closes-by given is_live faults sink_faults text refusal ends.Mute old mid new works c = absurd c
+closes-by given is_live faults sink_faults text refusal ends.SinkFault old mid new works c =
     (record { same = c.1.same ∙ works.faults_same; rose = subst (λ n. Rose n (sink_faults new)) works.sink_same c.1.rose; later = subst (λ n. n ≤ sink_faults new) works.sink_same c.1.later }, c.2 ∙ works.live)
 
 -- A line that is no statement.
-pub unread-ends : {L : Type 0} (is_at : L → Machine → Type 0) (given : L → Option (List ℕ)) (is_live : L → Bool) (faults sink_faults : L → ℕ) (m : Machine) (holding : Holding) (said text : List ℕ) (result : LineEnd) (old new : L)
-    → text ≡ said → Knows holding.transaction m → ClosesSo given is_live faults sink_faults text true result old new → is_at new m → EndsSo is_at given m (unread (terminal_at m holding.channel) said) [] true holding result old new
-unread-ends is_at given is_live faults sink_faults m holding said text ends.Answered old new is knows c at = absurd (false≢true (sym c.0))
-unread-ends is_at given is_live faults sink_faults m holding said text ends.Refused old new is knows c at =
-    (record { sits = record { at = at; channel = refl; knows = knows }; text = subst (λ (text : List ℕ). Prints text (given old) (given new)) is c.1 }, refl)
-unread-ends is_at given is_live faults sink_faults m holding said text ends.Mute old new is knows c at = absurd c
-unread-ends is_at given is_live faults sink_faults m holding said text ends.SinkFault old new is knows c at =
+pub unread-ends : {L : Type 0} (is_at : L → Machine → Type 0) (given : L → Option (List ℕ)) (is_live : L → Bool) (faults sink_faults : L → ℕ) (m : Machine) (holding : Holding) (said text : List ℕ) (why : Refusal) (result : LineEnd) (old new : L)
+    → text ≡ said → Knows holding.transaction m → ClosesSo given is_live faults sink_faults text (Some why) result old new → is_at new m → EndsSo is_at given m (unread (terminal_at m holding.channel) said) [] (Some why) holding result old new
+unread-ends is_at given is_live faults sink_faults m holding said text why ends.Answered old new is knows c at = absurd cc
+unread-ends is_at given is_live faults sink_faults m holding said text why (ends.Refused told) old new is knows c at =
+    (record { sits = record { at = at; channel = refl; knows = knows }; text = subst (λ (text : List ℕ). Prints text (given old) (given new)) is c.1 }, c.0)
+unread-ends is_at given is_live faults sink_faults m holding said text why ends.Mute old new is knows c at = absurd c
+unread-ends is_at given is_live faults sink_faults m holding said text why ends.SinkFault old new is knows c at =
     record { said = c.0.said; rest = c.0.rest; start = sym is ∙ c.0.start; printed = c.0.printed; machine = m; at = at; committed = refl; knows = knows }
 
 -- a line that is short enough is taken

@@ -1,5 +1,5 @@
 -- What there is of a line: its text, or as much of it as was printed where a device failed; the moments of it.
-use Rattle.std.specs.Prelude.{◌≡◌, ◌⊎◌, ℕ, ◌<◌, Bool, true, false, List, [], ◌∷◌, ◌++◌, map, Option, Result, Ok, Err}
+use Rattle.std.specs.Prelude.{◌≡◌, ◌⊎◌, ℕ, ◌<◌, Bool, List, [], ◌∷◌, ◌++◌, map, Option, Some, None, is_some, Result, Ok, Err}
 use Rattle.std.specs.List.{concat}
 use Rattle.eeprom.specs.Output.{Prints}
 use Rattle.scql_model.specs.Database.{Database}
@@ -16,18 +16,24 @@ use Rattle.planner.specs.StatementLines.{TerminalState}
 use Rattle.planner.specs.Text.{row_text}
 use Rattle.terminal.specs.declared.line_end.LineEnd.{LineEnd}
 use Rattle.terminal.specs.declared.line_end.LineEnd.TheVariants as ends
+use Rattle.terminal.specs.declared.refusal.Refusal.{Refusal}
+use Rattle.terminal.specs.declared.refusal.Refusal.TheVariants.{Word, Fault}
 use Rattle.scql_model.specs.Lives.{after_all}
 use Rattle.terminal.specs.Holding.{Holding, Knows, Sits}
 use Rattle.terminal.specs.Failing.{Breaks, IsStart, Works}
 
--- the closing line is a refusal, or an error
-abbrev pub is_refusal : Closing → Bool
-is_refusal (Refused word) = true
-is_refusal closing = false
+-- why a statement was refused that closed so, if it was
+abbrev pub refusal_of : Closing → Option Refusal
+refusal_of (Refused word) = Some (Word word)
+refusal_of closing = None
+
+-- why a line is refused, if it is: its closing line is a refusal, or an error
+abbrev pub refusal_in : TerminalState → Result Statement ScriptFault → Option Refusal
+refusal_in state (Err fault) = Some (Fault fault)
+refusal_in state (Ok statement) = refusal_of (meaning state.machine state.channel statement).closing
 
 abbrev pub refuses : TerminalState → Result Statement ScriptFault → Bool
-refuses state (Err fault) = true
-refuses state (Ok statement) = is_refusal (meaning state.machine state.channel statement).closing
+refuses state read = is_some (refusal_in state read)
 
 -- the rows that a line's statement gives
 abbrev pub rows_in : TerminalState → Result Statement ScriptFault → List Values
@@ -57,26 +63,26 @@ pub record IsCutShort {L : Type 0} (is_at : L → Machine → Type 0) (given : L
   pub committed : machine.committed ≡ after_all m.committed does.commits
   pub knows : Knows holding.transaction machine
 
--- How a line ends that does this, gives these rows, and ends with a refusal or an error or not.
-abbrev pub EndsSo : {L : Type 0} → (L → Machine → Type 0) → (L → Option (List ℕ)) → Machine → Effect TerminalState → List Values → Bool → Holding → LineEnd → L → L → Type 0
-EndsSo is_at given m does rows refused holding ends.Answered old new = IsAnswered is_at given does holding old new × (refused ≡ false)
-EndsSo is_at given m does rows refused holding ends.Refused old new = IsAnswered is_at given does holding old new × (refused ≡ true)
-EndsSo is_at given m does rows refused holding ends.Mute old new = IsCutOff given rows old new
-EndsSo is_at given m does rows refused holding ends.SinkFault old new = IsCutShort is_at given m does holding old new
+-- How a line ends that does this, gives these rows, and is refused for this reason or isn't.
+abbrev pub EndsSo : {L : Type 0} → (L → Machine → Type 0) → (L → Option (List ℕ)) → Machine → Effect TerminalState → List Values → Option Refusal → Holding → LineEnd → L → L → Type 0
+EndsSo is_at given m does rows refusal holding ends.Answered old new = IsAnswered is_at given does holding old new × (refusal ≡ None)
+EndsSo is_at given m does rows refusal holding (ends.Refused why) old new = IsAnswered is_at given does holding old new × (refusal ≡ Some why)
+EndsSo is_at given m does rows refusal holding ends.Mute old new = IsCutOff given rows old new
+EndsSo is_at given m does rows refusal holding ends.SinkFault old new = IsCutShort is_at given m does holding old new
 
 -- Why it ends so: no device failed, the card did, or the outlet.
 abbrev pub EndsBy : {L : Type 0} → (L → Bool) → (L → ℕ) → (L → ℕ) → LineEnd → L → L → Type 0
 EndsBy is_live faults sink_faults ends.Answered old new = Works is_live faults sink_faults old new
-EndsBy is_live faults sink_faults ends.Refused old new = Works is_live faults sink_faults old new
+EndsBy is_live faults sink_faults (ends.Refused why) old new = Works is_live faults sink_faults old new
 EndsBy is_live faults sink_faults ends.Mute old new = Mutes is_live faults old new × (sink_faults new ≡ sink_faults old)
 EndsBy is_live faults sink_faults ends.SinkFault old new = Breaks faults sink_faults old new × (is_live new ≡ is_live old)
 
 -- a closing text is printed, or its start is where the outlet fails
-abbrev pub ClosesSo : {L : Type 0} → (L → Option (List ℕ)) → (L → Bool) → (L → ℕ) → (L → ℕ) → List ℕ → Bool → LineEnd → L → L → Type 0
-ClosesSo given is_live faults sink_faults text refused ends.Answered old new = (refused ≡ false) × Prints text (given old) (given new) × Works is_live faults sink_faults old new
-ClosesSo given is_live faults sink_faults text refused ends.Refused old new = (refused ≡ true) × Prints text (given old) (given new) × Works is_live faults sink_faults old new
-ClosesSo given is_live faults sink_faults text refused ends.Mute old new = ⊥
-ClosesSo given is_live faults sink_faults text refused ends.SinkFault old new = IsStart text (given old) (given new) × Breaks faults sink_faults old new × (is_live new ≡ is_live old)
+abbrev pub ClosesSo : {L : Type 0} → (L → Option (List ℕ)) → (L → Bool) → (L → ℕ) → (L → ℕ) → List ℕ → Option Refusal → LineEnd → L → L → Type 0
+ClosesSo given is_live faults sink_faults text refusal ends.Answered old new = (refusal ≡ None) × Prints text (given old) (given new) × Works is_live faults sink_faults old new
+ClosesSo given is_live faults sink_faults text refusal (ends.Refused why) old new = (refusal ≡ Some why) × Prints text (given old) (given new) × Works is_live faults sink_faults old new
+ClosesSo given is_live faults sink_faults text refusal ends.Mute old new = ⊥
+ClosesSo given is_live faults sink_faults text refusal ends.SinkFault old new = IsStart text (given old) (given new) × Breaks faults sink_faults old new × (is_live new ≡ is_live old)
 
 -- A moment of a line: with the mark of its start the database is the one before it, or one that it commits; with a later mark it is the one after all commits.
 abbrev pub IsMoment : ℕ → Database → List Database → ℕ → Database → Type 0

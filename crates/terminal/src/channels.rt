@@ -16,14 +16,14 @@ ghost use Rattle.terminal.specs.Going.{FailsSo, IsInRun, IsOver};
 ghost use Rattle.terminal.specs.Holding as holding;
 ghost use Rattle.terminal.specs.Holding.{IsStarted, Knows, terminal_at};
 ghost use Rattle.terminal.specs.Line as line_specs;
-ghost use Rattle.terminal.specs.Line.{ClosesSo, EndsBy, EndsSo, IsMoment, refuses, rows_in};
+ghost use Rattle.terminal.specs.Line.{ClosesSo, EndsBy, EndsSo, IsMoment, refusal_in, rows_in};
 ghost use Rattle.terminal.specs.Quiet.{EndsQuietly, EndsQuietlyBy, closing_in};
 ghost use Rattle.terminal.specs.Failing.{Causes, Works};
 
 use crate::failure::Failure;
 use crate::following::{Room, carry_out, give};
 use crate::printing::closing_text;
-use crate::{LineEnd, QuietEnd};
+use crate::{LineEnd, QuietEnd, Refusal};
 use card_link::{CardLink, Desk};
 use planner::{Closing, Plan};
 use scql_base::{Operation, StatusWord};
@@ -81,14 +81,14 @@ impl Channels {
         requires started { IsStarted self.old plan.old }
         ensures ends { (m : Machine) → L.is_at link.old m → Knows self.old.transaction m
             → EndsSo L.is_at L.given m (read_effect (terminal_at m self.old.channel) (Ok plan.old.statement)) (rows_in (terminal_at m self.old.channel) (Ok plan.old.statement))
-            (refuses (terminal_at m self.old.channel) (Ok plan.old.statement)) self.new result link.old link.new }
+            (refusal_in (terminal_at m self.old.channel) (Ok plan.old.statement)) self.new result link.old link.new }
         ensures ends_by { EndsBy L.is_live L.faults L.sink_faults result link.old link.new }
         ensures goes_on { L.goes_on link.old link.new }
         ensures moments { (m : Machine) → L.is_at link.old m → Knows self.old.transaction m
             → LeavesOpen (IsMoment (L.mark link.old) m.committed (read_effect (terminal_at m self.old.channel) (Ok plan.old.statement)).commits) (L.chip link.old) (L.chip link.new) }
     {
         match self.carry(link, plan, room) {
-            Ok(closing) => close(link, &closing_text(closing), is_refusal(closing)),
+            Ok(closing) => close(link, &closing_text(closing), refusal_of(closing)),
             Err(Failure::Card) => LineEnd::Mute,
             Err(Failure::Outlet) => LineEnd::SinkFault,
         }
@@ -180,25 +180,29 @@ impl Channels {
     }
 }
 
-/// Prints a closing line, if there is one.
-pub(crate) fn close<L: Desk>(link: &mut L, text: &[u8], refused: bool) -> LineEnd
-    ensures closes { ClosesSo L.given L.is_live L.faults L.sink_faults text.now refused result link.old link.new }
+/// Prints a closing line, if there is one, of a line that was refused for this reason, or wasn't.
+pub(crate) fn close<L: Desk>(link: &mut L, text: &[u8], refusal: Option<Refusal>) -> LineEnd
+    ensures closes { ClosesSo L.given L.is_live L.faults L.sink_faults text.now refusal result link.old link.new }
     ensures gives { Gives L.is_at L.is_live L.faults L.mark L.chip link.old link.new }
     ensures goes_on { L.goes_on link.old link.new }
 {
     if !text.is_empty() && give(link, text).is_err() {
-        LineEnd::SinkFault
-    } else if refused {
-        LineEnd::Refused
-    } else {
-        LineEnd::Answered
+        return LineEnd::SinkFault;
+    }
+    match refusal {
+        Some(why) => LineEnd::Refused { why },
+        None => LineEnd::Answered,
     }
 }
 
-fn is_refusal(closing: Closing) -> bool
-    ensures { result ≡ line_specs.is_refusal closing }
+// Why a statement was refused that closed so, if it was.
+fn refusal_of(closing: Closing) -> Option<Refusal>
+    ensures { result ≡ line_specs.refusal_of closing }
 {
-    matches!(closing, Closing::Refused { .. })
+    match closing {
+        Closing::Refused { word } => Some(Refusal::Word { word }),
+        _ => None,
+    }
 }
 
 // Whether a channel has the open transaction.

@@ -7,9 +7,11 @@ mod following;
 mod line_end;
 mod printing;
 mod quiet_end;
+mod refusal;
 mod terminal;
 
 pub use line_end::LineEnd;
 pub use printing::{LONGEST_CLOSING, closing_text, fault_text, give_value};
 pub use quiet_end::QuietEnd;
+pub use refusal::Refusal;
 pub use terminal::Terminal;

@@ -1,5 +1,5 @@
 // A terminal, and what it does with a line.
-ghost use Rattle.std.specs.Prelude.{◌≡◌, ◌≤◌, [], ◌∷◌, length, IsTrue, true, false, None, Ok};
+ghost use Rattle.std.specs.Prelude.{◌≡◌, ◌≤◌, [], ◌∷◌, length, IsTrue, None, Some, Ok};
 ghost use Rattle.scql_model.specs.Machine.{Machine};
 ghost use Rattle.scql_model.specs.Lines.{line_effect, longest_line};
 ghost use Rattle.scql_model.specs.Step.{step};
@@ -8,13 +8,13 @@ ghost use Rattle.card_link.specs.Link.{IsOneOf, LeavesOpen};
 ghost use Rattle.planner.specs.Held.{held_after_octets};
 ghost use Rattle.planner.specs.StatementLines.{statement_lines};
 ghost use Rattle.terminal.specs.Holding.{Knows, terminal_at};
-ghost use Rattle.terminal.specs.Line.{EndsBy, EndsSo, IsMoment, refuses, rows_in};
+ghost use Rattle.terminal.specs.Line.{EndsBy, EndsSo, IsMoment, refusal_in, rows_in};
 ghost use Rattle.terminal.specs.Quiet.{EndsQuietly, EndsQuietlyBy, closing_in};
 
 use crate::channels::{Channels, close};
 use crate::following::Room;
 use crate::printing::fault_text;
-use crate::{LineEnd, QuietEnd};
+use crate::{LineEnd, QuietEnd, Refusal};
 use card_link::{CardLink, Desk};
 use planner::Plan;
 use scql_base::StatusWord;
@@ -55,7 +55,7 @@ impl Terminal {
         requires short { length line.now ≤ longest_line }
         ensures ends { (m : Machine) → L.is_at link.old m → Knows self.old.transaction m
             → EndsSo L.is_at L.given m (line_effect statement_lines (terminal_at m self.old.channel) line.now) (rows_in (terminal_at m self.old.channel) (statement_of line.now))
-            (refuses (terminal_at m self.old.channel) (statement_of line.now)) self.new result link.old link.new }
+            (refusal_in (terminal_at m self.old.channel) (statement_of line.now)) self.new result link.old link.new }
         ensures ends_by { EndsBy L.is_live L.faults L.sink_faults result link.old link.new }
         ensures goes_on { L.goes_on link.old link.new }
         ensures moments { (m : Machine) → L.is_at link.old m → Knows self.old.transaction m
@@ -63,19 +63,19 @@ impl Terminal {
     {
         match self.channels.read(line, &mut self.plan) {
             Ok(()) => self.channels.run(link, &mut self.plan, &mut self.room),
-            Err(fault) => close(link, &fault_text(fault), true),
+            Err(fault) => close(link, &fault_text(fault), Some(Refusal::Fault { fault })),
         }
     }
 
     /// Says of a line that is longer than a line may be that it is refused.
     pub fn refuse_long_line<L: Desk>(&mut self, link: &mut L) -> LineEnd
         ensures ends { (m : Machine) → L.is_at link.old m → Knows self.old.transaction m
-            → EndsSo L.is_at L.given m (statement_lines.effect (terminal_at m self.old.channel) None) [] true self.new result link.old link.new }
+            → EndsSo L.is_at L.given m (statement_lines.effect (terminal_at m self.old.channel) None) [] (Some Refusal.TooLong) self.new result link.old link.new }
         ensures ends_by { EndsBy L.is_live L.faults L.sink_faults result link.old link.new }
         ensures goes_on { L.goes_on link.old link.new }
         ensures moments { (m : Machine) → L.is_at link.old m → LeavesOpen (IsMoment (L.mark link.old) m.committed []) (L.chip link.old) (L.chip link.new) }
     {
-        close(link, b"error line too long\n", true)
+        close(link, b"error line too long\n", Some(Refusal::TooLong))
     }
 
     /// Reads a line as a statement and carries it out as `line` does, but prints nothing.

@@ -2,9 +2,10 @@
 // image opens.
 use super::power_loss::left_in;
 use super::scripts::{STOCK, Script, TRANSACTION, VERIFICATION};
-use super::{Failing, Nobody, no_faults, words_of};
+use super::{Failing, no_faults, words_of};
 use crate::run::run_card;
 use eeprom::{MemBench, MemSource};
+use person::Nobody;
 use program::Status;
 use std::alloc::{AllocError, Global};
 use std::test::Fail;

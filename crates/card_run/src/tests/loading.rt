@@ -1,7 +1,8 @@
 // The form `load`, over a bench in memory.
-use super::{Nobody, bench_of, no_faults, run_over, words_of};
+use super::{bench_of, no_faults, run_over, words_of};
 use crate::run::run_card;
 use eeprom::{MemBench, SteadyBench, SteadySource};
+use person::Nobody;
 use program::Status;
 use std::alloc::{AllocError, Global};
 use std::test::Fail;

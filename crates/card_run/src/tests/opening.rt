@@ -1,7 +1,8 @@
 // The form `apdu`: cards that are there, and images that are none.
-use super::{Nobody, WITH_ANN, fresh_card, is_open, lay, no_faults, run_over, words_of};
+use super::{WITH_ANN, fresh_card, is_open, lay, no_faults, run_over, words_of};
 use crate::run::run_card;
 use eeprom::{SteadyBench, SteadySource};
+use person::Nobody;
 use program::Status;
 use std::test::Fail;
 

@@ -1,7 +1,8 @@
 // The form `term`, over a bench in memory.
-use super::{Failing, Nobody, fresh_card, no_faults, run_over};
+use super::{Failing, fresh_card, no_faults, run_over};
 use crate::run::run_card;
 use eeprom::{MemBench, MemSource};
+use person::Nobody;
 use program::Status;
 use std::alloc::{AllocError, Global};
 use std::test::Fail;

@@ -105,7 +105,8 @@ impl Engine {
 
     // The user of a channel, where that one isn't proved.
     fn unproved_user(&self, channel: u8) -> Option<&User>
-        requires { channel < 4 }
+        requires channel { channel < 4 }
+        requires valid { IsValid self.now.committed }
         ensures user { option_copied result ≡ unproved_user self.now channel }
         ensures stamped { IfSome result (λ u. user_stamped self.now.committed.users u.now.stamp ≡ Some u.now) }
     {

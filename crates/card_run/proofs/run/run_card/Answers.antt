@@ -24,6 +24,7 @@ use Rattle.card_run.specs.Migrating.{MigratesTo}
 use Rattle.card_run.specs.Statements.{opened, term_lines, was_refused}
 use Rattle.card_run.specs.Words.{form_in, makes_card}
 use Rattle.terminal.specs.Holding.{terminal_at}
+use Rattle.guide.proofs.Told.{told-none}
 use Rattle.card_run.proofs.Asking.{commands-read, lines-may, lines-not-wanting, no-load, no_lines, not-wanting, opened-may, opening-may, unopened}
 use Rattle.card.specs.GivenMoments.{behind-then}
 use Rattle.card_run.proofs.Behind.{cells-over}
@@ -469,7 +470,26 @@ returns-in-Load-clause-watched g c = λ rows seed asked.
     (λ db opens. c.in-Ok.ensures.starts db (of_form g run (Load rows seed) db asked opens)) c.run_load.ensures.shows))
 
 pub returns-in-Load-clause-unwatched : goal.returns-in-Load-clause-unwatched
-returns-in-Load-clause-unwatched g c = λ other. absurd (other c.in-Load.rows c.in-Load.seed (cc (c.in-Some.ensures, c.in-Load.is)))
+returns-in-Load-clause-unwatched g c = λ other untold. absurd (other c.in-Load.rows c.in-Load.seed (cc (c.in-Some.ensures, c.in-Load.is)))
+
+pub returns-in-Term-clause-unwatched : goal.returns-in-Term-clause-unwatched
+returns-in-Term-clause-unwatched g c = λ other untold. absurd (untold (cc (c.in-Some.ensures, c.in-Term.is)))
+
+pub returns-in-Err-clause-told : goal.returns-in-Err-clause-told
+returns-in-Err-clause-told g c = λ asked. told-none g.P.Person.lost g.P.Person.shown c.args.person.now
+
+pub returns-in-Check-clause-told : goal.returns-in-Check-clause-told
+returns-in-Check-clause-told g c = λ asked. told-none g.P.Person.lost g.P.Person.shown c.args.person.now
+
+pub returns-in-Migrate-clause-told : goal.returns-in-Migrate-clause-told
+returns-in-Migrate-clause-told g c = λ asked. told-none g.P.Person.lost g.P.Person.shown c.args.person.now
+
+pub returns-in-New-clause-told : goal.returns-in-New-clause-told
+returns-in-New-clause-told g c = λ asked. told-none g.P.Person.lost g.P.Person.shown c.args.person.now
+
+pub returns-in-Load-clause-told : goal.returns-in-Load-clause-told
+returns-in-Load-clause-told g c = λ asked.
+    let same : Load c.in-Load.rows c.in-Load.seed ≡ Term = cc (same_form g (goal.at.returns-in-Load-clause-told g c).After-open_card Term asked, c.in-Load.is) in absurd cc
 
 pub returns-in-Check-clause-watched : goal.returns-in-Check-clause-watched
 returns-in-Check-clause-watched g c = λ rows seed asked.

@@ -1,12 +1,13 @@
 -- What the terminal says of a line is told to the run.
-use Rattle.std.proofs.Common.{ℕ, List, [], Option, Some, None, true, refl, rules}
+use Rattle.std.proofs.Common.{ℕ, List, [], Option, Some, None, refl, rules}
 use Rattle.scql_model.specs.Machine.{Machine}
 use Rattle.script.specs.Line.{statement_of}
 use Rattle.card.specs.LiveCard.{IsReadyAt, OnBench}
 use Rattle.card.specs.LiveCardLaws.{opens-at}
 use Rattle.eeprom.specs.Chip.{Chip}
-use Rattle.terminal.specs.Line.{refuses, rows_in}
-use Rattle.card_run.proofs.Sittings.{IsTold, faulty-read, heard-answered, heard-causes, heard-failed, heard-live, heard-memory, heard-refused, long-ends, read-ends, read-moments}
+use Rattle.terminal.specs.declared.refusal.Refusal.TheVariants.{TooLong}
+use Rattle.terminal.specs.Line.{refusal_in, rows_in}
+use Rattle.card_run.proofs.Sittings.{IsTold, faulty-read, heard-answered, heard-causes, heard-failed, heard-live, heard-memory, heard-refusal, long-ends, read-ends, read-moments}
 use Rattle.card_run.proofs.statements.answer_line.Given as given
 use Rattle.card_run.proofs.statements.answer_line.Goals as goal
 
@@ -29,22 +30,22 @@ told g = record { still = λ l. (g.met.B.Bench.output l.bench).0; marks = λ l. 
 pub returns-in-Some-clause-answered : goal.returns-in-Some-clause-answered
 returns-in-Some-clause-answered g c = λ sitting sits.
     rw (c.in-Some.is, c.heard.ensures)
-    (heard-answered (at g) (told_by g) (mark g) (chip g) (told g) sitting (Some c.in-Some.octets.now) (rows_in sitting.at (statement_of c.in-Some.octets.now)) (refuses sitting.at (statement_of c.in-Some.octets.now)) c.line.new.self c.line.result
+    (heard-answered (at g) (told_by g) (mark g) (chip g) (told g) sitting (Some c.in-Some.octets.now) (rows_in sitting.at (statement_of c.in-Some.octets.now)) (refusal_in sitting.at (statement_of c.in-Some.octets.now)) c.line.new.self c.line.result
     c.args.card.now c.line.new.link
     (read-ends (at g) (told_by g) sitting.at c.args.terminal.now.channel c.in-Some.octets.now c.line.new.self c.line.result c.args.card.now c.line.new.link (search rules) sits.channel (c.line.ensures.ends sitting.at.machine sits.at sits.knows))
     (read-moments sitting.at c.args.terminal.now.channel (mark g c.args.card.now) c.in-Some.octets.now (chip g c.args.card.now) (chip g c.line.new.link) (search rules) sits.channel (c.line.ensures.moments sitting.at.machine sits.at sits.knows))
     c.line.ensures.goes_on.lasts.marks)
 
-pub returns-in-Some-clause-refused : goal.returns-in-Some-clause-refused
-returns-in-Some-clause-refused g c = λ sitting sits.
+pub returns-in-Some-clause-refusal : goal.returns-in-Some-clause-refusal
+returns-in-Some-clause-refusal g c = λ sitting sits.
     rw (c.in-Some.is, c.heard.ensures)
-    (heard-refused (at g) (told_by g) sitting.at.machine _ _ (refuses sitting.at (statement_of c.in-Some.octets.now)) c.line.new.self c.line.result c.args.card.now c.line.new.link
+    (heard-refusal (at g) (told_by g) sitting.at.machine _ _ (refusal_in sitting.at (statement_of c.in-Some.octets.now)) c.line.new.self c.line.result c.args.card.now c.line.new.link
     (read-ends (at g) (told_by g) sitting.at c.args.terminal.now.channel c.in-Some.octets.now c.line.new.self c.line.result c.args.card.now c.line.new.link (search rules) sits.channel (c.line.ensures.ends sitting.at.machine sits.at sits.knows)))
 
 pub returns-in-Some-clause-failed : goal.returns-in-Some-clause-failed
 returns-in-Some-clause-failed g c = λ sitting sits.
     rw (c.in-Some.is, c.heard.ensures)
-    (heard-failed (at g) (told_by g) (mark g) (chip g) (told g) sitting (Some c.in-Some.octets.now) (rows_in sitting.at (statement_of c.in-Some.octets.now)) (refuses sitting.at (statement_of c.in-Some.octets.now)) c.line.new.self c.line.result
+    (heard-failed (at g) (told_by g) (mark g) (chip g) (told g) sitting (Some c.in-Some.octets.now) (rows_in sitting.at (statement_of c.in-Some.octets.now)) (refusal_in sitting.at (statement_of c.in-Some.octets.now)) c.line.new.self c.line.result
     c.args.card.now c.line.new.link
     (read-ends (at g) (told_by g) sitting.at c.args.terminal.now.channel c.in-Some.octets.now c.line.new.self c.line.result c.args.card.now c.line.new.link (search rules) sits.channel (c.line.ensures.ends sitting.at.machine sits.at sits.knows))
     (faulty-read sitting.at (statement_of c.in-Some.octets.now))
@@ -64,20 +65,20 @@ returns-in-Some-clause-causes g c =
 pub returns-in-None-clause-answered : goal.returns-in-None-clause-answered
 returns-in-None-clause-answered g c = λ sitting sits.
     rw (c.in-None.is, c.heard-in-None.ensures)
-    (heard-answered (at g) (told_by g) (mark g) (chip g) (told g) sitting None [] true c.refuse_long_line.new.self c.refuse_long_line.result c.args.card.now c.refuse_long_line.new.link
+    (heard-answered (at g) (told_by g) (mark g) (chip g) (told g) sitting None [] (Some TooLong) c.refuse_long_line.new.self c.refuse_long_line.result c.args.card.now c.refuse_long_line.new.link
     (long-ends (at g) (told_by g) sitting.at c.args.terminal.now.channel c.refuse_long_line.new.self c.refuse_long_line.result c.args.card.now c.refuse_long_line.new.link sits.channel (c.refuse_long_line.ensures.ends sitting.at.machine sits.at sits.knows))
     (c.refuse_long_line.ensures.moments sitting.at.machine sits.at) c.refuse_long_line.ensures.goes_on.lasts.marks)
 
-pub returns-in-None-clause-refused : goal.returns-in-None-clause-refused
-returns-in-None-clause-refused g c = λ sitting sits.
+pub returns-in-None-clause-refusal : goal.returns-in-None-clause-refusal
+returns-in-None-clause-refusal g c = λ sitting sits.
     rw (c.in-None.is, c.heard-in-None.ensures)
-    (heard-refused (at g) (told_by g) sitting.at.machine _ [] true c.refuse_long_line.new.self c.refuse_long_line.result c.args.card.now c.refuse_long_line.new.link
+    (heard-refusal (at g) (told_by g) sitting.at.machine _ [] (Some TooLong) c.refuse_long_line.new.self c.refuse_long_line.result c.args.card.now c.refuse_long_line.new.link
     (long-ends (at g) (told_by g) sitting.at c.args.terminal.now.channel c.refuse_long_line.new.self c.refuse_long_line.result c.args.card.now c.refuse_long_line.new.link sits.channel (c.refuse_long_line.ensures.ends sitting.at.machine sits.at sits.knows)))
 
 pub returns-in-None-clause-failed : goal.returns-in-None-clause-failed
 returns-in-None-clause-failed g c = λ sitting sits.
     rw (c.in-None.is, c.heard-in-None.ensures)
-    (heard-failed (at g) (told_by g) (mark g) (chip g) (told g) sitting None [] true c.refuse_long_line.new.self c.refuse_long_line.result c.args.card.now c.refuse_long_line.new.link
+    (heard-failed (at g) (told_by g) (mark g) (chip g) (told g) sitting None [] (Some TooLong) c.refuse_long_line.new.self c.refuse_long_line.result c.args.card.now c.refuse_long_line.new.link
     (long-ends (at g) (told_by g) sitting.at c.args.terminal.now.channel c.refuse_long_line.new.self c.refuse_long_line.result c.args.card.now c.refuse_long_line.new.link sits.channel (c.refuse_long_line.ensures.ends sitting.at.machine sits.at sits.knows))
     refl (c.refuse_long_line.ensures.moments sitting.at.machine sits.at) c.refuse_long_line.ensures.goes_on.lasts.marks)
 

@@ -3,6 +3,7 @@ use Rattle.std.proofs.Common.{false, refl, sym, ◌∙◌, ap}
 use Rattle.query_run.specs.QueryLines.{Asking, query_lines}
 use Rattle.query_run.specs.Statuses.{program_status}
 use Rattle.query_run.specs.Responding.{AsksSo}
+use Rattle.guide.proofs.Told.{told-then}
 use Rattle.program.proofs.Ended.{runs-through}
 use Rattle.query_run.proofs.Ran.{ends-all, ends-by, ends-long, ends-opened, prints-queries}
 use Rattle.query_run.proofs.run.answer_queries.Goals as goal
@@ -30,3 +31,8 @@ returns-clause-ends g c = ends-by c.run_lines-end.result.0 c.run_lines-end.resul
 
 pub returns-clause-opened : goal.returns-clause-opened
 returns-clause-opened g c = λ is. ends-opened c.run_lines-end.result.0 c.run_lines-end.result.1.refused (sym c.of_input-status.ensures ∙ ap program_status is)
+
+pub returns-clause-told : goal.returns-clause-told
+returns-clause-told g c =
+    told-then g.N.Person.lost g.N.Person.shown c.args.notices c.run_lines-end.result.1.notices c.take_leave.new.notices
+    (told-then g.N.Person.lost g.N.Person.shown c.args.notices c.greet.new.person c.run_lines-end.result.1.notices c.greet.ensures c.run_lines-end.ensures.goes_on.hears) c.take_leave.ensures

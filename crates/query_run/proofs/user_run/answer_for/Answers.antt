@@ -4,6 +4,7 @@ use Rattle.eeprom.specs.Chip.{Becomes}
 use Rattle.scql_model.specs.Database.{Database}
 use Rattle.scql_model.specs.Machine.{Machine}
 use Rattle.card_asking.specs.Presenting.{presented}
+use Rattle.guide.proofs.Told.{told-none}
 use Rattle.query_run.specs.Fetching.{ReadsAs}
 use Rattle.query_run.specs.Running.{PrintsQueries}
 use Rattle.query_run.specs.Statuses.{program_status}
@@ -42,3 +43,6 @@ returns-in-Ok-clause-stays g c = λ m at given left.
     (subst (λ (db : Database). StaysOpen db (g.D.CardLink.chip c.present.new.link) (g.D.CardLink.chip c.answer_queries.result.1)) p.1.like.committed
     (lines-open g.D.CardLink.chip g.D.CardLink.faults (presented m c.args.user.now).machine (program_status c.answer_queries.result.0) (g.S.Source.left c.args.source.now) (g.S.Source.left c.answer_queries.new.source) c.present.new.link c.answer_queries.result.1
     given left (c.answer_queries.ensures.runs (presented m c.args.user.now).machine (reads g c m at))))
+
+pub returns-in-Err-Mute-clause-told : goal.returns-in-Err-Mute-clause-told
+returns-in-Err-Mute-clause-told g c = told-none g.N.Person.lost g.N.Person.shown c.args.notices

@@ -6,6 +6,7 @@ use Rattle.card.specs.Making.{OpensToNone}
 use Rattle.query_run.specs.Statuses.{program_status}
 use Rattle.query_run.specs.UserRuns.{IsWithout, ReadsAll}
 use Rattle.query_run.specs.declared.status.QueryStatus.{QueryStatus}
+use Rattle.guide.proofs.Told.{told-none}
 use Rattle.query_run.proofs.UserRan.{without-of}
 use Rattle.query_run.proofs.user_run.run_query.Goals as goal
 
@@ -22,3 +23,6 @@ pub returns-in-Ok-clause-whole : goal.returns-in-Ok-clause-whole
 returns-in-Ok-clause-whole g c = λ whole.
     subst (λ (before : Option (List ℕ)). ReadsAll (program_status c.answer_on.result.0) c.args.source.now c.answer_on.new.source (g.S.Source.left c.args.source.now) (g.S.Source.left c.answer_on.new.source) before
     (g.B.Eeprom.chip c.answer_on.new.bench).still.given) (ap (λ (still : Still). still.given) c.open.ensures.recovers.store.keeps.still) (c.answer_on.ensures.whole whole)
+
+pub returns-in-Err-clause-told : goal.returns-in-Err-clause-told
+returns-in-Err-clause-told g c = told-none g.N.Person.lost g.N.Person.shown c.args.notices

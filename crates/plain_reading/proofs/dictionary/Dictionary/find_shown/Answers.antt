@@ -22,6 +22,6 @@ cut_to-requires g c =
 pub returns : goal.returns
 returns g c =
     let d = c.args.self.now in
-    rw (c.stamp.ensures, c.cut_to.ensures, c.values-values.ensures)
+    rw (c.stamp.ensures, ← g.met.R.Told.same_stamp d.database.now c.in_ok-found.found.now, c.cut_to.ensures, c.values-values.ensures)
     (shown-told (λ r. tells_of d.owner (g.R.Told.owned_by d.database.now r)) (g.R.Told.told d.database.now) d.columns.now c.args.cursor.now.columns c.args.cursor.now.conditions c.args.sought c.args.records.now
     (Some c.in_ok-found.found.now) (rw c.in_ok-found.was at c.find_record.ensures))

@@ -11,7 +11,7 @@ returns-in-Ok-clause-ends g c = λ m at knows.
     let over = c.in-Ok.ensures.over m at knows in
     closes-ends g.L.CardLink.is_at g.L.Outlet.given g.L.CardLink.is_live g.L.CardLink.faults g.L.Outlet.sink_faults g.L.CardLink.mark m before c.args.plan.now.statement c.in-Ok.closing c.carry.new.self c.close.result c.args.link.now c.carry.new.desk c.close.new.link
     (g.met.L.CardLink.valid c.args.link.now m at) c.carry.ensures.sent knows c.in-Ok.ensures.holds over
-    (rw (c.deref.ensures.0, c.closing_text.ensures, c.is_refusal.ensures) at c.close.ensures.closes) (c.close.ensures.gives.machine (meaning m before.channel c.args.plan.now.statement).machine over.at)
+    (rw (c.deref.ensures.0, c.closing_text.ensures, c.refusal_of.ensures) at c.close.ensures.closes) (c.close.ensures.gives.machine (meaning m before.channel c.args.plan.now.statement).machine over.at)
 
 pub returns-in-Ok-clause-moments : goal.returns-in-Ok-clause-moments
 returns-in-Ok-clause-moments g c = λ m at knows.

@@ -7,8 +7,9 @@ use Rattle.script.specs.declared.statement.Statement.{Statement}
 use Rattle.script.specs.Line.{statement_of}
 use Rattle.planner.specs.StatementLines.{TerminalState, read_effect, statement_lines}
 use Rattle.planner.specs.Text.{fault_text}
+use Rattle.terminal.specs.declared.refusal.Refusal.TheVariants.{Fault}
 use Rattle.terminal.specs.Holding.{Holding, Knows, terminal_at}
-use Rattle.terminal.specs.Line.{EndsSo, IsMoment, refuses, rows_in}
+use Rattle.terminal.specs.Line.{EndsSo, IsMoment, refusal_in, rows_in}
 use Rattle.card_asking.proofs.Moments.{leaves-all}
 use Rattle.terminal.proofs.Ended.{unread-ends, line-is, last-moment}
 use Rattle.terminal.proofs.terminal.Terminal.line.Goals as goal
@@ -16,9 +17,9 @@ use Rattle.terminal.proofs.terminal.Terminal.line.Goals as goal
 pub returns-in-Ok-clause-ends : goal.returns-in-Ok-clause-ends
 returns-in-Ok-clause-ends g c = rw (← c.self.view_is) (λ m at knows.
     let state = terminal_at m c.self.inside.channels.channel in
-    subst (λ (does : Effect TerminalState). EndsSo g.L.CardLink.is_at g.L.Outlet.given m does (rows_in state (statement_of c.args.line.now)) (refuses state (statement_of c.args.line.now)) c.run.new.self
+    subst (λ (does : Effect TerminalState). EndsSo g.L.CardLink.is_at g.L.Outlet.given m does (rows_in state (statement_of c.args.line.now)) (refusal_in state (statement_of c.args.line.now)) c.run.new.self
     c.run.result c.args.link.now c.run.new.link) (sym (line-is state c.args.line.now c.requires.short))
-    (subst (λ (r : Result Statement ScriptFault). EndsSo g.L.CardLink.is_at g.L.Outlet.given m (read_effect state r) (rows_in state r) (refuses state r) c.run.new.self
+    (subst (λ (r : Result Statement ScriptFault). EndsSo g.L.CardLink.is_at g.L.Outlet.given m (read_effect state r) (rows_in state r) (refusal_in state r) c.run.new.self
     c.run.result c.args.link.now c.run.new.link) (sym c.in-Ok.ensures.statement) (c.run.ensures.ends m at knows)))
 
 pub returns-in-Ok-clause-moments : goal.returns-in-Ok-clause-moments
@@ -33,11 +34,11 @@ returns-in-Ok-clause-moments g c =
 pub returns-in-Err-clause-ends : goal.returns-in-Err-clause-ends
 returns-in-Err-clause-ends g c = rw (← c.self.view_is) (λ m at knows.
     let state = terminal_at m c.self.inside.channels.channel in
-    subst (λ (does : Effect TerminalState). EndsSo g.L.CardLink.is_at g.L.Outlet.given m does (rows_in state (statement_of c.args.line.now)) (refuses state (statement_of c.args.line.now)) c.self.inside.channels
+    subst (λ (does : Effect TerminalState). EndsSo g.L.CardLink.is_at g.L.Outlet.given m does (rows_in state (statement_of c.args.line.now)) (refusal_in state (statement_of c.args.line.now)) c.self.inside.channels
     c.close.result c.args.link.now c.close.new.link) (sym (line-is state c.args.line.now c.requires.short))
-    (subst (λ (r : Result Statement ScriptFault). EndsSo g.L.CardLink.is_at g.L.Outlet.given m (read_effect state r) (rows_in state r) (refuses state r) c.self.inside.channels
+    (subst (λ (r : Result Statement ScriptFault). EndsSo g.L.CardLink.is_at g.L.Outlet.given m (read_effect state r) (rows_in state r) (refusal_in state r) c.self.inside.channels
     c.close.result c.args.link.now c.close.new.link) (sym c.in-Err.ensures.fault)
-    (unread-ends g.L.CardLink.is_at g.L.Outlet.given g.L.CardLink.is_live g.L.CardLink.faults g.L.Outlet.sink_faults m c.self.inside.channels (fault_text c.in-Err.fault) c.deref.result.now c.close.result c.args.link.now c.close.new.link
+    (unread-ends g.L.CardLink.is_at g.L.Outlet.given g.L.CardLink.is_live g.L.CardLink.faults g.L.Outlet.sink_faults m c.self.inside.channels (fault_text c.in-Err.fault) c.deref.result.now (Fault c.in-Err.fault) c.close.result c.args.link.now c.close.new.link
     (c.deref.ensures.0 ∙ c.fault_text.ensures) knows c.close.ensures.closes (c.close.ensures.gives.machine m at))))
 
 pub returns-in-Err-clause-moments : goal.returns-in-Err-clause-moments

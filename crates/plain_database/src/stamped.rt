@@ -1,0 +1,88 @@
+// Records whose stamps rise. A search for one by its stamp halves what is left at each turn.
+ghost use Rattle.std.specs.Prelude.{ℕ, ◌≡◌, ◌<◌, IfSome, filter, length, nat_lt, option_copied};
+ghost use Rattle.std.specs.List.{find, position};
+ghost use Rattle.eeprom.specs.Slots.{Rises, has};
+
+use scql_base::{Grant, Object, RowRecord, User};
+
+/// A record that has a stamp.
+pub trait Stamped: Drop {
+    /// The number of its stamp.
+    ghost stamp_of: { Self → ℕ };
+
+    /// Its stamp.
+    fn stamp(&self) -> u32
+        ensures { result ≡ stamp_of self.now };
+}
+
+impl Stamped for User {
+    ghost stamp_of = { λ user. user.stamp };
+
+    fn stamp(&self) -> u32 {
+        self.stamp
+    }
+}
+
+impl Stamped for Object {
+    ghost stamp_of = { λ object. object.stamp };
+
+    fn stamp(&self) -> u32 {
+        self.stamp
+    }
+}
+
+impl Stamped for Grant {
+    ghost stamp_of = { λ grant. grant.stamp };
+
+    fn stamp(&self) -> u32 {
+        self.stamp
+    }
+}
+
+impl Stamped for RowRecord {
+    ghost stamp_of = { λ row. row.stamp };
+
+    fn stamp(&self) -> u32 {
+        self.stamp
+    }
+}
+
+/// The place of the record of a stamp.
+pub(crate) fn place_of<R: Stamped>(records: &[R], stamp: u32) -> Option<usize>
+    requires rises { Rises R.stamp_of records.now }
+    ensures place { result ≡ position (has R.stamp_of stamp) records.now }
+    ensures within { IfSome result (λ at. at < length records.now) }
+{
+    records
+        .binary_search_by_key(&stamp, |record| record.stamp())
+        .ok()
+}
+
+/// The record of a stamp.
+pub(crate) fn find_stamped<R: Stamped>(records: &[R], stamp: u32) -> Option<&R>
+    requires rises { Rises R.stamp_of records.now }
+    ensures { option_copied result ≡ find (has R.stamp_of stamp) records.now }
+{
+    let place = place_of(records, stamp)?;
+    Some(&records[place])
+}
+
+/// The record of a stamp, and no other.
+pub(crate) fn with_stamp<R: Stamped>(records: &[R], stamp: u32) -> &[R]
+    requires rises { Rises R.stamp_of records.now }
+    ensures { result.now ≡ filter (has R.stamp_of stamp) records.now }
+{
+    match place_of(records, stamp) {
+        Some(place) => &records[place..place + 1],
+        None => &[],
+    }
+}
+
+/// The records behind that of a stamp.
+pub(crate) fn behind_stamp<R: Stamped>(records: &[R], stamp: u32) -> &[R]
+    requires rises { Rises R.stamp_of records.now }
+    ensures { result.now ≡ filter (λ r. nat_lt stamp (R.stamp_of r)) records.now }
+{
+    let from = records.partition_point(|record| record.stamp() <= stamp);
+    &records[from..]
+}
