@@ -16,6 +16,7 @@
   } while (0)
 
 static const uint8_t present_owner[] = {0x00, 0x14, 0x00, 0x80, 0x06, 0x05, 'O', 'W', 'N', 'E', 'R'};
+static const uint8_t create_table[] = {0x00, 0x10, 0x00, 0x80};
 static const uint8_t create_user[] = {0x00, 0x14, 0x00, 0x81, 0x07, 0x03, 'A', 'N', 'N', 0x01, 0x03, 0x00};
 
 static uint8_t reply[HUWAPIRE_LONGEST_REPLY], octets[2048], none[1];
@@ -49,6 +50,9 @@ static void full_handle(huwapire *card) {
   EXPECT(huwapire_image(card, octets, 1155) == HUWAPIRE_TOO_SHORT);
   EXPECT(huwapire_answer(card, present_owner, sizeof present_owner, reply, 257, &count) == HUWAPIRE_TOO_SHORT);
   answers(card, none, 0, 0x6700);
+  answers(card, octets, sizeof octets, 0x6D00);
+  /* the head of CREATE TABLE, and no data of it behind */
+  memcpy(octets, create_table, sizeof create_table);
   answers(card, octets, sizeof octets, 0x6700);
   answers(card, present_owner, sizeof present_owner, 0x9000);
   EXPECT(huwapire_writes(card, &count) == HUWAPIRE_DONE && count == 0);
