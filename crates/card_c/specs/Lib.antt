@@ -1,0 +1,2 @@
+pub mod HeldCard
+pub mod Owning

@@ -1,0 +1,72 @@
+// A card made, or opened, in a box of its own.
+ghost use Rattle.std.specs.Prelude.{◌≡◌, ◌⊎◌, ◌≤◌, ℕ, IfOk, OnErr, IfSome, IsErrOf};
+ghost use Rattle.eeprom.specs.StoreOf.{fewest_cells, most_cells};
+ghost use Rattle.scql_model.specs.Database.{Database, fresh};
+ghost use Rattle.scql_model.specs.Machine.{start};
+ghost use Rattle.scql_model.specs.Opens.{Opens};
+ghost use Rattle.card_c.specs.HeldCard.{IsCardAt, OpensByCuts};
+ghost use Rattle.card_c.specs.declared.status.TheConstants.{NO_MEMORY, NOT_A_CARD};
+
+use crate::held::Held;
+use crate::status::{NO_MEMORY, NOT_A_CARD};
+use card::{Card, OpenRefusal};
+use eeprom::{SteadyBench, image_size};
+use log_bench::LogBench;
+use std::alloc::Global;
+
+/// For how many writes of a command, and how many octets of them, room is taken beforehand. More is taken where a command makes more.
+const WRITES: usize = 64;
+
+const OCTETS: usize = 2048;
+
+/// A new card of so many cells, or none where there is no memory.
+pub fn made(alloc: Global, cells: u16) -> Option<Box<Held>>
+    requires few { fewest_cells ≤ cells }
+    requires many { cells ≤ most_cells }
+    ensures { IfSome result (λ held. IsCardAt held.value (start (fresh cells))) }
+{
+    let Ok(octets) = Vec::from_elem(alloc, 0xFF_u8, image_size(cells)) else {
+        return None;
+    };
+    let Ok(mut bench) = SteadyBench::new(alloc, octets, 0, 0) else {
+        return None;
+    };
+    let Ok(()) = Card::format(&mut bench, cells) else {
+        return None;
+    };
+    match opened(alloc, bench.image()) {
+        Ok(held) => Some(held),
+        Err(_) => None,
+    }
+}
+
+/// The card of an image, or the status that says why there is none.
+pub fn opened(alloc: Global, image: &[u8]) -> Result<Box<Held>, u32>
+    ensures opens { IfOk result (λ held. (db : Database) × Opens image.now db) }
+    ensures done { IfOk result (λ held. (db : Database) → Opens image.now db → IsCardAt held.value (start db)) }
+    ensures cuts { IfOk result (λ held. (db : Database) → Opens image.now db → OpensByCuts db image.now held.value.bench) }
+    ensures not_a_card { IsErrOf result NOT_A_CARD → (db : Database) → Opens image.now db → ⊥ }
+    ensures ends { OnErr result (IsErrOf result NOT_A_CARD ⊎ IsErrOf result NO_MEMORY) }
+{
+    let Ok(octets) = Vec::from_slice(alloc, image) else {
+        return Err(NO_MEMORY);
+    };
+    let Ok(mut bench) = LogBench::new(alloc, octets, WRITES, OCTETS) else {
+        return Err(NO_MEMORY);
+    };
+    match Card::open(alloc, &mut bench) {
+        Ok(card) => boxed(alloc, Held::new(card, bench)),
+        Err(OpenRefusal::NotACard) => Err(NOT_A_CARD),
+        Err(OpenRefusal::NoMemory | OpenRefusal::Fault) => Err(NO_MEMORY),
+    }
+}
+
+fn boxed(alloc: Global, held: Held) -> Result<Box<Held>, u32>
+    ensures held { IfOk result (λ boxed. boxed.value ≡ held) }
+    ensures ends { OnErr result (IsErrOf result NO_MEMORY) }
+{
+    match Box::new(alloc, held) {
+        Ok(boxed) => Ok(boxed),
+        Err(_) => Err(NO_MEMORY),
+    }
+}
