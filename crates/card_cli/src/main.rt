@@ -31,9 +31,10 @@ fn run_over(rt: &HostRuntime, path: &str, words: &[String]) -> Result<Status, En
         StdSource::new(rt.clone()?),
         stderr_where(rt, is_typed(rt, words)),
     );
+    let is_watched = is_watched(rt, words);
     let mut person = Watcher::of_session(
-        stderr_where(rt, is_watched(rt, words)),
-        rt.stdin().is_terminal(),
+        stderr_where(rt, is_watched),
+        is_watched && rt.stdin().is_terminal(),
         path,
     );
     Ok(run_card(rt.alloc(), words, &mut source, &mut bench, &mut person))
