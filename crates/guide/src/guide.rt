@@ -60,14 +60,15 @@ impl<D: Dialect + Drop> Guide<D> {
         ensures { ShowsSome P.lost P.shown person.old person.new }
     {
         self.lines.see();
-        person.show(self.foreword(line).as_slice());
+        if self.lines.is_watched() {
+            person.show(self.foreword(line).as_slice());
+        } else {
+            person.show(b"");
+        }
     }
 
     fn foreword(&self, line: Option<&[u8]>) -> Message {
         let mut message = Message::new();
-        if !self.lines.is_watched() {
-            return message;
-        }
         self.lines.put_margin(&mut message);
         let margin = message.len();
         if let Some(line) = line {
@@ -89,7 +90,11 @@ impl<D: Dialect + Drop> Guide<D> {
         if why.is_some() {
             self.lines.refuse();
         }
-        person.show(self.afterword(line, why, cells).as_slice());
+        if self.lines.is_watched() {
+            person.show(self.afterword(line, why, cells).as_slice());
+        } else {
+            person.show(b"");
+        }
     }
 
     fn afterword(
@@ -99,9 +104,6 @@ impl<D: Dialect + Drop> Guide<D> {
         cells: Option<Cells>,
     ) -> Message {
         let mut message = Message::new();
-        if !self.lines.is_watched() {
-            return message;
-        }
         self.lines.put_margin(&mut message);
         let margin = message.len();
         match line {
