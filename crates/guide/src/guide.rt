@@ -61,10 +61,18 @@ impl<D: Dialect + Drop> Guide<D> {
     {
         self.lines.see();
         if self.lines.is_watched() {
-            person.show(self.foreword(line).as_slice());
+            self.show_foreword(line, person);
         } else {
             person.show(b"");
         }
+    }
+
+    // In a function of its own that isn't inlined: what it clears as it is entered is then cleared only where somebody is there.
+    #[inline(never)]
+    fn show_foreword<P: Person>(&self, line: Option<&[u8]>, person: &mut P)
+        ensures { ShowsSome P.lost P.shown person.old person.new }
+    {
+        person.show(self.foreword(line).as_slice());
     }
 
     fn foreword(&self, line: Option<&[u8]>) -> Message {
@@ -91,10 +99,24 @@ impl<D: Dialect + Drop> Guide<D> {
             self.lines.refuse();
         }
         if self.lines.is_watched() {
-            person.show(self.afterword(line, why, cells).as_slice());
+            self.show_afterword(line, why, cells, person);
         } else {
             person.show(b"");
         }
+    }
+
+    // The same as for what is said before a line.
+    #[inline(never)]
+    fn show_afterword<P: Person>(
+        &mut self,
+        line: Option<&[u8]>,
+        why: Option<Why>,
+        cells: Option<Cells>,
+        person: &mut P,
+    )
+        ensures { ShowsSome P.lost P.shown person.old person.new }
+    {
+        person.show(self.afterword(line, why, cells).as_slice());
     }
 
     fn afterword(
