@@ -28,7 +28,7 @@ use Rattle.scql_model.specs.Opens.{Opens}
 use Rattle.row_index.specs.Index.{ArePlaces, HasRows, Index, Indexes}
 use Rattle.row_index.specs.Places.{numbered, place_in, place_of, place_slot, place_stamp, row_places}
 use Rattle.row_index.specs.declared.place.RowPlace.{RowPlace}
-use Rattle.row_index.proofs.Changes.{all-push, length-in_order}
+use Rattle.row_index.proofs.Changes.{length-in_order}
 use Rattle.row_index.proofs.Tables.{all-in_order}
 use Rattle.record_table.specs.AtRest.{IsAtRest}
 use Rattle.card.specs.Card.{HoldsSome}
@@ -83,6 +83,11 @@ stand-none records empty = rw empty (record { before = tt; apart = λ k. omega a
 later : (slot : ℕ) (places : List RowPlace) → AllByRecursion (λ place. place_slot place < slot) places → AllByRecursion (λ place. place_slot place < slot + 1) places
 later slot [] all = tt
 later slot (x ∷ xs) all = (omega (arith, all.0), later slot xs all.1)
+
+-- what holds of all and of one more
+all-push : {X : Type 0} (P : X → Type 0) (xs : List X) (x : X) → AllByRecursion P xs → P x → AllByRecursion P (xs ++ x ∷ [])
+all-push P [] x all here = (here, tt)
+all-push P (y ∷ ys) x all here = (all.0, all-push P ys x all.1 here)
 
 -- one slot more
 pub stand-next : (slot : ℕ) (v : Option (List ℕ)) (records next : List KeptRecord) → next ≡ records ++ cons_option (in_slot (record_in slot) v) [] → StandBefore slot records → StandBefore (slot + 1) next

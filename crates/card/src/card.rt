@@ -34,7 +34,7 @@ use apdu::Reply;
 use catalog_codec::{Counter, Record};
 use eeprom::{Eeprom, EepromFault, Heap};
 use record_store::{FormatRefusal, OpenRefusal, RecordOctets, Store};
-use scql_base::{Command, Name, Octets, Operation, Profile, StatusWord, User};
+use scql_base::{Command, Name, Octets, Profile, StatusWord, User};
 use std::marker::Model;
 
 /// A card, which answers commands over the EEPROM that it was opened on.
@@ -42,7 +42,7 @@ use std::marker::Model;
 pub struct Card {
     engine: Engine,
     // a place for the command that is answered
-    command: Command,
+    command: Box<Command, Heap>,
 }
 
 impl Model for Card {
@@ -101,12 +101,8 @@ impl Card {
     {
         let opened = open_records(alloc, bench)?;
         Ok(Card {
-            engine: Engine::new(opened.store, opened.index),
-            command: Command {
-                channel: 0,
-                operation: Operation::FetchNext,
-                le: None,
-            },
+            engine: Engine::new(opened.store, opened.index, opened.rooms),
+            command: opened.command,
         })
     }
 
@@ -160,7 +156,7 @@ impl Card {
         reply.body.clear();
         match self
             .engine
-            .word_of(bench, command, &mut self.command, reply)
+            .word_of(bench, command, &mut *self.command, reply)
         {
             Ok(word) => {
                 reply.word = word;

@@ -40,11 +40,12 @@ use crate::counting::count_records;
 use crate::engine::channels::channel_meant;
 use crate::found::{ChannelActor, Found};
 use crate::reading::{is_reading, read};
+use crate::rooms::{Rooms, first_sessions};
 use crate::session::Session;
 use apdu::Reply;
 use apdu_chain::{Chains, Taken};
 use db_access::present;
-use eeprom::{Eeprom, EepromFault};
+use eeprom::{Eeprom, EepromFault, Heap};
 use record_store::Store;
 use row_index::RowIndex;
 use scql_base::{Actor, Command, Name, Operation, PresentedUser, Row, StatusWord};
@@ -55,14 +56,14 @@ use std::marker::Model;
 pub(crate) struct Engine {
     store: Store,
     index: RowIndex,
-    sessions: [Option<Session>; 4],
-    chains: Chains,
+    sessions: Box<[Option<Session>; 4], Heap>,
+    chains: Box<Chains, Heap>,
     // the channel that has the open transaction
     transaction: Option<u8>,
-    found: Found,
+    found: Box<Found, Heap>,
     live: bool,
     // a place for the row that a reading command gives
-    row: Row,
+    row: Box<Row, Heap>,
 }
 
 impl Model for Engine {
@@ -72,26 +73,29 @@ impl Model for Engine {
 
     ghost Value = { Kept };
 
-    ghost view = { λ engine. record { store = engine.store; index = engine.index; sessions = sessions_of engine.sessions engine.chains; transaction = engine.transaction; found = engine.found; live = engine.live } };
+    ghost view = { λ engine. record { store = engine.store; index = engine.index; sessions = sessions_of engine.sessions.value engine.chains.value; transaction = engine.transaction; found = engine.found.value; live = engine.live } };
 
-    ghost invariant = { λ engine. (length engine.sessions ≡ 4) × (length engine.chains ≡ 4) };
+    ghost invariant = { λ engine. (length engine.sessions.value ≡ 4) × (length engine.chains.value ≡ 4) };
 }
 
 impl Engine {
-    /// One over a store that was opened. Channel 0 is open, without a user.
-    pub(crate) fn new(store: Store, index: RowIndex) -> Engine
+    /// One over a store that was opened, in these rooms. Channel 0 is open, without a user.
+    pub(crate) fn new(store: Store, index: RowIndex, rooms: Rooms) -> Engine
+        requires four { (length rooms.sessions.value ≡ 4) × (length rooms.chains.value ≡ 4) }
+        requires starts { (db : Database) → sessions_of rooms.sessions.value rooms.chains.value ≡ (machine.start db).sessions }
+        requires found { rooms.found.value ≡ record { last = None; scan = None } }
         ensures kept { result ≡ record { store = store; index = index; sessions = result.sessions; transaction = None; found = record { last = None; scan = None }; live = true } }
         ensures starts { (db : Database) → result.sessions ≡ (machine.start db).sessions }
     {
         Engine {
             store,
             index,
-            sessions: first_sessions(),
-            chains: Chains::new(),
+            sessions: rooms.sessions,
+            chains: rooms.chains,
             transaction: None,
-            found: Found::new(),
+            found: rooms.found,
             live: true,
-            row: Row::new(),
+            row: rooms.row,
         }
     }
 
@@ -119,7 +123,7 @@ impl Engine {
         if self.transaction.is_some() {
             self.undo();
         }
-        self.sessions = first_sessions();
+        *self.sessions = first_sessions();
         self.chains.clear();
         self.found.forget();
     }
@@ -287,7 +291,7 @@ impl Engine {
             actor,
             command,
             reply,
-            &mut self.row,
+            &mut *self.row,
             &mut self.found.scan,
         )?;
         self.found.last = Some(ChannelActor { channel, actor });
@@ -319,7 +323,7 @@ impl Engine {
     fn open_channels(&self) -> [bool; 4]
         ensures { result ≡ map is_some self.now.sessions }
     {
-        let [first, second, third, fourth] = &self.sessions;
+        let [first, second, third, fourth] = &*self.sessions;
         [
             first.is_some(),
             second.is_some(),
@@ -381,7 +385,7 @@ impl Engine {
             transaction,
             ..
         } = self;
-        let sessions = &*sessions;
+        let sessions = &**sessions;
         let Some(session) = &sessions[usize::from(channel)] else {
             unreachable!();
         };
@@ -451,11 +455,4 @@ fn channel_named(command: &[u8]) -> u8
         [class, ..] => class % 4,
         [] => 0,
     }
-}
-
-// Channel 0 alone is open, without a user.
-fn first_sessions() -> [Option<Session>; 4]
-    ensures { (db : Database) → sessions_of result (None ∷ None ∷ None ∷ None ∷ []) ≡ (machine.start db).sessions }
-{
-    [Some(Session::new(None)), None, None, None]
 }

@@ -14,6 +14,7 @@ mod live_card;
 mod opening;
 mod outcome;
 mod reading;
+mod rooms;
 mod session;
 mod slot_card;
 mod slot_record;

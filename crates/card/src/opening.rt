@@ -20,20 +20,26 @@ ghost use Rattle.card.specs.Card.{HoldsSome};
 ghost use Rattle.scql_base.specs.declared.records.TheConstants.RowRecord.{LONGEST};
 ghost use Rattle.card.specs.KeptRecords.{places_in, stamp_of};
 ghost use Rattle.card.specs.Opening.{PassTest, ReadsCard, is_admitted, record_in};
+ghost use Rattle.card.specs.Sessions.{sessions_of};
+ghost use Rattle.scql_model.specs.Machine.{start};
 
 use crate::kept_records::KeptRecords;
+use crate::rooms::{Rooms, room_for_a_command};
 use crate::slot_record::SlotRecord;
 use crate::validity::are_valid;
 use eeprom::{Eeprom, Heap};
 use record_store::{OpenRefusal, Opening, RecordOctets, Store};
 use row_index::{RowIndex, RowPlace};
+use scql_base::Command;
 use std::alloc::AllocError;
 
-/// A store that was opened, and the index of its rows.
+/// A store that was opened, the index of its rows, and the rooms of a card over it.
 #[derive(Drop)]
 pub(crate) struct Opened {
     pub store: Store,
     pub index: RowIndex,
+    pub rooms: Rooms,
+    pub command: Box<Command, Heap>,
 }
 
 // What was found in the slots so far.
@@ -62,6 +68,9 @@ pub(crate) fn open_records<B: Eeprom>(alloc: Heap, bench: &mut B) -> Result<Open
     ensures holds { IfOk result (λ opened. HoldsSome opened.store Committed (B.chip bench.new)) }
     ensures index { IfOk result (λ opened. Indexes opened.index opened.store (B.chip bench.new)) }
     ensures index_idle { IfOk result (λ opened. opened.index.begun ≡ false) }
+    ensures four { IfOk result (λ opened. (length opened.rooms.sessions.value ≡ 4) × (length opened.rooms.chains.value ≡ 4)) }
+    ensures starts { IfOk result (λ opened. (db : Database) → sessions_of opened.rooms.sessions.value opened.rooms.chains.value ≡ (start db).sessions) }
+    ensures nothing_found { IfOk result (λ opened. opened.rooms.found.value ≡ record { last = None; scan = None }) }
     ensures opens { OnOk result (IfSome (B.chip bench.old).image (λ image. (db : Database) × Opens image db)) }
     // Where the gate is closed as many octets are read as begin the image, and as the cells of the records have.
     ensures octets_read { OnOk result (IfSome (B.chip bench.old).image (λ image. (db : Database) → Opens image db → is_gate_open image ≡ false
@@ -75,6 +84,8 @@ pub(crate) fn open_records<B: Eeprom>(alloc: Heap, bench: &mut B) -> Result<Open
     let mut opening = Opening::new(alloc, bench)?;
     let cells = opening.cells();
     let mut room = Room::for_cells(alloc, cells)?;
+    let rooms = Rooms::new(alloc)?;
+    let command = room_for_a_command(alloc)?;
     let mut gathered = Gathered {
         counter: None,
         records: KeptRecords::for_cells(alloc, cells)?,
@@ -89,7 +100,12 @@ pub(crate) fn open_records<B: Eeprom>(alloc: Heap, bench: &mut B) -> Result<Open
         return Err(OpenRefusal::NotACard);
     };
     let index = room.index_of(&records);
-    Ok(Opened { store, index })
+    Ok(Opened {
+        store,
+        index,
+        rooms,
+        command,
+    })
 }
 
 impl Room {

@@ -61,7 +61,8 @@ pub(crate) fn open_card<B: Bench>(alloc: Heap, form: Form, bench: &mut B) -> Res
     }
 }
 
-// Makes the card that the words ask for, where it isn't to be there already.
+// Makes the card that the words ask for, where it isn't to be there already. It isn't inlined, so that its places are gone once the card is opened.
+#[inline(never)]
 fn prepare<B: Bench>(form: Form, bench: &mut B) -> Result<(), FormatRefusal>
     requires { IsWithinLimits form }
     ensures begins { OnOk result ((db : Database) → Begins form (B.chip bench.old) db → IsOpenTo (B.chip bench.new) db) }

@@ -29,7 +29,7 @@ use terminal::{LineEnd, Refusal, Terminal};
 /// A terminal with its card, which is asked by statements, whether one was refused so far, and a person who is told of them.
 #[derive(Drop)]
 pub(crate) struct StatementCard<'a, 'b, B: Bench, P: Person> {
-    pub(crate) terminal: Terminal,
+    pub(crate) terminal: &'b mut Terminal,
     pub(crate) card: LiveCard<'a, B>,
     pub(crate) refused: bool,
     pub(crate) guide: &'b mut Guide<Statements>,
@@ -61,7 +61,7 @@ impl<'a, 'b, B: Bench, P: Person> Responder for StatementCard<'a, 'b, B, P> {
 
     ghost language = { term_lines };
 
-    ghost is_at = { λ r sitting. SitsSo (λ l m. IsReadyAt l.card (B.chip l.bench) m) r.terminal r.card r.refused sitting };
+    ghost is_at = { λ r sitting. SitsSo (λ l m. IsReadyAt l.card (B.chip l.bench) m) r.terminal.now r.card r.refused sitting };
 
     ghost is_ready = { λ r. IsTrue r.card.card.live };
 
@@ -76,7 +76,7 @@ impl<'a, 'b, B: Bench, P: Person> Responder for StatementCard<'a, 'b, B, P> {
 
     fn answer_line(&mut self, line: Option<&[u8]>) -> Result<(), LineStop> {
         self.guide.before(line, self.person);
-        let refusal = answer_line(&mut self.terminal, &mut self.card, line)?;
+        let refusal = answer_line(self.terminal, &mut self.card, line)?;
         self.refused |= refusal.is_some();
         self.guide
             .behind(line, refusal.map(why_of), None, self.person);
@@ -117,13 +117,31 @@ pub(crate) fn answer_statements<S: Source, B: Bench, P: Person>(
 {
     let presence = person.presence();
     let mut guide = Guide::new(Statements::new(), presence);
-    guide.greet(cells_of(&card, bench, presence), person);
+    greet(&card, bench, presence, &mut guide, person);
     let status = carry_out(card, source, bench, &mut guide, person);
     take_leave(status, &mut guide, person);
     status
 }
 
+// Greets a person, who is told how many cells of the card are used. Neither this nor the leave is inlined, so that what is put together for
+// either has its place only until it is said.
+#[inline(never)]
+fn greet<B: Bench, P: Person>(
+    card: &Card,
+    bench: &mut B,
+    presence: Presence,
+    guide: &mut Guide<Statements>,
+    person: &mut P,
+)
+    requires { IsReady card.now (B.chip bench.old) }
+    ensures same { bench.new ≡ bench.old }
+    ensures told { ShowsSome P.lost P.shown person.old person.new }
+{
+    guide.greet(cells_of(card, bench, presence), person);
+}
+
 // Says how many lines were refused, where all of them were read.
+#[inline(never)]
 fn take_leave<P: Person>(status: Status, guide: &mut Guide<Statements>, person: &mut P)
     ensures { ShowsSome P.lost P.shown person.old person.new }
 {
@@ -154,10 +172,10 @@ fn carry_out<S: Source, B: Bench, P: Person>(
     ensures behind { KeepsBehind (λ was. card.store.chains.cells) (B.chip bench.old) (B.chip bench.new) }
     ensures told { ShowsSome P.lost P.shown person.old person.new }
 {
-    let terminal = Terminal::new();
+    let mut terminal = Terminal::new();
     let card = LiveCard::new(card, bench);
     let statements = StatementCard {
-        terminal,
+        terminal: &mut terminal,
         card,
         refused: false,
         guide,

@@ -20,7 +20,7 @@ ghost use Rattle.db_access.specs.Depending.{is_for, is_object_of, is_user_of};
 
 use eeprom::{Eeprom, EepromFault};
 use privilege_table::is_owned_by;
-use record_store::{Found, Side, Store};
+use record_store::{Found, Side, Store, Tag};
 use record_table::{Stop, Wanted, find_by, refused, remove, remove_each};
 use scql_base::{Actor, Grant, Name, Object, Profile, StatusWord, User};
 use user_table::find_name;
@@ -124,6 +124,10 @@ impl Wanted<User> for UserOf {
     fn is(&self, entry: &User) -> bool {
         entry.owner == self.0
     }
+
+    fn tag(&self) -> Option<Tag> {
+        None
+    }
 }
 
 // The objects that the user of a stamp owns.
@@ -136,6 +140,10 @@ impl Wanted<Object> for ObjectOf {
     fn is(&self, entry: &Object) -> bool {
         entry.owner == self.0
     }
+
+    fn tag(&self) -> Option<Tag> {
+        None
+    }
 }
 
 // The grants to the user of a stamp.
@@ -147,5 +155,9 @@ impl Wanted<Grant> for GrantedTo {
 
     fn is(&self, entry: &Grant) -> bool {
         entry.grantee == self.0
+    }
+
+    fn tag(&self) -> Option<Tag> {
+        None
     }
 }

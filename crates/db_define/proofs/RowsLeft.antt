@@ -1,5 +1,5 @@
 -- The rows of a table are taken out of the slots in which an index has them: which slots are left, and which places.
-use Rattle.std.proofs.Common.{◌≡◌, ℕ, zero, suc, ◌+◌, ◌≤◌, ◌&&◌, ◌||◌, Bool, true, false, cond, not, eqb, List, [], ◌∷◌, ◌++◌, length, count_by, Option, Some, None, get_or, refl, sym, ap, ◌∙◌, inl, inr, arith, subst}
+use Rattle.std.proofs.Common.{◌≡◌, ℕ, zero, suc, ◌+◌, ◌≤◌, ◌&&◌, ◌||◌, Bool, true, false, cond, not, eqb, List, [], ◌∷◌, ◌++◌, length, map, count_by, Option, Some, None, get_or, refl, sym, ap, ◌∙◌, inl, inr, arith, subst}
 use Rattle.std.specs.List.{filter, list_any, cons_option, AllByRecursion}
 use Rattle.std.specs.Option.{option_map_or}
 use Rattle.std.specs.Prelude.{option_map}
@@ -20,24 +20,25 @@ use Rattle.row_index.specs.Index.{HasRows}
 use Rattle.row_index.specs.Places.{is_in_table, place_of, place_slot, place_stamp, row_places}
 use Rattle.row_index.specs.declared.place.RowPlace.{RowPlace}
 use Rattle.row_index.proofs.ChangedPlaces.{filter-in_order_all}
+use Rattle.row_index.proofs.SlotPlaces.{list_any-map}
 use Rattle.row_index.proofs.Scans.{lower_part, places_from, row_in_slot, slots_from}
 use Rattle.db_define.specs.Dependent.{is_in}
 use Rattle.record_table.specs.Swept.{all_without, has_passing, without_passing}
 use Rattle.record_table.proofs.LeftRecords.{has-of}
 
--- the slots of some places are emptied
-abbrev pub without_places : List RowPlace → Slots → Slots
-without_places [] slots = slots
-without_places (place ∷ places) slots = without_places places (set slots place.slot None)
+-- the slots of some numbers are emptied
+abbrev pub without_slots : List ℕ → Slots → Slots
+without_slots [] slots = slots
+without_slots (number ∷ numbers) slots = without_slots numbers (set slots number None)
 
 -- and one more
-pub without_places-more : (places : List RowPlace) (place : RowPlace) (slots : Slots) → without_places (places ++ place ∷ []) slots ≡ set (without_places places slots) place.slot None
-without_places-more [] place slots = refl
-without_places-more (first ∷ places) place slots = without_places-more places place (set slots first.slot None)
+pub without_slots-more : (numbers : List ℕ) (number : ℕ) (slots : Slots) → without_slots (numbers ++ number ∷ []) slots ≡ set (without_slots numbers slots) number None
+without_slots-more [] number slots = refl
+without_slots-more (first ∷ numbers) number slots = without_slots-more numbers number (set slots first None)
 
-length-without_places : (places : List RowPlace) (slots : Slots) → length (without_places places slots) ≡ length slots
-length-without_places [] slots = refl
-length-without_places (place ∷ places) slots = length-without_places places (set slots place.slot None) ∙ length-set slots place.slot None
+length-without_slots : (numbers : List ℕ) (slots : Slots) → length (without_slots numbers slots) ≡ length slots
+length-without_slots [] slots = refl
+length-without_slots (number ∷ numbers) slots = length-without_slots numbers (set slots number None) ∙ length-set slots number None
 
 pub set-none : (slots : Slots) (slot : ℕ) → get_or (set slots slot None) slot None ≡ None
 set-none [] slot = refl
@@ -48,17 +49,21 @@ none-either : {X : Type 0} (b : Bool) → ◌≡◌ {A = Option X} (cond b None 
 none-either true = refl
 none-either false = refl
 
--- what a slot has then: nothing, if one of the places is there, and else what it had
-at-without_places : (places : List RowPlace) (slots : Slots) (slot : ℕ) → get_or (without_places places slots) slot None ≡ cond (list_any (has place_slot slot) places) None (get_or slots slot None)
-at-without_places [] slots slot = refl
-at-without_places (place ∷ places) slots slot =
-    let rest = at-without_places places (set slots place.slot None) slot in
-    elim (cases_Bool (eqb place.slot slot)) [
-      | inl t ↦ (let same = eqb-true place.slot slot t in
-          let none : get_or (set slots place.slot None) slot None ≡ None = subst (λ n. get_or (set slots place.slot None) n None ≡ None) same (set-none slots place.slot) in
-          rw t (rest ∙ ap (cond (list_any (has place_slot slot) places) None) none ∙ none-either (list_any (has place_slot slot) places)))
-      | inr f ↦ (let other = eqb-false place.slot slot f in
-          rw f (rest ∙ ap (cond (list_any (has place_slot slot) places) None) (get_or-set_other slots place.slot slot None None (λ (same : slot ≡ place.slot). other (sym same)))))
+-- whether a slot is of one of some numbers
+abbrev pub is_numbered : ℕ → List ℕ → Bool
+is_numbered slot numbers = list_any (λ number. eqb number slot) numbers
+
+-- what a slot has then: nothing, if it is of one of the numbers, and else what it had
+at-without_slots : (numbers : List ℕ) (slots : Slots) (slot : ℕ) → get_or (without_slots numbers slots) slot None ≡ cond (is_numbered slot numbers) None (get_or slots slot None)
+at-without_slots [] slots slot = refl
+at-without_slots (number ∷ numbers) slots slot =
+    let rest = at-without_slots numbers (set slots number None) slot in
+    elim (cases_Bool (eqb number slot)) [
+      | inl t ↦ (let same = eqb-true number slot t in
+          let none : get_or (set slots number None) slot None ≡ None = subst (λ n. get_or (set slots number None) n None ≡ None) same (set-none slots number) in
+          rw t (rest ∙ ap (cond (is_numbered slot numbers) None) none ∙ none-either (is_numbered slot numbers)))
+      | inr f ↦ (let other = eqb-false number slot f in
+          rw f (rest ∙ ap (cond (is_numbered slot numbers) None) (get_or-set_other slots number slot None None (λ (same : slot ≡ number). other (sym same)))))
     ]
 
 -- some element that passes one test passes another
@@ -100,22 +105,27 @@ any-in_table table (suc slot) first (entry ∷ slots) =
     one None rest = rest
     one (Some row) rest = rw (and_right (is_in_table table (place_of first row)) (has place_slot (first + suc slot) (place_of first row)) (ne_eqb first (first + suc slot) (omega arith))) rest
 
-pub at-places : (table slot : ℕ) (slots : Slots) → list_any (has place_slot slot) (filter (is_in_table table) (row_places slots)) ≡ has_passing row_kind (is_in table) (get_or slots slot None)
-at-places table slot slots =
-    any-filter (has place_slot slot) (is_in_table table) (row_places slots)
+-- the slots of the rows of a table
+abbrev pub slots_in : ℕ → Slots → List ℕ
+slots_in table slots = map place_slot (filter (is_in_table table) (row_places slots))
+
+pub at-slots : (table slot : ℕ) (slots : Slots) → is_numbered slot (slots_in table slots) ≡ has_passing row_kind (is_in table) (get_or slots slot None)
+at-slots table slot slots =
+    list_any-map (λ number. eqb number slot) place_slot (filter (is_in_table table) (row_places slots))
+    ∙ any-filter (has place_slot slot) (is_in_table table) (row_places slots)
     ∙ list_any-in_order place_stamp (λ place. is_in_table table place && has place_slot slot place) (places_from 0 slots)
     ∙ subst (λ n. list_any (λ place. is_in_table table place && has place_slot n place) (places_from 0 slots) ≡ has_passing row_kind (is_in table) (get_or slots slot None)) (less_zero slot) (any-in_table table slot 0 slots)
   where
     less_zero : (n : ℕ) → 0 + n ≡ n
     less_zero n = omega arith
 
--- The slots of a table's places are emptied: its rows are gone, and all else stays.
-pub slots-without_table : (table : ℕ) (slots : Slots) → without_places (filter (is_in_table table) (row_places slots)) slots ≡ all_without row_kind (is_in table) slots
+-- The slots of a table's rows are emptied: these are gone, and all else stays.
+pub slots-without_table : (table : ℕ) (slots : Slots) → without_slots (slots_in table slots) slots ≡ all_without row_kind (is_in table) slots
 slots-without_table table slots =
-    let places = filter (is_in_table table) (row_places slots) in
-    ext_get_or None (without_places places slots) (all_without row_kind (is_in table) slots) (length-without_places places slots ∙ sym (length-map slots (without_passing row_kind (is_in table))))
-    (λ slot within. at-without_places places slots slot
-    ∙ ap (λ (b : Bool). cond b None (get_or slots slot None)) (at-places table slot slots)
+    let numbers = slots_in table slots in
+    ext_get_or None (without_slots numbers slots) (all_without row_kind (is_in table) slots) (length-without_slots numbers slots ∙ sym (length-map slots (without_passing row_kind (is_in table))))
+    (λ slot within. at-without_slots numbers slots slot
+    ∙ ap (λ (b : Bool). cond b None (get_or slots slot None)) (at-slots table slot slots)
     ∙ sym (get_or-map (without_passing row_kind (is_in table)) slots slot None))
 
 -- of the places those are left that aren't of the table

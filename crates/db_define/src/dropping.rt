@@ -19,7 +19,7 @@ ghost use Rattle.record_table.specs.Swept.{all_without, has_passing};
 use crate::dropped::Dropped;
 use eeprom::{Eeprom, EepromFault};
 use privilege_table::{find_seen, is_owned_by};
-use record_store::{Found, Side, Store};
+use record_store::{Found, Side, Store, Tag};
 use record_table::{Stop, Wanted, find_by, refused, remove, remove_each};
 use scql_base::{Actor, Grant, Name, Object, ObjectKind, StatusWord};
 
@@ -115,6 +115,10 @@ impl Wanted<Object> for ViewOn {
             _ => false,
         }
     }
+
+    fn tag(&self) -> Option<Tag> {
+        None
+    }
 }
 
 // The grants on the object of a stamp.
@@ -126,5 +130,9 @@ impl Wanted<Grant> for OnObject {
 
     fn is(&self, entry: &Grant) -> bool {
         entry.object == self.0
+    }
+
+    fn tag(&self) -> Option<Tag> {
+        None
     }
 }

@@ -35,8 +35,8 @@ pub(crate) fn remove_rows(store: &mut Store, table: u32, index: &mut RowIndex)
     ensures entries { (chip : Chip) → Indexes index.old store.old chip → IfSome (slots_of store.old Working chip)
         (λ slots. entries store.new ≤ entries store.old + count_by (has_passing row_kind (is_in table)) slots) }
 {
-    for place in index.rows_of(Side::Working, table) {
-        remove(store, place.slot);
+    for slot in index.rows_of(Side::Working, table) {
+        remove(store, *slot);
     }
     index.table_removed(table);
 }

@@ -38,6 +38,7 @@ use Rattle.scql_model.proofs.KnownNames.{IsKnown, IsKnown-resolved_of, among-wit
 use Rattle.db_read.specs.Answered.{AreCostsOf, Chooses, selectable}
 use Rattle.db_read.specs.Chosen.{are_rising, can_cut, can_show, chosen_rows, costs_shown, is_chosen, is_shown, rows_shown, shown_row}
 use Rattle.db_read.specs.Costs.{row_costs}
+use Rattle.db_read.specs.Scan.{GoesOver, TableRows}
 use Rattle.db_read.specs.Told.{Tells, costs_of}
 use Rattle.db_read.specs.declared.choosing.Choice.TheVariants.{OfTable}
 use Rattle.db_read.specs.declared.choosing.Chosen.{Chosen}
@@ -71,10 +72,11 @@ row-limits x fits =
     let parts = and_parts (is_count_of_columns (length x.row) && list_all is_narrow x.row) (nat_le (row_size x.row) 1020) row in
     ((and_parts (is_count_of_columns (length x.row)) (list_all is_narrow x.row) parts.0).1, leb-true (row_size x.row) 1020 parts.1)
 
--- no conditions are bound as none
-pub binds-none : (columns : Columns) (bound : List Placed) (conditions : List Condition) → bound ≡ [] → length conditions ≤ 0 → Binds bound columns conditions
-binds-none columns bound [] none few = λ values. rw none refl
-binds-none columns bound (condition ∷ conditions) none few = absurd (omega (arith, few))
+-- the object that an actor may select from stands under its own stamp
+pub stamp-found : (store : Held) (side : Side) (chip : Chip) (db : Database) (actor : Actor) (c : Cursor) (o : Object) → IsHeld store side chip db → selectable db actor (seen_stamped db actor c.object) ≡ Ok o → object_stamped db.objects o.stamp ≡ Some o
+stamp-found store side chip db actor c o held selects =
+    let at = object-stamped db actor c.object o held.valid (selectable-parts db actor (seen_stamped db actor c.object) o selects).0 in
+    ap (object_stamped db.objects) (own-stamp db c.object o at) ∙ at
 
 module _ (store : Held) (side : Side) (chip : Chip) (db : Database) (actor : Actor) (c : Cursor) (o : Object) (held : IsHeld store side chip db) (cursor : IsCursorOf db c)
     (selects : selectable db actor (seen_stamped db actor c.object) ≡ Ok o) where
@@ -84,9 +86,8 @@ module _ (store : Held) (side : Side) (chip : Chip) (db : Database) (actor : Act
   own : o.stamp ≡ c.object
   own = own-stamp db c.object o at-object
 
-  -- the object stands under its own stamp
-  pub at-stamp : object_stamped db.objects o.stamp ≡ Some o
-  at-stamp = ap (object_stamped db.objects) own ∙ at-object
+  at-stamp : object_stamped db.objects o.stamp ≡ Some o
+  at-stamp = stamp-found store side chip db actor c o held selects
 
   named-own : are_named_among (columns_of o.kind) c.columns c.conditions ≡ true
   named-own = subst (λ (found : Option Object). IfSome found (λ x. are_named_among (columns_of x.kind) c.columns c.conditions ≡ true)) at-object cursor.named
@@ -162,18 +163,43 @@ module _ (store : Held) (side : Side) (chip : Chip) (db : Database) (actor : Act
         costs_are = λ on_table. costs-are;
       }
 
-  -- what is chosen of a table
-  pub Chooses-table : (columns : Columns) (chosen : Chosen) → o.kind ≡ Table columns → chosen.table ≡ o.stamp → chosen.filters.now ≡ [] → ArePlaces chosen.places.now.items columns c.columns → Binds chosen.conditions.now columns c.conditions
-      → length c.columns ≤ 15 → Chooses db actor c (Tells (OfTable chosen) store side chip) (costs_of (OfTable chosen) (slots_of store side chip))
-  unfolding model.resolved_of
-  Chooses-table columns chosen kind table none places binds few =
-      let seen : model.Resolved = record { table = o.stamp; all = columns; columns = columns; filters = [] } in
-      let resolved : model.resolved_of db.objects o.stamp ≡ Some seen = rw (at-stamp, kind) refl in
-      Chooses-chosen seen resolved chosen table (subst (λ (filters : List (List Placed)). AreBound filters columns []) (sym none) tt) places binds few
+-- what was found for a cursor is what it chooses
+pub Chooses-over : (store : Held) (side : Side) (chip : Chip) (db : Database) (actor : Actor) (c : Cursor) (p : TableRows) → IsHeld store side chip db → IsCursorOf db c → GoesOver db actor c p
+    → (chosen : Chosen) → chosen.table ≡ p.table → chosen.places.now.items ≡ p.places → chosen.conditions.now ≡ p.conditions → chosen.filters.now ≡ p.filters
+    → Chooses db actor c (Tells (OfTable chosen) store side chip) (costs_of (OfTable chosen) (slots_of store side chip))
+Chooses-over store side chip db actor c p held cursor over chosen table places conditions filters =
+    let all = over.seen.all in
+    Chooses-chosen store side chip db actor c over.object held cursor over.selects over.seen over.resolved chosen (table ∙ over.table)
+    (subst (λ (x : List (List Placed)). AreBound x all over.seen.filters) (sym filters) over.filters) (subst (λ (x : List ℕ). ArePlaces x all c.columns) (sym places) over.places)
+    (subst (λ (x : List Placed). Binds x all c.conditions) (sym conditions) over.conditions) over.few
 
-  -- what is chosen of the table under a view
-  pub Chooses-view : (answer : Resolved) (resolves : Resolves db.objects o.stamp answer) (chosen : Chosen) → chosen.table ≡ answer.table → chosen.filters.now ≡ answer.filters.items → ArePlaces chosen.places.now.items answer.all c.columns
-      → Binds chosen.conditions.now answer.all c.conditions → length c.columns ≤ 15 → Chooses db actor c (Tells (OfTable chosen) store side chip) (costs_of (OfTable chosen) (slots_of store side chip))
-  Chooses-view answer resolves chosen table filters places binds few =
-      Chooses-chosen resolves.is resolves.resolved chosen (table ∙ resolves.stands.table) (subst (λ (x : List (List Placed)). AreBound x resolves.is.all resolves.is.filters) (sym filters) resolves.stands.filters)
-      (subst (λ (all : Columns). ArePlaces chosen.places.now.items all c.columns) resolves.stands.all places) (subst (λ (all : Columns). Binds chosen.conditions.now all c.conditions) resolves.stands.all binds) few
+module _ (store : Held) (side : Side) (chip : Chip) (db : Database) (actor : Actor) (c : Cursor) (o : Object) (held : IsHeld store side chip db) (selects : selectable db actor (seen_stamped db actor c.object) ≡ Ok o) (p : TableRows) where
+  -- what is found of a table
+  pub over-table : (columns : Columns) → o.kind ≡ Table columns → p.table ≡ o.stamp → p.filters ≡ [] → ArePlaces p.places columns c.columns → Binds p.conditions columns c.conditions → length c.columns ≤ 15 → GoesOver db actor c p
+  unfolding model.resolved_of
+  over-table columns kind table none places binds few = record {
+    object = o;
+    seen = record { table = o.stamp; all = columns; columns = columns; filters = [] };
+    selects = selects;
+    resolved = rw (stamp-found store side chip db actor c o held selects, kind) refl;
+    table = table;
+    places = places;
+    conditions = binds;
+    filters = subst (λ (filters : List (List Placed)). AreBound filters columns []) (sym none) tt;
+    few = few;
+  }
+
+  -- what is found of the table under a view
+  pub over-view : (answer : Resolved) (resolves : Resolves db.objects o.stamp answer) → p.table ≡ answer.table → p.filters ≡ answer.filters.items → ArePlaces p.places answer.all c.columns → Binds p.conditions answer.all c.conditions → length c.columns ≤ 15
+      → GoesOver db actor c p
+  over-view answer resolves table filters places binds few = record {
+    object = o;
+    seen = resolves.is;
+    selects = selects;
+    resolved = resolves.resolved;
+    table = table ∙ resolves.stands.table;
+    places = subst (λ (all : Columns). ArePlaces p.places all c.columns) resolves.stands.all places;
+    conditions = subst (λ (all : Columns). Binds p.conditions all c.conditions) resolves.stands.all binds;
+    filters = subst (λ (x : List (List Placed)). AreBound x resolves.is.all resolves.is.filters) (sym filters) resolves.stands.filters;
+    few = few;
+  }

@@ -1,36 +1,45 @@
--- What a cursor's moves over all rows of a table find, and whom it is right for.
-use Rattle.std.specs.Prelude.{◌≡◌, ℕ, ◌≤◌, List, [], length, Option, Ok, IfSome}
+-- What a cursor's moves over the rows of a table or a view find, and whom it is right for.
+use Rattle.std.specs.Prelude.{◌≡◌, ℕ, ◌≤◌, Bool, if◌then◌else◌, List, length, Option, Some, None, Ok, IfSome}
 use Rattle.scql_base.specs.declared.cursor.Cursor.{Cursor}
 use Rattle.scql_base.specs.declared.name_list.TheConstants.NameList.{MOST}
 use Rattle.scql_base.specs.declared.records.Object.{Object}
-use Rattle.scql_base.specs.declared.records.ObjectKind.TheVariants.{Table}
 use Rattle.scql_base.specs.declared.words.Actor.{Actor}
 use Rattle.scql_model.specs.Database.{Database}
-use Rattle.scql_model.specs.Matching.{Columns}
+use Rattle.scql_model.specs.Resolving as model
+use Rattle.scql_model.specs.Resolving.{resolved_of}
 use Rattle.scql_model.specs.Rights.{seen_stamped}
-use Rattle.views.specs.Resolved.{ArePlaces}
+use Rattle.search_cond.specs.Bound.{Binds}
+use Rattle.search_cond.specs.declared.placed.Placed.{Placed}
+use Rattle.views.specs.Resolved.{AreBound, ArePlaces}
 use Rattle.db_read.specs.Answered.{selectable}
-use Rattle.db_read.specs.declared.scan.Prepared.{Prepared}
+use Rattle.db_read.specs.declared.scan.Selection.{Selection}
 
--- all rows of a table: its stamp, and the places of the columns that are shown among its columns
+-- rows of a table: its stamp, the places of the columns that are shown among its columns, the cursor's conditions, and those of each view between
 pub record TableRows : Type 0 where
   pub table : ℕ
   pub places : List ℕ
+  pub conditions : List Placed
+  pub filters : List (List Placed)
 
-abbrev pub prepared_view : Prepared → TableRows
-prepared_view p = record { table = p.table; places = p.places.items }
+abbrev pub rows_of : Selection → TableRows
+rows_of s = record { table = s.resolved.table; places = s.places.items; conditions = s.conditions; filters = s.resolved.filters.items }
 
--- A cursor goes over all rows of a table for who acts: the table is its object, from which the actor may select, its columns have these places among the
--- table's, and it has no conditions.
+-- what was found, if anything
+abbrev pub found_rows : Bool → Selection → Option TableRows
+found_rows is_found s = if is_found then Some (rows_of s) else None
+
+-- A cursor goes over rows of a table for who acts: its object, from which the actor may select, rests on the table; its columns have these places among the
+-- table's; and its conditions and those of the views between are bound to the table's columns.
 pub record GoesOver (db : Database) (actor : Actor) (c : Cursor) (p : TableRows) : Type 0 where
   pub object : Object
-  pub columns : Columns
+  pub seen : model.Resolved
   pub selects : selectable db actor (seen_stamped db actor c.object) ≡ Ok object
-  pub kind : object.kind ≡ Table columns
-  pub table : p.table ≡ object.stamp
-  pub places : ArePlaces p.places columns c.columns
+  pub resolved : resolved_of db.objects object.stamp ≡ Some seen
+  pub table : p.table ≡ seen.table
+  pub places : ArePlaces p.places seen.all c.columns
+  pub conditions : Binds p.conditions seen.all c.conditions
+  pub filters : AreBound p.filters seen.all seen.filters
   pub few : length c.columns ≤ MOST
-  pub all : c.conditions ≡ []
 
 -- what a scan has found, if anything, is right for a cursor
 abbrev pub IsRight : Database → Actor → Option TableRows → Cursor → Type 0

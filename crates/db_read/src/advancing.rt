@@ -11,13 +11,13 @@ ghost use Rattle.scql_model.specs.ReadBound.{IsOnTableOrView, RisesAtLeast, octe
 ghost use Rattle.record_table.specs.Making.{IsHeld};
 ghost use Rattle.row_index.specs.Index.{Indexes};
 ghost use Rattle.cursor.specs.Moved.{refuses};
-ghost use Rattle.db_read.specs.Scan.{GoesOver, IsRight, prepared_view};
+ghost use Rattle.db_read.specs.Scan.{IsRight};
 ghost use Rattle.db_read.specs.Motion.{Stays, answer_of, asks_opened, command_of, least_by};
 
 use crate::finding::{find_selected, stopped};
 use crate::going::{go_on, go_over};
 use crate::motion::Motion;
-use crate::scan::{Prepared, RowRoom, Scan};
+use crate::scan::Scan;
 use eeprom::{Eeprom, EepromFault};
 use record_store::{Side, Store};
 use row_index::RowIndex;
@@ -25,6 +25,7 @@ use scql_base::{Actor, Cursor, Place, Row, StatusWord};
 
 /// A cursor moves over the rows of its object, from which the actor may select: from its place to another, which stays where the move
 /// is refused. One that wasn't opened can only be opened. What a scan has found isn't looked for again.
+#[inline(always)]
 pub(crate) fn advance<B: Eeprom>(
     store: &Store,
     bench: &mut B,
@@ -52,14 +53,18 @@ pub(crate) fn advance<B: Eeprom>(
         → IfOk result (λ word. Becomes (RisesAtLeast (least_by motion word out.new)) (B.octets_read bench.old) (B.octets_read bench.new)) }
     ensures frame { Reads each_error B.chip B.faults bench.old bench.new result }
 {
-    let Scan { prepared, room } = scan;
-    if let Some(prepared) = prepared {
+    if scan.is_found {
+        let Scan {
+            selection,
+            room,
+            ..
+        } = scan;
         return go_over(
-            store, bench, side, prepared, motion, place, out, index, room,
+            store, bench, side, selection, motion, place, out, index, room,
         );
     }
     find_and_go(
-        store, bench, side, actor, cursor, motion, place, out, index, prepared, room,
+        store, bench, side, actor, cursor, motion, place, out, index, scan,
     )
 }
 
@@ -75,19 +80,18 @@ fn find_and_go<B: Eeprom>(
     place: &mut Place,
     out: &mut Row,
     index: &RowIndex,
-    found: &mut Option<Prepared>,
-    room: &mut RowRoom,
+    scan: &mut Scan,
 ) -> Result<StatusWord, EepromFault>
     requires over { IsOver store.now (B.chip bench.old) }
     requires index { Indexes index.now store.now (B.chip bench.old) }
     requires opened { asks_opened motion cursor.now.place ≡ true }
     requires here { place.old ≡ cursor.now.place }
-    requires none { found.old ≡ None }
+    requires none { scan.old ≡ None }
     ensures moved { (db : Database) → IsHeld store.now side (B.chip bench.old) db → IsCursorOf db cursor.now → (pending : List ℕ)
         → IfOk result (λ word. moved db actor (record { cursor = Some cursor.now; pending = pending }) (command_of motion) ≡ answer_of motion word cursor.now place.new out.new) }
     ensures refused { (db : Database) → IsHeld store.now side (B.chip bench.old) db → IsCursorOf db cursor.now → IfOk result (λ word. IsTrue (refuses word) → place.new ≡ place.old) }
     ensures stays { IfOk result (Stays motion place.old place.new) }
-    ensures prepared { (db : Database) → IsHeld store.now side (B.chip bench.old) db → IfSome found.new (λ prepared. GoesOver db actor cursor.now (prepared_view prepared)) }
+    ensures right { (db : Database) → IsHeld store.now side (B.chip bench.old) db → IsRight db actor scan.new cursor.now }
     ensures octets_read { (db : Database) → IsHeld store.now side (B.chip bench.old) db → IsCursorOf db cursor.now → IsOnTableOrView db cursor.now
         → IfOk result (λ _. Becomes (RisesAtMost (octets_for_operation db actor (Some cursor.now) (command_of motion))) (B.octets_read bench.old) (B.octets_read bench.new)) }
     ensures least { (db : Database) → IsHeld store.now side (B.chip bench.old) db → IsCursorOf db cursor.now → IsOnTableOrView db cursor.now
@@ -110,8 +114,7 @@ fn find_and_go<B: Eeprom>(
         &mut reached,
         out,
         index,
-        found,
-        room,
+        scan,
     ) {
         Ok(word) => {
             *place = reached;

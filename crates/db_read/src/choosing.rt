@@ -1,16 +1,16 @@
 // What a cursor chooses of its object.
-ghost use Rattle.std.specs.Prelude.{◌≡◌, ◌≤◌, IfSome, IsSome, IsTrue, [], length, true};
+ghost use Rattle.std.specs.Prelude.{◌≡◌, ◌≤◌, IsTrue, length, true};
 ghost use Rattle.scql_base.specs.declared.name_list.TheConstants.NameList.{MOST};
 ghost use Rattle.std.specs.List.{list_all};
 ghost use Rattle.search_cond.specs.Bound.{Binds, passes};
 ghost use Rattle.scql_base.specs.Row.{are_a_row};
-ghost use Rattle.scql_model.specs.Database.{are_among, are_named_among};
+ghost use Rattle.scql_model.specs.Database.{are_named_among};
 ghost use Rattle.scql_model.specs.Matching.{Values};
 ghost use Rattle.views.specs.Resolved.{ArePlaces};
 ghost use Rattle.db_read.specs.Chosen as specs;
 ghost use Rattle.db_read.specs.Chosen.{values_at};
 
-use crate::scan::Prepared;
+use crate::scan::Selection;
 use crate::telling::Told;
 use scql_base::{Conditions, NameList, Row};
 use search_cond::{Bound, Placed, bind_into, meets_each};
@@ -39,17 +39,18 @@ pub(crate) struct Chosen<'a> {
 }
 
 impl<'a> Chosen<'a> {
-    /// All rows of a table, as they were prepared.
-    pub(crate) fn all_of(prepared: &'a Prepared) -> Chosen<'a>
-        ensures table { result.table ≡ prepared.now.table }
-        ensures places { result.places.now ≡ prepared.now.places }
-        ensures all { (result.conditions.now ≡ []) × (result.filters.now ≡ []) }
+    /// The rows of a selection.
+    pub(crate) fn of(selection: &'a Selection) -> Chosen<'a>
+        ensures table { result.table ≡ selection.now.resolved.table }
+        ensures places { result.places.now ≡ selection.now.places }
+        ensures conditions { result.conditions.now ≡ selection.now.conditions }
+        ensures filters { result.filters.now ≡ selection.now.resolved.filters.items }
     {
         Chosen {
-            table: prepared.table,
-            places: &prepared.places,
-            conditions: &[],
-            filters: &[],
+            table: selection.resolved.table,
+            places: &selection.places,
+            conditions: selection.conditions.as_slice(),
+            filters: selection.resolved.filters.as_slice(),
         }
     }
 
@@ -122,40 +123,23 @@ fn cut_each(places: &Places, row: &Row, out: &mut Row)
     }
 }
 
-/// What columns and conditions choose of a table that is seen through views. None where one of them isn't on the table's columns. The
-/// places of the columns, and the conditions bound to them, are put where the caller has room.
-pub(crate) fn choose<'a>(
-    table: u32,
+/// Finds the places of columns among all of a table, and binds conditions to these, where the caller has room; and answers whether each
+/// is there.
+pub(crate) fn place_all(
     all: &NameList,
-    filters: &'a [Bound],
     columns: &NameList,
     conditions: &Conditions,
-    places: &'a mut Places,
-    bound: &'a mut Bound,
-) -> Option<Chosen<'a>>
-    ensures chosen { IfSome result (λ chosen. (chosen.table ≡ table) × (chosen.filters.now ≡ filters.now)
-        × ArePlaces chosen.places.now.items all.now columns.now × Binds chosen.conditions.now all.now conditions.now) }
-    ensures few { IfSome result (λ _. length columns.now ≤ MOST) }
-    ensures there { are_named_among all.now columns.now conditions.now ≡ true → IsSome result }
+    places: &mut Places,
+    bound: &mut Bound,
+) -> bool
+    ensures placed { IsTrue result → ArePlaces places.new.items all.now columns.now × Binds bound.new all.now conditions.now }
+    ensures few { length columns.now ≤ MOST }
+    ensures there { are_named_among all.now columns.now conditions.now ≡ true → result ≡ true }
 {
     prove!(columns.len() <= NameList::MOST);
-    *places = places_of(all, columns)?;
-    bind_into(all, conditions, bound).ok()?;
-    Some(Chosen {
-        table,
-        places,
-        conditions: bound.as_slice(),
-        filters,
-    })
-}
-
-/// What columns choose of a table without conditions: all its rows. None where one of them isn't on the table's columns.
-pub(crate) fn prepare(table: u32, all: &NameList, columns: &NameList) -> Option<Prepared>
-    ensures prepared { IfSome result (λ prepared. (prepared.table ≡ table) × ArePlaces prepared.places.items all.now columns.now) }
-    ensures few { IfSome result (λ _. length columns.now ≤ MOST) }
-    ensures there { are_among columns.now all.now ≡ true → IsSome result }
-{
-    prove!(columns.len() <= NameList::MOST);
-    let places = places_of(all, columns)?;
-    Some(Prepared { table, places })
+    let Some(found) = places_of(all, columns) else {
+        return false;
+    };
+    *places = found;
+    bind_into(all, conditions, bound).is_ok()
 }

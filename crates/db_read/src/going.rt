@@ -1,12 +1,11 @@
 // A cursor goes over its rows.
 ghost use Rattle.std.specs.Prelude.{◌≡◌, ◌*◌, List, None, Ok, IfOk, IfErr, IfSome, IsTrue, true, false};
-ghost use Rattle.eeprom.specs.Chip.{Becomes};
+ghost use Rattle.eeprom.specs.Chip.{Becomes, RisesAtMost};
 ghost use Rattle.eeprom.specs.Fault.{each_error};
 ghost use Rattle.eeprom.specs.Frame.{Reads};
 ghost use Rattle.record_store.specs.Held.{IsOver};
 ghost use Rattle.scql_base.specs.declared.cursor.Cursor.{Cursor};
 ghost use Rattle.scql_base.specs.declared.cursor.Place.{Place};
-ghost use Rattle.scql_base.specs.declared.records.ObjectKind.TheVariants.{Table};
 ghost use Rattle.scql_base.specs.declared.words.Actor.{Actor};
 ghost use Rattle.scql_model.specs.Cursors.{IsCursorOf};
 ghost use Rattle.scql_model.specs.Database.{Database};
@@ -17,32 +16,32 @@ ghost use Rattle.scql_model.specs.ReadBound.{place_reached};
 ghost use Rattle.scql_model.specs.Rights.{seen_stamped};
 ghost use Rattle.record_table.specs.Listed.{slots_of};
 ghost use Rattle.record_table.specs.Making.{IsHeld, is_stop_fault};
+ghost use Rattle.record_table.specs.Reading.{NeverFalls};
 ghost use Rattle.record_table.specs.declared.stop.Stop.TheVariants.{Fault};
 ghost use Rattle.row_index.specs.Index.{Indexes};
 ghost use Rattle.cursor.specs.Costs.{RisesBetween, cost_at, cost_between, least_read};
 ghost use Rattle.cursor.specs.Moved.{AreStamped, fetched, refuses};
-ghost use Rattle.db_read.specs.Advanced.{Advances};
+ghost use Rattle.db_read.specs.Advanced.{Advances, way_cost};
 ghost use Rattle.db_read.specs.Answered.{selectable};
 ghost use Rattle.db_read.specs.Motion.{Goes, Stays, cost_by, least_by};
-ghost use Rattle.db_read.specs.Scan.{GoesOver, prepared_view};
+ghost use Rattle.db_read.specs.Scan.{GoesOver, IsRight, rows_of};
 ghost use Rattle.db_read.specs.Told.{Tells, costs_of};
 
-use crate::choosing::{Choice, Chosen, choose, prepare};
+use crate::choosing::{Choice, Chosen, place_all};
 use crate::feed::ChosenRows;
 use crate::motion::Motion;
-use crate::scan::{Prepared, RowRoom};
+use crate::scan::{RowRoom, Scan, Selection};
 use crate::telling::tell;
 use cursor::{fetch, fetch_step, first, step};
 use eeprom::{Eeprom, EepromFault};
 use record_store::{Side, Store};
 use record_table::{Stop, refused};
 use row_index::RowIndex;
-use scql_base::{Cursor, NameList, Object, ObjectKind, Place, Row, StatusWord};
+use scql_base::{Cursor, Object, ObjectKind, Place, Row, StatusWord};
 use search_cond::Bound;
-use views::{Places, Resolved, resolve_into};
+use views::resolve_into;
 
-/// A cursor on this object goes over the rows that it chooses. What only a view needs room for is in a function of its own, so
-/// that the others don't pay for it.
+/// A cursor on this object goes over the rows that it chooses. Those of a table or a view are found once, and kept for the next move.
 pub(crate) fn go_on<B: Eeprom>(
     store: &Store,
     bench: &mut B,
@@ -53,89 +52,43 @@ pub(crate) fn go_on<B: Eeprom>(
     place: &mut Place,
     out: &mut Row,
     index: &RowIndex,
-    found: &mut Option<Prepared>,
-    room: &mut RowRoom,
+    scan: &mut Scan,
 ) -> Result<StatusWord, Stop>
     requires over { IsOver store.now (B.chip bench.old) }
     requires index { Indexes index.now store.now (B.chip bench.old) }
-    requires none { found.old ≡ None }
+    requires none { scan.old ≡ None }
     ensures advances { (db : Database) (actor : Actor) → IsHeld store.now side (B.chip bench.old) db → IsCursorOf db cursor.now → selectable db actor (seen_stamped db actor cursor.now.object) ≡ Ok object.now
         → IfOk result (λ word. IfSome (slots_of store.now side (B.chip bench.old))
         (λ slots. Advances db actor cursor.now motion place.old place.new word out.new slots (B.octets_read bench.old) (B.octets_read bench.new))) }
     ensures fault { (db : Database) (actor : Actor) → IsHeld store.now side (B.chip bench.old) db → IsCursorOf db cursor.now → selectable db actor (seen_stamped db actor cursor.now.object) ≡ Ok object.now
         → IfErr result (λ stop. stop ≡ Fault) }
-    // What is prepared, if anything, is right for the cursor.
-    ensures prepared { (db : Database) (actor : Actor) → IsHeld store.now side (B.chip bench.old) db → selectable db actor (seen_stamped db actor cursor.now.object) ≡ Ok object.now
-        → IfSome found.new (λ prepared. GoesOver db actor cursor.now (prepared_view prepared)) }
+    // What is found, if anything, is right for the cursor.
+    ensures right { (db : Database) (actor : Actor) → IsHeld store.now side (B.chip bench.old) db → selectable db actor (seen_stamped db actor cursor.now.object) ≡ Ok object.now → IsRight db actor scan.new cursor.now }
     ensures stays { IfOk result (Stays motion place.old place.new) }
     ensures frame { Reads is_stop_fault B.chip B.faults bench.old bench.new result }
 {
-    match &object.kind {
-        ObjectKind::Table { columns } => go_on_table(
-            store, bench, side, object, columns, cursor, motion, place, out, index, found, room,
-        ),
-        ObjectKind::View { .. } => {
-            go_on_view(
-                store, bench, side, object, cursor, motion, place, out, index, room,
-            )
-        }
-        ObjectKind::Dictionary { .. } => {
-            go_on_dictionary(
-                store, bench, side, object, cursor, motion, place, out, index, room,
-            )
-        }
-    }
-}
-
-fn go_on_table<B: Eeprom>(
-    store: &Store,
-    bench: &mut B,
-    side: Side,
-    object: &Object,
-    columns: &NameList,
-    cursor: &Cursor,
-    motion: Motion,
-    place: &mut Place,
-    out: &mut Row,
-    index: &RowIndex,
-    found: &mut Option<Prepared>,
-    room: &mut RowRoom,
-) -> Result<StatusWord, Stop>
-    requires over { IsOver store.now (B.chip bench.old) }
-    requires index { Indexes index.now store.now (B.chip bench.old) }
-    requires table { object.now.kind ≡ Table columns.now }
-    requires none { found.old ≡ None }
-    ensures advances { (db : Database) (actor : Actor) → IsHeld store.now side (B.chip bench.old) db → IsCursorOf db cursor.now → selectable db actor (seen_stamped db actor cursor.now.object) ≡ Ok object.now
-        → IfOk result (λ word. IfSome (slots_of store.now side (B.chip bench.old))
-        (λ slots. Advances db actor cursor.now motion place.old place.new word out.new slots (B.octets_read bench.old) (B.octets_read bench.new))) }
-    ensures fault { (db : Database) (actor : Actor) → IsHeld store.now side (B.chip bench.old) db → IsCursorOf db cursor.now → selectable db actor (seen_stamped db actor cursor.now.object) ≡ Ok object.now
-        → IfErr result (λ stop. stop ≡ Fault) }
-    // What is prepared, if anything, is right for the cursor.
-    ensures prepared { (db : Database) (actor : Actor) → IsHeld store.now side (B.chip bench.old) db → selectable db actor (seen_stamped db actor cursor.now.object) ≡ Ok object.now
-        → IfSome found.new (λ prepared. GoesOver db actor cursor.now (prepared_view prepared)) }
-    ensures stays { IfOk result (Stays motion place.old place.new) }
-    ensures frame { Reads is_stop_fault B.chip B.faults bench.old bench.new result }
-{
-    if cursor.conditions.len() > 0 {
-        return go_on_bound(
-            store, bench, side, object, columns, cursor, motion, place, out, index, room,
+    let Scan {
+        is_found,
+        selection,
+        room,
+    } = scan;
+    if let ObjectKind::Dictionary { .. } = &object.kind {
+        return go_on_dictionary(
+            store, bench, side, object, cursor, motion, place, out, index, room,
         );
     }
-    let Some(prepared) = prepare(object.stamp, columns, &cursor.columns) else {
-        return refused(StatusWord::NOT_FOUND);
-    };
-    let prepared = found.insert(prepared);
-    Ok(go_over(
-        store, bench, side, prepared, motion, place, out, index, room,
-    )?)
+    select(store, bench, side, object, cursor, selection)?;
+    *is_found = true;
+    let choice = Choice::OfTable(Chosen::of(selection));
+    Ok(go(store, bench, side, &choice, motion, place, out, index, room)?)
 }
 
-/// A cursor goes over all rows of a table, as they were prepared for it.
+/// A cursor goes over the rows of a table or a view, as they were found for it.
 pub(crate) fn go_over<B: Eeprom>(
     store: &Store,
     bench: &mut B,
     side: Side,
-    prepared: &Prepared,
+    selection: &Selection,
     motion: Motion,
     place: &mut Place,
     out: &mut Row,
@@ -144,99 +97,68 @@ pub(crate) fn go_over<B: Eeprom>(
 ) -> Result<StatusWord, EepromFault>
     requires over { IsOver store.now (B.chip bench.old) }
     requires index { Indexes index.now store.now (B.chip bench.old) }
-    ensures advances { (db : Database) (actor : Actor) (c : Cursor) → IsHeld store.now side (B.chip bench.old) db → IsCursorOf db c → GoesOver db actor c (prepared_view prepared.now)
+    ensures advances { (db : Database) (actor : Actor) (c : Cursor) → IsHeld store.now side (B.chip bench.old) db → IsCursorOf db c → GoesOver db actor c (rows_of selection.now)
         → IfOk result (λ word. IfSome (slots_of store.now side (B.chip bench.old))
         (λ slots. Advances db actor c motion place.old place.new word out.new slots (B.octets_read bench.old) (B.octets_read bench.new))) }
     ensures stays { IfOk result (Stays motion place.old place.new) }
     ensures frame { Reads each_error B.chip B.faults bench.old bench.new result }
 {
-    let choice = Choice::OfTable(Chosen::all_of(prepared));
+    let choice = Choice::OfTable(Chosen::of(selection));
     go(store, bench, side, &choice, motion, place, out, index, room)
 }
 
-// Goes over the rows of a table that meet conditions, for which there is room here.
-#[inline(never)]
-fn go_on_bound<B: Eeprom>(
-    store: &Store,
-    bench: &mut B,
-    side: Side,
-    object: &Object,
-    columns: &NameList,
-    cursor: &Cursor,
-    motion: Motion,
-    place: &mut Place,
-    out: &mut Row,
-    index: &RowIndex,
-    room: &mut RowRoom,
-) -> Result<StatusWord, Stop>
-    requires over { IsOver store.now (B.chip bench.old) }
-    requires index { Indexes index.now store.now (B.chip bench.old) }
-    requires table { object.now.kind ≡ Table columns.now }
-    ensures advances { (db : Database) (actor : Actor) → IsHeld store.now side (B.chip bench.old) db → IsCursorOf db cursor.now → selectable db actor (seen_stamped db actor cursor.now.object) ≡ Ok object.now
-        → IfOk result (λ word. IfSome (slots_of store.now side (B.chip bench.old))
-        (λ slots. Advances db actor cursor.now motion place.old place.new word out.new slots (B.octets_read bench.old) (B.octets_read bench.new))) }
-    ensures fault { (db : Database) (actor : Actor) → IsHeld store.now side (B.chip bench.old) db → IsCursorOf db cursor.now → selectable db actor (seen_stamped db actor cursor.now.object) ≡ Ok object.now
-        → IfErr result (λ stop. stop ≡ Fault) }
-    ensures stays { IfOk result (Stays motion place.old place.new) }
-    ensures frame { Reads is_stop_fault B.chip B.faults bench.old bench.new result }
-{
-    let mut places = Places::new();
-    let mut bound = Bound::default();
-    let Some(chosen) = choose(
-        object.stamp,
-        columns,
-        &[],
-        &cursor.columns,
-        &cursor.conditions,
-        &mut places,
-        &mut bound,
-    ) else {
-        return refused(StatusWord::NOT_FOUND);
-    };
-    let choice = Choice::OfTable(chosen);
-    Ok(go(store, bench, side, &choice, motion, place, out, index, room)?)
-}
-
-fn go_on_view<B: Eeprom>(
+// Finds what a cursor on a table or a view chooses of the table under it.
+fn select<B: Eeprom>(
     store: &Store,
     bench: &mut B,
     side: Side,
     object: &Object,
     cursor: &Cursor,
-    motion: Motion,
-    place: &mut Place,
-    out: &mut Row,
-    index: &RowIndex,
-    room: &mut RowRoom,
-) -> Result<StatusWord, Stop>
+    selection: &mut Selection,
+) -> Result<(), Stop>
     requires over { IsOver store.now (B.chip bench.old) }
-    requires index { Indexes index.now store.now (B.chip bench.old) }
-    requires view { is_table_or_view object.now.kind ≡ true }
-    ensures advances { (db : Database) (actor : Actor) → IsHeld store.now side (B.chip bench.old) db → IsCursorOf db cursor.now → selectable db actor (seen_stamped db actor cursor.now.object) ≡ Ok object.now
-        → IfOk result (λ word. IfSome (slots_of store.now side (B.chip bench.old))
-        (λ slots. Advances db actor cursor.now motion place.old place.new word out.new slots (B.octets_read bench.old) (B.octets_read bench.new))) }
+    requires rows { is_table_or_view object.now.kind ≡ true }
+    ensures found { (db : Database) (actor : Actor) → IsHeld store.now side (B.chip bench.old) db → selectable db actor (seen_stamped db actor cursor.now.object) ≡ Ok object.now
+        → IfOk result (λ _. GoesOver db actor cursor.now (rows_of selection.new)) }
     ensures fault { (db : Database) (actor : Actor) → IsHeld store.now side (B.chip bench.old) db → IsCursorOf db cursor.now → selectable db actor (seen_stamped db actor cursor.now.object) ≡ Ok object.now
         → IfErr result (λ stop. stop ≡ Fault) }
-    ensures stays { IfOk result (Stays motion place.old place.new) }
+    ensures octets_read { IfOk result (λ _. IfSome (slots_of store.now side (B.chip bench.old)) (λ slots. Becomes (RisesAtMost (way_cost slots)) (B.octets_read bench.old) (B.octets_read bench.new))) }
+    ensures rises { IfOk result (λ _. NeverFalls (slots_of store.now side (B.chip bench.old)) (B.octets_read bench.old) (B.octets_read bench.new)) }
     ensures frame { Reads is_stop_fault B.chip B.faults bench.old bench.new result }
 {
-    let mut resolved = Resolved::default();
-    resolve_into(store, bench, side, object, &mut resolved)?;
-    let mut places = Places::new();
-    let mut bound = Bound::default();
-    let Some(chosen) = choose(
-        resolved.table,
-        &resolved.all,
-        resolved.filters.as_slice(),
-        &cursor.columns,
-        &cursor.conditions,
-        &mut places,
-        &mut bound,
-    ) else {
-        return refused(StatusWord::NOT_FOUND);
-    };
-    let choice = Choice::OfTable(chosen);
-    Ok(go(store, bench, side, &choice, motion, place, out, index, room)?)
+    let Selection {
+        resolved,
+        places,
+        conditions,
+    } = selection;
+    match &object.kind {
+        ObjectKind::Table { columns } => {
+            resolved.table = object.stamp;
+            resolved.filters.clear();
+            if place_all(
+                columns,
+                &cursor.columns,
+                &cursor.conditions,
+                places,
+                conditions,
+            ) {
+                return Ok(());
+            }
+        }
+        _ => {
+            resolve_into(store, bench, side, object, resolved)?;
+            if place_all(
+                &resolved.all,
+                &cursor.columns,
+                &cursor.conditions,
+                places,
+                conditions,
+            ) {
+                return Ok(());
+            }
+        }
+    }
+    refused(StatusWord::NOT_FOUND)
 }
 
 fn go_on_dictionary<B: Eeprom>(

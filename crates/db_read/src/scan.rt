@@ -3,23 +3,30 @@ ghost use Rattle.std.specs.Prelude.{◌≡◌, None};
 
 use record_store::RecordOctets;
 use scql_base::{Row, RowRecord};
+use search_cond::Bound;
 use std::marker::Model;
-use views::Places;
+use views::{Places, Resolved};
 
-/// What a move of a cursor over all rows of a table found: the table, and which columns are shown. A next move with it neither looks for the
-/// object nor asks for the right to select from it. Who keeps it lets it go where the catalog or who acts may have changed. The row that
-/// a move reads has its place here, too.
+/// What a move of a cursor over the rows of a table or a view found: the table, which columns are shown, and the conditions that a row
+/// has to meet. A next move with it neither looks for the object, nor asks for the right to select from it, nor binds a condition. Who
+/// keeps it lets it go where the catalog or who acts may have changed. The row that a move reads has its place here, too.
 #[derive(Drop)]
 pub struct Scan {
-    pub(crate) prepared: Option<Prepared>,
+    /// Whether the selection is what was found.
+    pub(crate) is_found: bool,
+    pub(crate) selection: Selection,
     pub(crate) room: RowRoom,
 }
 
-/// All rows of a table, and the places of the columns that are shown.
+/// What a cursor chooses of the table under its object.
 #[derive(Drop)]
-pub(crate) struct Prepared {
-    pub(crate) table: u32,
+pub(crate) struct Selection {
+    /// The object down to its table: of it the table, and the conditions of the views between.
+    pub(crate) resolved: Resolved,
+    /// The places of the cursor's columns among the table's.
     pub(crate) places: Places,
+    /// The cursor's conditions.
+    pub(crate) conditions: Bound,
 }
 
 /// Places for a row that is read: for the octets of its record, and for itself; and where the last one stood in the index.
@@ -31,13 +38,13 @@ pub(crate) struct RowRoom {
 }
 
 impl Model for Scan {
-    ghost use Rattle.std.specs.Prelude.{Option, option_map};
+    ghost use Rattle.std.specs.Prelude.{Option};
     ghost use Rattle.db_read.specs.Scan as specs;
-    ghost use Rattle.db_read.specs.Scan.{prepared_view};
+    ghost use Rattle.db_read.specs.Scan.{found_rows};
 
     ghost Value = { Option specs.TableRows };
 
-    ghost view = { λ scan. option_map prepared_view scan.prepared };
+    ghost view = { λ scan. found_rows scan.is_found scan.selection };
 }
 
 impl Scan {
@@ -46,7 +53,8 @@ impl Scan {
         ensures { result ≡ None }
     {
         Scan {
-            prepared: None,
+            is_found: false,
+            selection: Selection::new(),
             room: RowRoom::new(),
         }
     }
@@ -55,7 +63,17 @@ impl Scan {
     pub fn forget(&mut self)
         ensures { self.new ≡ None }
     {
-        self.prepared = None;
+        self.is_found = false;
+    }
+}
+
+impl Selection {
+    fn new() -> Selection {
+        Selection {
+            resolved: Resolved::default(),
+            places: Places::new(),
+            conditions: Bound::default(),
+        }
     }
 }
 

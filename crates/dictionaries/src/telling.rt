@@ -2,6 +2,7 @@
 ghost use Rattle.std.specs.Prelude.{◌≡◌, nat_eq};
 ghost use Rattle.scql_model.specs.Dictionaries as model;
 
+use record_store::Tag;
 use record_table::Wanted;
 use scql_base::{Object, User};
 
@@ -34,6 +35,10 @@ impl Wanted<User> for TellsOf {
     fn is(&self, entry: &User) -> bool {
         self.of(entry.owner)
     }
+
+    fn tag(&self) -> Option<Tag> {
+        None
+    }
 }
 
 impl Wanted<Object> for TellsOf {
@@ -41,5 +46,9 @@ impl Wanted<Object> for TellsOf {
 
     fn is(&self, entry: &Object) -> bool {
         self.of(entry.owner)
+    }
+
+    fn tag(&self) -> Option<Tag> {
+        None
     }
 }

@@ -68,10 +68,7 @@ fn put_reason<D: Dialect>(dialect: &D, line: &[u8], place: usize, message: &mut 
         Reason::Capitals { word } => {
             put_around(b"words are in capital letters: ", &word, b"", message);
         }
-        Reason::LongName { len } => {
-            message.put(b"a name has 1 to 8 of A-Z, 0-9, _; this word has ");
-            message.put_number(len);
-        }
+        Reason::Size { wanted, len } => put_size(wanted, len, message),
         Reason::Taken { name } => put_around(b"", name, b" is there already", message),
         Reason::Later { name } => put_around(
             b"FROM doesn't name ",
@@ -79,14 +76,6 @@ fn put_reason<D: Dialect>(dialect: &D, line: &[u8], place: usize, message: &mut 
             b", or this is a 16th column of it",
             message,
         ),
-        Reason::LongValue { len } => {
-            message.put(b"a value has at most 200 octets; this has ");
-            message.put_number(len);
-        }
-        Reason::Secret { len } => {
-            message.put(b"a secret has none or 4 to 8 octets; this has ");
-            message.put_number(len);
-        }
         Reason::NoSecret => message.put(b"a secret that is shown has at least one octet"),
         Reason::Quotes { piece } => put_around(
             b"a value stands in quotes: '",
@@ -95,8 +84,7 @@ fn put_reason<D: Dialect>(dialect: &D, line: &[u8], place: usize, message: &mut 
             message,
         ),
         Reason::Full { most, of } => {
-            message.put(b"there is a limit of ");
-            message.put_number(most);
+            put_size(b"there is a limit of ", most, message);
             put_around(b" ", of, b"", message);
         }
         Reason::NoObject => message.put(b"a column is named with its object, as ITEM.NAME"),
@@ -108,4 +96,9 @@ fn put_around(before: &[u8], what: &[u8], behind: &[u8], message: &mut Message) 
     message.put(before);
     message.put(what);
     message.put(behind);
+}
+
+fn put_size(before: &[u8], size: usize, message: &mut Message) {
+    message.put(before);
+    message.put_number(size);
 }

@@ -20,17 +20,13 @@ pub(crate) enum Reason<'a> {
     Digits,
     /// It isn't in capital letters, and could stand so.
     Capitals { word: Word },
-    /// It is too long for a name.
-    LongName { len: usize },
+    /// It is too long or too short for what stands there.
+    Size { wanted: &'static [u8], len: usize },
     /// It is a name that is there already.
     Taken { name: &'a [u8] },
     /// What comes behind it doesn't go with it.
     Later { name: &'a [u8] },
-    /// It is too long for a value,
-    LongValue { len: usize },
-    /// too long or too short for a secret,
-    Secret { len: usize },
-    /// or an empty one that is shown.
+    /// It is an empty secret that is shown.
     NoSecret,
     /// It has no quotes, and would stand in some.
     Quotes { piece: &'a [u8] },
@@ -40,6 +36,14 @@ pub(crate) enum Reason<'a> {
     NoObject,
     /// Something else stands there.
     Other,
+}
+
+impl Reason<'_> {
+    const NAME: &'static [u8] = b"a name has 1 to 8 of A-Z, 0-9, _; this word has ";
+
+    const VALUE: &'static [u8] = b"a value has at most 200 octets; this has ";
+
+    const SECRET: &'static [u8] = b"a secret has none or 4 to 8 octets; this has ";
 }
 
 impl<'a, G: Grammar> Spot<'a, G> {
@@ -113,7 +117,10 @@ impl<'a, G: Grammar> Spot<'a, G> {
     fn about_long_names(&self) -> Option<Reason<'a>> {
         let len = word_of(self.rest).len();
         if len > Name::LONGEST && self.takes_name() {
-            Some(Reason::LongName { len })
+            Some(Reason::Size {
+                wanted: Reason::NAME,
+                len,
+            })
         } else {
             None
         }
@@ -150,11 +157,17 @@ impl<'a, G: Grammar> Spot<'a, G> {
     // A literal that is no value or no secret here.
     fn about_len(&self, len: usize) -> Reason<'a> {
         if !self.stands(b"'1'") {
-            Reason::Secret { len }
+            Reason::Size {
+                wanted: Reason::SECRET,
+                len,
+            }
         } else if len == 0 {
             Reason::NoSecret
         } else {
-            Reason::LongValue { len }
+            Reason::Size {
+                wanted: Reason::VALUE,
+                len,
+            }
         }
     }
 

@@ -1,4 +1,9 @@
 // What a status word means of a statement, as far as the terminal can know.
+ghost use Rattle.std.specs.Prelude.{◌≡◌, ◌++◌, take};
+ghost use Rattle.hex.specs.Hex.{encode_upper};
+ghost use Rattle.eeprom.specs.StoreOf.{two_octets};
+ghost use Rattle.guide.specs.declared.message.TheConstants.Message.{LONGEST};
+
 use crate::session::Session;
 use crate::{Cells, Message};
 use scql_base::{Name, Operation, StatusWord};
@@ -50,19 +55,16 @@ fn put_other(word: u16, message: &mut Message) {
     }
 }
 
-/// Puts a status word in hexadecimal digits.
-pub fn put_word(word: u16, message: &mut Message) {
-    for place in [12, 8, 4, 0] {
-        message.put(&[hexadecimal_digit((word >> place & 0xF) as u8)]);
-    }
-}
-
-fn hexadecimal_digit(digit: u8) -> u8 {
-    match digit {
-        0..=9 => b'0' + digit,
-        10..=15 => b'A' + (digit - 10),
-        _ => b'?',
-    }
+/// Puts a status word in hexadecimal digits, as far as there is room for them.
+#[tactic(auto, using(apdu::proofs::HexadecimalTexts::upper_of_lower))]
+pub fn put_word(word: u16, message: &mut Message)
+    ensures { message.new ≡ take LONGEST (message.old ++ encode_upper (two_octets word)) }
+{
+    let mut digits = [0; 4];
+    let fits = hex::encode_to_slice(word.to_be_bytes(), &mut digits).is_ok();
+    prove!(fits);
+    digits.make_ascii_uppercase();
+    message.put(&digits);
 }
 
 // Who acts, as far as is known: nobody, a user, or one who may have a secret and hasn't shown it.

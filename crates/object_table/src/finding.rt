@@ -7,14 +7,17 @@ ghost use Rattle.eeprom.specs.Frame.{Reads};
 ghost use Rattle.eeprom.specs.Slots.{Rises, is_after};
 ghost use Rattle.eeprom.specs.StoreOf.{cell_size};
 ghost use Rattle.record_store.specs.Held.{IsOver};
+ghost use Rattle.record_store.specs.Tags as tags;
+ghost use Rattle.record_store.specs.declared.tags.Tag.TheVariants as by;
 ghost use Rattle.scql_model.specs.Objects.{object_stamped};
 ghost use Rattle.catalog_codec.specs.Catalog.{object_kind};
 ghost use Rattle.record_table.specs.Listed.{at_slot, cells_marked, in_slots, listed, slots_of};
 ghost use Rattle.record_table.specs.Reading.{NeverFalls};
+ghost use Rattle.record_table.specs.Tagged.{cells_tagged};
 ghost use Rattle.object_table.specs.Named.{has_name, object_named};
 
 use eeprom::{Eeprom, EepromFault};
-use record_store::{Found, Side, Store};
+use record_store::{Found, Side, Store, Tag, name_tag};
 use record_table::{Wanted, find_by, find_into};
 use scql_base::{Name, Object};
 
@@ -25,8 +28,14 @@ struct Named(Name);
 impl Wanted<Object> for Named {
     ghost wants = { λ wanted object. has_name wanted.0 object };
 
+    ghost tag_is = { λ wanted. Some (by.Name (tags.name_tag wanted.0)) };
+
     fn is(&self, entry: &Object) -> bool {
         self.0.octets() == entry.name.octets()
+    }
+
+    fn tag(&self) -> Option<Tag> {
+        Some(Tag::Name(name_tag(self.0.octets())))
     }
 }
 
@@ -93,6 +102,8 @@ pub fn find_name<B: Eeprom>(
         (λ slots. count_by (has_name name) (listed object_kind slots) ≤ 1 → option_map (λ found. found.value) found ≡ object_named (listed object_kind slots) name)) }
     ensures octets_read { IfOk result (λ _. IfSome (slots_of store.now side (B.chip bench.old))
         (λ slots. Becomes (RisesAtMost (cell_size * cells_marked object_kind slots)) (B.octets_read bench.old) (B.octets_read bench.new))) }
+    ensures tagged_read { IfOk result (λ _. IfSome (slots_of store.now side (B.chip bench.old))
+        (λ slots. Becomes (RisesAtMost (cell_size * cells_tagged object_kind (Some (by.Name (tags.name_tag name))) slots)) (B.octets_read bench.old) (B.octets_read bench.new))) }
     ensures rises { IfOk result (λ _. NeverFalls (slots_of store.now side (B.chip bench.old)) (B.octets_read bench.old) (B.octets_read bench.new)) }
     ensures frame { Reads each_error B.chip B.faults bench.old bench.new result }
 {
@@ -121,6 +132,8 @@ pub fn find_name_into<B: Eeprom>(
         (λ slots. count_by (has_name name) (listed object_kind slots) ≤ 1 → place.new ≡ object_named (listed object_kind slots) name)) }
     ensures octets_read { IfOk result (λ _. IfSome (slots_of store.now side (B.chip bench.old))
         (λ slots. Becomes (RisesAtMost (cell_size * cells_marked object_kind slots)) (B.octets_read bench.old) (B.octets_read bench.new))) }
+    ensures tagged_read { IfOk result (λ _. IfSome (slots_of store.now side (B.chip bench.old))
+        (λ slots. Becomes (RisesAtMost (cell_size * cells_tagged object_kind (Some (by.Name (tags.name_tag name))) slots)) (B.octets_read bench.old) (B.octets_read bench.new))) }
     ensures rises { IfOk result (λ _. NeverFalls (slots_of store.now side (B.chip bench.old)) (B.octets_read bench.old) (B.octets_read bench.new)) }
     ensures frame { Reads each_error B.chip B.faults bench.old bench.new result }
 {

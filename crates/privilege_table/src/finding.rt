@@ -7,12 +7,15 @@ ghost use Rattle.eeprom.specs.Frame.{Reads};
 ghost use Rattle.eeprom.specs.Slots.{Rises, has, is_after};
 ghost use Rattle.eeprom.specs.StoreOf.{cell_size};
 ghost use Rattle.record_store.specs.Held.{IsOver};
+ghost use Rattle.record_store.specs.Tags as tags;
+ghost use Rattle.record_store.specs.declared.tags.Tag.TheVariants as by;
 ghost use Rattle.catalog_codec.specs.Catalog.{grant_kind};
 ghost use Rattle.record_table.specs.Listed.{at_slot, cells_marked, in_slots, listed, slots_of};
+ghost use Rattle.record_table.specs.Tagged.{cells_tagged};
 ghost use Rattle.privilege_table.specs.Granted.{is_pair};
 
 use eeprom::{Eeprom, EepromFault};
-use record_store::{Found, Side, Store};
+use record_store::{Found, Side, Store, Tag, pair_tag};
 use record_table::{Wanted, find_by};
 use scql_base::Grant;
 
@@ -26,8 +29,14 @@ struct Pair {
 impl Wanted<Grant> for Pair {
     ghost wants = { λ wanted grant. is_pair wanted.object wanted.grantee grant };
 
+    ghost tag_is = { λ wanted. Some (by.Name (tags.pair_tag wanted.object wanted.grantee)) };
+
     fn is(&self, entry: &Grant) -> bool {
         entry.object == self.object && entry.grantee == self.grantee
+    }
+
+    fn tag(&self) -> Option<Tag> {
+        Some(Tag::Name(pair_tag(self.object, self.grantee)))
     }
 }
 
@@ -71,6 +80,8 @@ pub fn find_pair<B: Eeprom>(
         (λ slots. count_by (is_pair object grantee) (listed grant_kind slots) ≤ 1 → option_map (λ found. found.value) found ≡ find (is_pair object grantee) (listed grant_kind slots))) }
     ensures octets_read { IfOk result (λ _. IfSome (slots_of store.now side (B.chip bench.old))
         (λ slots. Becomes (RisesAtMost (cell_size * cells_marked grant_kind slots)) (B.octets_read bench.old) (B.octets_read bench.new))) }
+    ensures tagged_read { IfOk result (λ _. IfSome (slots_of store.now side (B.chip bench.old))
+        (λ slots. Becomes (RisesAtMost (cell_size * cells_tagged grant_kind (Some (by.Name (tags.pair_tag object grantee))) slots)) (B.octets_read bench.old) (B.octets_read bench.new))) }
     ensures frame { Reads each_error B.chip B.faults bench.old bench.new result }
 {
     find_by(store, bench, side, &Pair { object, grantee })

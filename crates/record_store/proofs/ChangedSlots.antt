@@ -14,6 +14,7 @@ use Rattle.record_store.specs.Held.{Held}
 use Rattle.record_store.specs.Put.{emptied}
 use Rattle.record_store.specs.Slots.{AreFirsts, changed}
 use Rattle.record_store.specs.Sound.{IsSound}
+use Rattle.record_store.specs.Tags.{Tags}
 use Rattle.record_store.specs.Touched.{SameOutside}
 use Rattle.record_store.specs.Transaction.{ChangesOnly, ChangesWhere, begun_from, entries}
 use Rattle.record_store.proofs.Putting.{set-again}
@@ -136,8 +137,8 @@ entries-begun held = changed-same held.committed
 pub entries-emptied : (held new : Held) (slot : ℕ) (used : List Bool) → IsSound new → held.begun ≡ true → new ≡ emptied held slot used → entries new ≤ entries held + 1
 entries-emptied held new slot used sound begun is = rw (is, begun) (changed-set held.committed held.working slot 65535)
 
-pub entries-filled : (held mid : Held) (chains : Cells) (octets : List ℕ) (slot first : ℕ) (used : List Bool) → held.begun ≡ true → mid ≡ emptied held slot used → entries (record mid { chains = chains; working = set mid.working slot first; first_octets = octets }) ≤ entries held + 1
-entries-filled held mid chains octets slot first used begun is =
+pub entries-filled : (held mid : Held) (chains : Cells) (octets : List ℕ) (tags : Tags) (slot first : ℕ) (used : List Bool) → held.begun ≡ true → mid ≡ emptied held slot used → entries (record mid { chains = chains; working = set mid.working slot first; first_octets = octets; tags = tags }) ≤ entries held + 1
+entries-filled held mid chains octets tags slot first used begun is =
     rw (is, begun, set-again held.working slot 65535 first) (changed-set held.committed held.working slot first)
 
 -- no other slot has another chain then
@@ -151,10 +152,10 @@ pub only-emptied : (held new : Held) (slot : ℕ) (used : List Bool) → IsSound
 only-emptied held new slot used sound begun is =
     only-set held new slot 65535 begun (ap (λ (h : Held). h.begun) is ∙ begun) (ap (λ (h : Held). h.committed) is) (ap (λ (h : Held). h.working) is)
 
-pub only-filled : (held mid : Held) (chains : Cells) (octets : List ℕ) (slot first : ℕ) (used : List Bool) → held.begun ≡ true → mid ≡ emptied held slot used
-    → ChangesOnly slot held (record mid { chains = chains; working = set mid.working slot first; first_octets = octets })
-only-filled held mid chains octets slot first used begun is =
-    only-set held (record mid { chains = chains; working = set mid.working slot first; first_octets = octets }) slot first begun (ap (λ (h : Held). h.begun) is ∙ begun) (ap (λ (h : Held). h.committed) is)
+pub only-filled : (held mid : Held) (chains : Cells) (octets : List ℕ) (tags : Tags) (slot first : ℕ) (used : List Bool) → held.begun ≡ true → mid ≡ emptied held slot used
+    → ChangesOnly slot held (record mid { chains = chains; working = set mid.working slot first; first_octets = octets; tags = tags })
+only-filled held mid chains octets tags slot first used begun is =
+    only-set held (record mid { chains = chains; working = set mid.working slot first; first_octets = octets; tags = tags }) slot first begun (ap (λ (h : Held). h.begun) is ∙ begun) (ap (λ (h : Held). h.committed) is)
     (ap (λ (h : Held). set h.working slot first) is ∙ set-again held.working slot 65535 first)
 
 -- two changes, one after the other

@@ -8,15 +8,17 @@ use Rattle.eeprom.proofs.SameFrom.{slots-from}
 use Rattle.eeprom.proofs.Regions.{same-magic, same-cells, same-header, same-limit}
 use Rattle.cell_store.specs.Marks.{StaysMarked}
 use Rattle.journal.specs.Journal.{IsBetweenDirectories, TakesEntries}
-use Rattle.record_store.specs.Held.{Held, StandsFor, AreKept, firsts, contents, stored}
+use Rattle.record_store.specs.Held.{Held, StandsFor, AreKept, firsts, contents, stored, tags_of}
 use Rattle.record_store.specs.Slots.{AreFirsts, changed}
 use Rattle.record_store.specs.Sound.{AreChains, IsSound}
+use Rattle.record_store.specs.Tags.{AreTags, SideTags}
 use Rattle.record_store.specs.Transaction.{IsCommitted, Commits}
 use Rattle.record_store.specs.declared.side.Side.TheVariants.{Committed, Working}
 use Rattle.record_store.proofs.FirstOctets.{both-sides}
 use Rattle.record_store.proofs.Replaying.{rest-front, store-alike}
 use Rattle.record_store.proofs.SameSlots.{links-beside}
 use Rattle.record_store.proofs.Sides.{after_commit}
+use Rattle.record_store.proofs.SlotTags.{tags-same}
 
 -- the first cells of chains are cells, or none
 chains-firsts : (links firsts : List ℕ) (chains : List (List ℕ)) (n : ℕ) → length links ≡ 2 * n → AreChains links firsts chains → AreFirsts n firsts
@@ -36,6 +38,9 @@ pub record Ready (held : Held) (entries : List Entry) : Type 0 where
 
 working-firsts : (held : Held) → held.begun ≡ true → firsts held Working ≡ held.working
 working-firsts held begun = rw begun refl
+
+working-tags : (held : Held) → held.begun ≡ true → tags_of held Working ≡ held.tags.working
+working-tags held begun = rw begun refl
 
 pub ready-from : (view held : Held) (committed working : List ℕ) (entries : List Entry) → view ≡ held → IsSound view → held.begun ≡ true → committed ≡ view.committed → working ≡ view.working → with_entries entries committed ≡ working
     → (AreFirsts (length working) working → list_all (is_entry (length working)) entries ≡ true) → length entries ≡ changed committed working → Ready held entries
@@ -109,6 +114,8 @@ committed-image held entries used was now ready fewer stands t =
     let alike : slots_at now n held.working ≡ contents held Working was = slots-from (front_size n) n now was held.working (omega arith) t.rest.cells ∙ ap (slots_at was n) (sym working) in
     let octets : AreKept held.first_octets held.working (slots_at now n held.working) =
     both-sides held.first_octets (firsts held Working) held.working (contents held Working was) (slots_at now n held.working) (sym working) alike stands.working_octets in
+    let tags : AreTags held.tags.working (slots_at now n held.working) =
+    tags-same held.tags.working (contents held Working was) (slots_at now n held.working) alike (subst (λ (tags : SideTags). AreTags tags (contents held Working was)) (working-tags held ready.begun) stands.working_tags) in
     let there : IsSome (slots_at now n held.working) = subst (λ (o : Option Slots). IsSome o) (sym alike) stands.working in
     record {
       store = store-alike n held.row_limit was now (Some (firsts held Working)) ready.sound.range.many begins.front begins.header begins.cells begins.rows t.rest in_force;
@@ -126,6 +133,8 @@ committed-image held entries used was now ready fewer stands t =
         working = there;
         committed_octets = octets;
         working_octets = octets;
+        committed_tags = tags;
+        working_tags = tags;
       };
     }
 

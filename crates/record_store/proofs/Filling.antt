@@ -14,8 +14,10 @@ use Rattle.record_store.specs.Held.{Held, StandsFor, firsts}
 use Rattle.record_store.specs.Put.{IsPut, emptied}
 use Rattle.record_store.specs.Slots.{steps_without, AreUsedChains, AreReplaced}
 use Rattle.record_store.specs.Sound.{AreChains, IsSound}
+use Rattle.record_store.specs.Tags.{Tags, both_sides}
 use Rattle.record_store.specs.declared.side.Side.TheVariants.{Working}
 use Rattle.record_store.proofs.Putting.{HasRoom, emptied-room, keeps-store, put-emptied, stands-emptied}
+use Rattle.record_store.proofs.SlotTags.{PutsTag}
 use Rattle.record_store.proofs.Sides.{after_commit, put_into, Frees, all-among, chain-at, chains-stay, committed-marked, working-marked, working-used, in-chains, put_in-takes, sound-emptied, sound-put, sound-committed, sound-rolled_back}
 
 -- the store of cells is another one, and all else is as it was
@@ -89,15 +91,15 @@ room held mid used slot weight count e =
 pub room-enough : (held mid : Held) (used : List Bool) (slot weight count : ℕ) → Emptied held mid used slot weight count → count ≤ unmarked mid.chains.used
 room-enough held mid used slot weight count e = omega (arith, (room held mid used slot weight count e).free, e.fits)
 
-pub filled-sound : (held mid : Held) (used : List Bool) (slot weight count first octet : ℕ) (new : Cells) → Emptied held mid used slot weight count → TakesChain mid.chains new first count
-    → IsSound (record mid { chains = new; working = set mid.working slot first; first_octets = set mid.first_octets first octet })
-filled-sound held mid used slot weight count first octet new e takes =
+pub filled-sound : (held mid : Held) (used : List Bool) (slot weight count first octet : ℕ) (new : Cells) (tags : Tags) → Emptied held mid used slot weight count → TakesChain mid.chains new first count
+    → IsSound (record mid { chains = new; working = set mid.working slot first; first_octets = set mid.first_octets first octet; tags = tags })
+filled-sound held mid used slot weight count first octet new tags e takes =
     let r = room held mid used slot weight count e in
     let cells : mid.chains.cells ≡ held.chains.cells = ap (λ (h : Held). h.chains.cells) e.is in
     let begun : mid.begun ≡ true = ap (λ (h : Held). h.begun) e.is ∙ e.begun in
     let empty : slice_index mid.working slot ≡ 65535 = ap (λ (h : Held). slice_index h.working slot) e.is ∙ get_or-set_same held.working slot 65535 0 (omega (arith, e.inside, e.sound.working_count)) in
-    let done = sound-put mid slot first count new.used new.links (set mid.first_octets first octet) e.mid_sound (length-set mid.first_octets first octet) begun (omega (arith, e.inside, cells)) empty (put_in-takes mid new first count takes) (omega (arith, r.cells, e.fits, cells)) in
-    subst (λ (n : ℕ). IsSound (record mid { chains = cells_from n new.used new.links; working = set mid.working slot first; first_octets = set mid.first_octets first octet })) (sym takes.cells) done
+    let done = sound-put mid slot first count new.used new.links (set mid.first_octets first octet) tags e.mid_sound (length-set mid.first_octets first octet) begun (omega (arith, e.inside, cells)) empty (put_in-takes mid new first count takes) (omega (arith, r.cells, e.fits, cells)) in
+    subst (λ (n : ℕ). IsSound (record mid { chains = cells_from n new.used new.links; working = set mid.working slot first; first_octets = set mid.first_octets first octet; tags = tags })) (sym takes.cells) done
 
 -- a write that failed left the chains as they were
 pub failed-sound : (held : Held) (new : Cells) → IsSound held → KeepsChains held.chains new → IsSound (with_cells held new)
@@ -122,31 +124,32 @@ failed-sound held new sound keeps =
     subst (λ (n : ℕ). IsSound (with_cells held (cells_from n new.used new.links))) (sym keeps.cells) (subst (λ (used : List Bool). IsSound (with_cells held (cells_from held.chains.cells used new.links))) (sym keeps.used) at)
 
 -- the record is there then
-put-into : (held mid : Held) (used : List Bool) (slot first count octet : ℕ) (new : Cells) (octets was now : List ℕ) → first < 2 * held.chains.cells → octet ≡ slice_index octets 0 → IsSound held → held.begun ≡ true → slot < held.chains.cells → StaysMarked used held.chains.used → mid ≡ emptied held slot used → IsSound mid
-    → IsSound (record mid { chains = new; working = set mid.working slot first; first_octets = set mid.first_octets first octet })
+put-into : (held mid : Held) (used : List Bool) (slot first count octet : ℕ) (new : Cells) (tags : Tags) (octets was now : List ℕ) → first < 2 * held.chains.cells → octet ≡ slice_index octets 0 → PutsTag held.tags slot octets tags → IsSound held → held.begun ≡ true → slot < held.chains.cells → StaysMarked used held.chains.used → mid ≡ emptied held slot used → IsSound mid
+    → IsSound (record mid { chains = new; working = set mid.working slot first; first_octets = set mid.first_octets first octet; tags = tags })
     → StandsFor held was → TakesChain mid.chains new first count → IsWritten mid.chains new first octets was now
-    → IsPut held (record mid { chains = new; working = set mid.working slot first; first_octets = set mid.first_octets first octet }) slot octets was now
-put-into held mid used slot first count octet new octets was now there octet_is sound begun inside fewer is =
+    → IsPut held (record mid { chains = new; working = set mid.working slot first; first_octets = set mid.first_octets first octet; tags = tags }) slot octets was now
+put-into held mid used slot first count octet new tags octets was now there octet_is put_tag sound begun inside fewer is =
     subst (λ (mid : Held). IsSound mid → IsSound (filled mid) → StandsFor held was → TakesChain mid.chains new first count → IsWritten mid.chains new first octets was now → IsPut held (filled mid) slot octets was now) (sym is)
     (λ mid_sound next_sound stands takes written.
     let cells : new.cells ≡ held.chains.cells = takes.cells in
-    let next : IsSound (put_into (emptied held slot used) slot first new.used new.links (set held.first_octets first octet)) = subst (λ (n : ℕ). IsSound (record held { chains = cells_from n new.used new.links; working = set (set held.working slot 65535) slot first; first_octets = set held.first_octets first octet })) cells next_sound in
+    let next : IsSound (put_into (emptied held slot used) slot first new.used new.links (set held.first_octets first octet) tags) = subst (λ (n : ℕ). IsSound (record held { chains = cells_from n new.used new.links; working = set (set held.working slot 65535) slot first; first_octets = set held.first_octets first octet; tags = tags })) cells next_sound in
     let same : new ≡ cells_from held.chains.cells new.used new.links = ap (λ (n : ℕ). cells_from n new.used new.links) cells in
-    let put = put-emptied held slot first count used new.used new.links (set held.first_octets first octet) octets was now sound mid_sound next (record { inside = there; kept_is = ap (set held.first_octets first) octet_is }) begun inside fewer stands
+    let put = put-emptied held slot first count used new.used new.links (set held.first_octets first octet) tags octets was now sound mid_sound next (record { inside = there; kept_is = ap (set held.first_octets first) octet_is; tag = put_tag }) begun inside fewer stands
     (subst (λ (new : Cells). TakesChain (emptied held slot used).chains new first count) same takes) (subst (λ (new : Cells). IsWritten (emptied held slot used).chains new first octets was now) same written) in
-    subst (λ (n : ℕ). IsPut held (record held { chains = cells_from n new.used new.links; working = set (set held.working slot 65535) slot first; first_octets = set held.first_octets first octet }) slot octets was now) (sym cells) put)
+    subst (λ (n : ℕ). IsPut held (record held { chains = cells_from n new.used new.links; working = set (set held.working slot 65535) slot first; first_octets = set held.first_octets first octet; tags = tags }) slot octets was now) (sym cells) put)
   where
     filled : Held → Held
-    filled mid = record mid { chains = new; working = set mid.working slot first; first_octets = set mid.first_octets first octet }
+    filled mid = record mid { chains = new; working = set mid.working slot first; first_octets = set mid.first_octets first octet; tags = tags }
 
-pub filled-becomes : (held mid : Held) (used : List Bool) (slot weight count first octet : ℕ) (new : Cells) (octets : List ℕ) (old now : Option (List ℕ)) → first < 2 * held.chains.cells → octet ≡ slice_index octets 0 → Emptied held mid used slot weight count → IfSome old (StandsFor held) → TakesChain mid.chains new first count
+pub filled-becomes : (held mid : Held) (used : List Bool) (slot weight count first octet : ℕ) (new : Cells) (tags : Tags) (octets : List ℕ) (old now : Option (List ℕ)) → first < 2 * held.chains.cells → octet ≡ slice_index octets 0 → PutsTag mid.tags slot octets tags → Emptied held mid used slot weight count → IfSome old (StandsFor held) → TakesChain mid.chains new first count
     → Becomes (IsWritten mid.chains new first octets) old now
-    → Becomes (IsPut held (record mid { chains = new; working = set mid.working slot first; first_octets = set mid.first_octets first octet }) slot octets) old now
-filled-becomes held mid used slot weight count first octet new octets old now inside octet_is e stands takes written = λ image told.
+    → Becomes (IsPut held (record mid { chains = new; working = set mid.working slot first; first_octets = set mid.first_octets first octet; tags = tags }) slot octets) old now
+filled-becomes held mid used slot weight count first octet new tags octets old now inside octet_is put_tag e stands takes written = λ image told.
     let from = written image told in
     let there : StandsFor held from.0 = rw (from.1) at stands in
-    let next = filled-sound held mid used slot weight count first octet new e takes in
-    (from.0, from.1, put-into held mid used slot first count octet new octets from.0 image inside octet_is e.sound e.begun e.inside e.fewer e.is e.mid_sound next there takes from.2)
+    let next = filled-sound held mid used slot weight count first octet new tags e takes in
+    let tag : PutsTag held.tags slot octets tags = subst (λ (was : Tags). PutsTag was slot octets tags) (ap (λ (h : Held). h.tags) e.is) put_tag in
+    (from.0, from.1, put-into held mid used slot first count octet new tags octets from.0 image inside octet_is tag e.sound e.begun e.inside e.fewer e.is e.mid_sound next there takes from.2)
 
 -- at each moment of the writing the store of the image is as it was
 pub filled-keeps : (held mid : Held) (used marks : List Bool) (slot weight count n : ℕ) (old new : Chip) → Emptied held mid used slot weight count → IfSome old.image (StandsFor held) → marks ≡ mid.chains.used → n ≡ mid.chains.cells → KeepsMarked marks n old new → Keeps store_of old new
@@ -168,19 +171,30 @@ rollback-sound held new replaced others sound begun first second cells links fre
     same-cells (λ (h : Held). IsSound (record h { begun = false })) held new cells links
     (sound-rolled_back held new.used sound begun at)
 
+-- a store is sound with any tags
+pub tagged-sound : (held : Held) (tags : Tags) → IsSound held → IsSound (record held { tags = tags })
+tagged-sound held tags s = record {
+  range = s.range;
+  rows = s.rows;
+  committed_count = s.committed_count;
+  working_count = s.working_count;
+  octets_count = s.octets_count;
+  sides = record { committed = s.sides.committed; working = s.sides.working; committed_has = s.sides.committed_has; working_has = s.sides.working_has; beside = s.sides.beside; used = s.sides.used };
+}
+
 -- it is committed, and what was committed before is freed
-pub commit-sound : (held : Held) (new : Cells) (working : List ℕ) (replaced kept : List ℕ) → IsSound held → held.begun ≡ true → replaced ≡ held.committed → kept ≡ held.working → new.cells ≡ held.chains.cells → new.links ≡ held.chains.links → working ≡ held.working
+pub commit-sound : (held : Held) (new : Cells) (tags : Tags) (working : List ℕ) (replaced kept : List ℕ) → IsSound held → held.begun ≡ true → replaced ≡ held.committed → kept ≡ held.working → new.cells ≡ held.chains.cells → new.links ≡ held.chains.links → working ≡ held.working
     → ((chains : List (List ℕ)) → AreUsedChains held.chains replaced chains → (cell : ℕ) → is_marked new.used cell ≡ true → AreReplaced replaced kept chains (length replaced) cell → ⊥)
     → ((chains : List (List ℕ)) → AreUsedChains held.chains replaced chains → (cell : ℕ) → is_marked held.chains.used cell ≡ true → ¬ (AreReplaced replaced kept chains (length replaced) cell) → is_marked new.used cell ≡ true)
     → StaysMarked new.used held.chains.used → length new.used ≡ length held.chains.used
-    → IsSound (record held { chains = new; committed = working; begun = false })
-commit-sound held new working replaced others sound begun first second cells links working_is freed rest fewer size =
+    → IsSound (record held { chains = new; committed = working; begun = false; tags = tags })
+commit-sound held new tags working replaced others sound begun first second cells links working_is freed rest fewer size =
     let frees : Frees held replaced others new.used = record { freed = freed; others = rest; fewer = fewer; count_is = size } in
     let at = subst (λ (others : List ℕ). Frees held held.committed others new.used) second (subst (λ (replaced : List ℕ). Frees held replaced others new.used) first frees) in
-    let done = same-cells (λ (h : Held). IsSound (record h { committed = h.working; begun = false })) held new cells links
-    (sound-committed held new.used sound begun at) in
-    subst (λ (working : List ℕ). IsSound (record held { chains = new; committed = working; begun = false })) (sym working_is) done
+    let done = same-cells (λ (h : Held). IsSound (record h { committed = h.working; begun = false; tags = tags })) held new cells links
+    (tagged-sound (after_commit held new.used) tags (sound-committed held new.used sound begun at)) in
+    subst (λ (working : List ℕ). IsSound (record held { chains = new; committed = working; begun = false; tags = tags })) (sym working_is) done
 
-pub commit-view : (held : Held) (new : Cells) (limit : ℕ) (committed working octets : List ℕ) → new.cells ≡ held.chains.cells → new.links ≡ held.chains.links → limit ≡ held.row_limit → committed ≡ held.working → working ≡ held.working → octets ≡ held.first_octets
-    → record { chains = new; row_limit = limit; committed = committed; working = working; begun = false; first_octets = octets } ≡ after_commit held new.used
-commit-view held new limit committed working octets cells links limit_is committed_is working_is octets_is = rw (cells, links, limit_is, committed_is, working_is, octets_is) refl
+pub commit-view : (held : Held) (new : Cells) (tags : Tags) (limit : ℕ) (committed working octets : List ℕ) → new.cells ≡ held.chains.cells → new.links ≡ held.chains.links → limit ≡ held.row_limit → committed ≡ held.working → working ≡ held.working → octets ≡ held.first_octets → tags ≡ both_sides held.tags.working
+    → record { chains = new; row_limit = limit; committed = committed; working = working; begun = false; first_octets = octets; tags = tags } ≡ after_commit held new.used
+commit-view held new tags limit committed working octets cells links limit_is committed_is working_is octets_is tags_are = rw (cells, links, limit_is, committed_is, working_is, octets_is, tags_are) refl

@@ -27,3 +27,6 @@ pub mod Touching
 pub mod Transacting
 pub mod Weighing
 pub mod Weights
+pub mod SlotTags
+pub mod TaggedSlots
+pub mod Tagging

@@ -1,8 +1,8 @@
 -- A slot more of a store that is being opened, and the store once all slots were claimed.
-use Rattle.std.proofs.Common.{◌≡◌, ℕ, ◌+◌, ◌*◌, ◌<◌, ◌≤◌, ◌≢◌, ◌||◌, inl, Bool, true, false, List, [], ◌∷◌, ◌++◌, length, length-append, map, take, drop, get_or, nat_le, Option, Some, None, IsSome, IfSome, Result, Ok, Err, IfOk, OnOk, option_map, sym, refl, ap, ◌∙◌, arith, subst}
+use Rattle.std.proofs.Common.{◌≡◌, ℕ, ◌+◌, ◌*◌, ◌<◌, ◌≤◌, ◌≢◌, ◌||◌, inl, Bool, true, false, List, [], ◌∷◌, ◌++◌, length, length-append, map, take, drop, get_or, nat_le, Option, Some, None, IsSome, IfSome, Result, Ok, Err, IfOk, OnOk, option_map, sym, refl, ap, ◌∙◌, arith, subst, set}
 use Rattle.std.specs.List.{list_all}
 use Rattle.std.proofs.lemmas.Bool.Decides.{nat_tests}
-use Rattle.std.proofs.lemmas.List.{map-append, take-map, take_all, take_more}
+use Rattle.std.proofs.lemmas.List.{map-append, take-map, take_all, take_more, length-take-le, length-set}
 use Rattle.std.proofs.lemmas.List.Folds.{list_all-append}
 use Rattle.std.proofs.lemmas.Option.{same_Some, none-some}
 use Rattle.eeprom.specs.Chip.{Chip, Becomes, RisesBy}
@@ -13,6 +13,7 @@ use Rattle.cell_store.specs.Claims.{TakesChain, HasRecord, HasNoRecord}
 use Rattle.eeprom.proofs.Chains.{chain-empty, chains-push, chains-take}
 use Rattle.cell_store.proofs.Placements.{nowhere}
 use Rattle.record_store.specs.Header.{IsHeaderOf}
+use Rattle.record_store.specs.Tags.{Tags, SideTags, AreTags, HasTags, with_tags}
 use Rattle.record_store.specs.declared.header.Header.{Header}
 use Rattle.record_store.specs.Held.{Held, IsOver, IsRowLimit, AreKept, contents, stored, with_limit, StandsFor}
 use Rattle.record_store.specs.Opening.{HeldSoFar, IsOverSoFar, StandsSoFar, IsSoundSoFar, TakesSlot, IsSlot, ReadsStore, front_octets, slots_so_far, slot_with, with_octet}
@@ -20,6 +21,7 @@ use Rattle.record_store.specs.Sound.{Claimed, IsSound, cells_in}
 use Rattle.record_store.specs.declared.side.Side.TheVariants.{Committed}
 use Rattle.record_store.proofs.ClaimedSlots.{all_free-range, claimed-start, linked-start, Claims, cells-more, claims-so_far, claims-record, claims-refused, claims-over, claimed-more, distinct-more, marked-claimed, takes-range}
 use Rattle.record_store.proofs.FirstOctets.{both-sides, octets-more, length-with_octet, first-free, first-apart, slots-count}
+use Rattle.record_store.proofs.SlotTags.{has-with, tags-same, tags-more}
 use Rattle.record_store.proofs.Weights.{limited, store-begins, slots-chains, some-slots, header-room, cells-chains, chains-told}
 
 -- so many octets were read until then
@@ -34,13 +36,18 @@ pub record IsOpening (held : HeldSoFar) (slot cells : ℕ) (chip : Chip) (before
   pub few : held.weight ≤ held.chains.cells
   pub read : Becomes (ReadsSoFar held) before now
 
--- these cells, row limit, first cells and first octets, with so many slots claimed and so many cells in their chains
-abbrev pub held_of : Cells → ℕ → List ℕ → ℕ → ℕ → List ℕ → HeldSoFar
-held_of store limit firsts claimed weight octets = record { chains = store; row_limit = limit; firsts = firsts; claimed = claimed; weight = weight; first_octets = octets }
+-- these cells, row limit, first cells, first octets and tags, with so many slots claimed and so many cells in their chains
+abbrev pub held_of : Cells → ℕ → List ℕ → ℕ → ℕ → List ℕ → SideTags → HeldSoFar
+held_of store limit firsts claimed weight octets tags = record { chains = store; row_limit = limit; firsts = firsts; claimed = claimed; weight = weight; first_octets = octets; tags = tags }
 
 -- one slot more is claimed, whose chain has so many cells and whose record has these octets
 abbrev pub with_slot : HeldSoFar → Cells → ℕ → List ℕ → HeldSoFar
-with_slot held new count octets = held_of new held.row_limit held.firsts (held.claimed + 1) (held.weight + count) (with_octet held.first_octets (get_or held.firsts held.claimed 0) octets)
+with_slot held new count octets = held_of new held.row_limit held.firsts (held.claimed + 1) (held.weight + count) (with_octet held.first_octets (get_or held.firsts held.claimed 0) octets) (with_tags held.tags held.claimed octets)
+
+-- the same octets and tags
+pub held-same : (P : HeldSoFar → Type 0) (store : Cells) (limit : ℕ) (firsts : List ℕ) (claimed weight : ℕ) (octets was : List ℕ) (tags before : SideTags) → octets ≡ was → tags ≡ before → P (held_of store limit firsts claimed weight was before) → P (held_of store limit firsts claimed weight octets tags)
+held-same P store limit firsts claimed weight octets was tags before octets_are tags_are p =
+    subst (λ (octets : List ℕ). P (held_of store limit firsts claimed weight octets tags)) (sym octets_are) (subst (λ (tags : SideTags). P (held_of store limit firsts claimed weight was tags)) (sym tags_are) p)
 
 slots-push : (image : List ℕ) (n : ℕ) (xs : List ℕ) (first : ℕ) (chains : List (List ℕ)) (chain : List ℕ) (slots : Slots) (entry : Option (List ℕ)) → chains_of image n xs ≡ Some chains → list_all (is_record image n) chains ≡ true → slots ≡ map (slot_of image n) chains
     → chain_of image n (2 * n) first ≡ Some chain → is_record image n chain ≡ true → slot_of image n chain ≡ entry → are_apart n (chains ++ chain ∷ []) ≡ true → slots_at image n (xs ++ first ∷ []) ≡ Some (slots ++ entry ∷ [])
@@ -49,26 +56,28 @@ slots-push image n xs first chains chain slots entry of records are there is ent
     (ap (λ (slots : Slots). Some slots) (map-append (slot_of image n) chains (chain ∷ []) ∙ (ap (λ (before : Slots). before ++ slot_of image n chain ∷ []) (sym are) ∙ ap (λ (entry : Option (List ℕ)). slots ++ entry ∷ []) entry_is)))
 
 -- before the first slot
-pub sound-begun : (n limit : ℕ) (firsts octets : List ℕ) (store : Cells) → store ≡ all_free n → 16 ≤ n → n ≤ 2048 → IsRowLimit limit → length firsts ≡ n → length octets ≡ 2 * n → IsSoundSoFar (held_of store limit firsts 0 0 octets)
-sound-begun n limit firsts octets store is few many rows count size = subst (λ (store : Cells). IsSoundSoFar (held_of store limit firsts 0 0 octets)) (sym is) (record {
+pub sound-begun : (n limit : ℕ) (firsts octets : List ℕ) (tags : SideTags) (store : Cells) → store ≡ all_free n → 16 ≤ n → n ≤ 2048 → IsRowLimit limit → length firsts ≡ n → length octets ≡ 2 * n → HasTags n tags → IsSoundSoFar (held_of store limit firsts 0 0 octets tags)
+sound-begun n limit firsts octets tags store is few many rows count size tags_count = subst (λ (store : Cells). IsSoundSoFar (held_of store limit firsts 0 0 octets tags)) (sym is) (record {
   range = all_free-range n few many;
   rows = rows;
   count = count;
   octets_count = size;
+  tags_count = tags_count;
   claimed = omega arith;
   chains = claimed-start n firsts;
 })
 
-pub stands-begun : (header : Header) (firsts octets : List ℕ) (store : Cells) (image : Option (List ℕ)) → store ≡ all_free header.cells → IfSome image (λ image. IsHeaderOf image (record header { is_open = false })) → IfSome image (λ image. firsts ≡ written_directory image header.cells)
-    → IfSome image (StandsSoFar (held_of store header.row_limit firsts 0 0 octets))
-stands-begun header firsts octets store None is begins there = tt
-stands-begun header firsts octets store (Some image) is begins there =
+pub stands-begun : (header : Header) (firsts octets : List ℕ) (tags : SideTags) (store : Cells) (image : Option (List ℕ)) → store ≡ all_free header.cells → IfSome image (λ image. IsHeaderOf image (record header { is_open = false })) → IfSome image (λ image. firsts ≡ written_directory image header.cells)
+    → IfSome image (StandsSoFar (held_of store header.row_limit firsts 0 0 octets tags))
+stands-begun header firsts octets tags store None is begins there = tt
+stands-begun header firsts octets tags store (Some image) is begins there =
     let none : nat_le 0 header.cells ≡ true = grind (arith, nat_tests) in
-    subst (λ (store : Cells). StandsSoFar (held_of store header.row_limit firsts 0 0 octets) image) (sym is) (record {
+    subst (λ (store : Cells). StandsSoFar (held_of store header.row_limit firsts 0 0 octets tags) image) (sym is) (record {
       begins = record { front = begins.front; header = begins.fields; cells = begins.cells; rows = begins.limit; closed = begins.gate; directory = sym there };
       links = linked-start header.cells image;
       claimed = rw none refl;
       octets = λ slot inside. absurd (omega (arith, inside));
+      tags = rw none (record { names = λ slot octets there. absurd (none-some octets there); stamps = λ slot octets there. absurd (none-some octets there) });
     })
 
 -- the chains in memory are those of the image, with their records
@@ -149,6 +158,8 @@ stands-next held new count octets (Some image) sound left takes links fits stand
       };
       links = links stands.links;
       claimed = rw there refl;
+      tags = tags-same (with_tags held.tags held.claimed octets) (Some (slots.0 ++ slot_with octets ∷ [])) (slots_so_far (with_slot held new count octets) image) there
+          (tags-more held.tags slots.0 held.claimed octets (slots-count image held.chains.cells (take held.claimed held.firsts) slots.0 slots.1 ∙ length-take-le held.claimed held.firsts (omega (arith, left, sound.count))) (omega (arith, left, sound.tags_count.names)) (omega (arith, left, sound.tags_count.stamps)) (subst (AreTags held.tags) slots.1 stands.tags));
       octets = both-sides (with_octet held.first_octets first octets) (take held.claimed held.firsts ++ first ∷ []) (take (held.claimed + 1) held.firsts) (Some (slots.0 ++ slot_with octets ∷ [])) (slots_so_far (with_slot held new count octets) image)
           (take_more held.firsts held.claimed 0 (omega (arith, left, sound.count))) there
           (octets-more held.first_octets (take held.claimed held.firsts) slots.0 first octets (slots-count image held.chains.cells (take held.claimed held.firsts) slots.0 slots.1) (slot-nowhere image held.chains.cells first octets takes.chain.chain takes.told.of takes.told.slot)
@@ -168,6 +179,7 @@ sound-next held new count octets sound left takes fits = record {
   rows = sound.rows;
   count = sound.count ∙ sym takes.cells;
   octets_count = length-with_octet held.first_octets (get_or held.firsts held.claimed 0) octets ∙ (sound.octets_count ∙ ap (λ (n : ℕ). 2 * n) (sym takes.cells));
+  tags_count = subst (λ (n : ℕ). HasTags n (with_tags held.tags held.claimed octets)) (sym takes.cells) (has-with held.chains.cells held.tags held.claimed octets sound.tags_count);
   claimed = rw (takes.cells) (omega (arith, left));
   chains = claimed-more held.chains new held.firsts held.weight count held.claimed sound.range (omega (arith, left, sound.count)) takes fits sound.chains;
 }
@@ -214,21 +226,22 @@ weight-finished held image slots sound all stands there =
     weight-held held image slots sound stands (ap (slots_at image held.chains.cells) whole ∙ there)
 
 -- the store that is held then
-abbrev pub finished : HeldSoFar → List ℕ → Held
-finished held working = record { chains = held.chains; row_limit = held.row_limit; committed = held.firsts; working = working; begun = false; first_octets = held.first_octets }
+abbrev pub finished : HeldSoFar → List ℕ → Tags → Held
+finished held working tags = record { chains = held.chains; row_limit = held.row_limit; committed = held.firsts; working = working; begun = false; first_octets = held.first_octets; tags = tags }
 
-pub stands-finished : (held : HeldSoFar) (working image : List ℕ) → length held.firsts ≡ held.chains.cells → held.claimed ≡ held.chains.cells → StandsSoFar held image → StandsFor (finished held working) image
-stands-finished held working image count all stands =
+pub stands-finished : (held : HeldSoFar) (working : List ℕ) (tags : Tags) (image : List ℕ) → tags.committed ≡ held.tags → length held.firsts ≡ held.chains.cells → held.claimed ≡ held.chains.cells → StandsSoFar held image → StandsFor (finished held working tags) image
+stands-finished held working tags image tags_are count all stands =
     let whole : take held.claimed held.firsts ≡ held.firsts = take_all held.claimed held.firsts (omega (arith, all, count)) in
     let same : slots_at image held.chains.cells held.firsts ≡ slots_so_far held image = ap (slots_at image held.chains.cells) (sym whole) in
     let there : IsSome (slots_at image held.chains.cells held.firsts) = subst (λ (o : Option Slots). IsSome o) (sym same) stands.claimed in
     let octets : AreKept held.first_octets held.firsts (slots_at image held.chains.cells held.firsts) =
     both-sides held.first_octets (take held.claimed held.firsts) held.firsts (slots_so_far held image) (slots_at image held.chains.cells held.firsts) (sym whole) same stands.octets in
-    record { begins = stands.begins; links = stands.links; committed = there; working = there; committed_octets = octets; working_octets = octets }
+    let here : AreTags tags.committed (slots_at image held.chains.cells held.firsts) = subst (λ (tags : SideTags). AreTags tags (slots_at image held.chains.cells held.firsts)) (sym tags_are) (tags-same held.tags (slots_so_far held image) (slots_at image held.chains.cells held.firsts) same stands.tags) in
+    record { begins = stands.begins; links = stands.links; committed = there; working = there; committed_octets = octets; working_octets = octets; committed_tags = here; working_tags = here }
 
-pub sound-finished : (held : HeldSoFar) (working : List ℕ) → IsSoundSoFar held → held.claimed ≡ held.chains.cells → length working ≡ held.chains.cells
-    → IsSound (finished held working)
-sound-finished held working sound all count =
+pub sound-finished : (held : HeldSoFar) (working : List ℕ) (tags : Tags) → IsSoundSoFar held → held.claimed ≡ held.chains.cells → length working ≡ held.chains.cells
+    → IsSound (finished held working tags)
+sound-finished held working tags sound all count =
     let c : Claimed held.chains held.firsts = subst (Claimed held.chains) (take_all held.claimed held.firsts (omega (arith, all, sound.count))) sound.chains.slots in
     record {
       range = sound.range;

@@ -20,16 +20,18 @@ use Rattle.cell_store.proofs.Linking.{steps-end}
 use Rattle.cell_store.proofs.Marking.{marked-all, unmarked-set}
 use Rattle.cell_store.proofs.Placements.{nowhere}
 use Rattle.eeprom.proofs.Regions.{SameFront, same-magic, same-cells, same-header, same-limit, numbers-agree}
-use Rattle.record_store.specs.Held.{Held, BeginsAs, StandsFor, AreKept, firsts, contents, with_limit}
+use Rattle.record_store.specs.Held.{Held, BeginsAs, StandsFor, AreKept, firsts, contents, with_limit, tags_of}
 use Rattle.record_store.specs.Put.{IsPut, emptied, weight_with, IsFull, IsWithin}
 use Rattle.record_store.specs.Slots.{steps_without}
 use Rattle.record_store.specs.Sound.{IsSound, AreChains, cells_in}
+use Rattle.record_store.specs.Tags.{Tags, SideTags, AreTags, with_tags}
 use Rattle.record_store.specs.declared.side.Side.{Side}
 use Rattle.record_store.specs.declared.side.Side.TheVariants.{Committed, Working}
 use Rattle.record_store.proofs.FirstOctets.{both-sides, octets-same, octets-emptied, octets-put, first-free, side-apart, slots-count}
 use Rattle.record_store.proofs.Keeping.{keeps-leaves}
 use Rattle.record_store.proofs.Replacing.{marked-chains, all-marked-same, replaced}
 use Rattle.record_store.proofs.SameSlots.{slots-same}
+use Rattle.record_store.proofs.SlotTags.{PutsTag, tags-same, tags-emptied, tags-put}
 use Rattle.record_store.proofs.Sides.{put_into, small-links, length-put, length-chains}
 use Rattle.record_store.proofs.Weights.{store-begins, side-chains, told-chains, chains-told, some-slots, header-room, walk-chains, walk-without}
 
@@ -135,6 +137,9 @@ stands-emptied held slot used image sound next_sound begun inside fewer stands =
         committed = stands.committed;
         working = subst (λ (o : Option Slots). IsSome o) (sym there) refl;
         committed_octets = stands.committed_octets;
+        committed_tags = stands.committed_tags;
+        working_tags = tags-same (tags_of held Working) (Some (set slots.0 slot None)) (contents (emptied held slot used) Working image) there
+            (tags-emptied (tags_of held Working) slots.0 slot (omega (arith, within, slots-count image n (firsts held Working) slots.0 slots.1)) (subst (AreTags (tags_of held Working)) slots.1 stands.working_tags));
         working_octets = both-sides held.first_octets (set (firsts held Working) slot 65535) (firsts (emptied held slot used) Working) (Some (set slots.0 slot None)) (contents (emptied held slot used) Working image) next_is there
             (octets-emptied held.first_octets (firsts held Working) slots.0 slot within (slots-count image n (firsts held Working) slots.0 slots.1) (subst (AreKept held.first_octets (firsts held Working)) slots.1 stands.working_octets));
       };
@@ -142,21 +147,22 @@ stands-emptied held slot used image sound next_sound begun inside fewer stands =
       working = there ∙ ap (λ (o : Option Slots). option_map (λ slots. set slots slot None) o) (sym slots.1);
     }
 
--- the first octet of a record is kept for a cell
-pub record PutsOctet (held : Held) (first : ℕ) (octets kept : List ℕ) : Type 0 where
+-- the first octet of a record is kept for a cell, and its tag for its slot
+pub record PutsOctet (held : Held) (slot first : ℕ) (octets kept : List ℕ) (tags : Tags) : Type 0 where
   pub inside : first < 2 * held.chains.cells
   pub kept_is : kept ≡ set held.first_octets first (slice_index octets 0)
+  pub tag : PutsTag held.tags slot octets tags
 
 pub long-chain : (links : List ℕ) (first : ℕ) (chain : List ℕ) → first < 65535 → AreLinked (link_in links) (length links) first chain → 1 ≤ length chain
 long-chain links first [] some linked = absurd (omega (arith, some, linked))
 long-chain links first (cell ∷ chain) some linked = omega arith
 
 -- a record is put into a slot that is empty
-pub put-done : (held : Held) (slot first count : ℕ) (used : List Bool) (links kept octets was now : List ℕ) → IsSound held → IsSound (put_into held slot first used links kept) → PutsOctet held first octets kept → held.begun ≡ true → slot < held.chains.cells → StandsFor held was
-    → TakesChain held.chains (cells_from held.chains.cells used links) first count → IsWritten held.chains (cells_from held.chains.cells used links) first octets was now → IsPut held (put_into held slot first used links kept) slot octets was now
-put-done held slot first count used links kept octets was now sound next_sound puts begun inside stands takes w =
+pub put-done : (held : Held) (slot first count : ℕ) (used : List Bool) (links kept : List ℕ) (tags : Tags) (octets was now : List ℕ) → IsSound held → IsSound (put_into held slot first used links kept tags) → PutsOctet held slot first octets kept tags → held.begun ≡ true → slot < held.chains.cells → StandsFor held was
+    → TakesChain held.chains (cells_from held.chains.cells used links) first count → IsWritten held.chains (cells_from held.chains.cells used links) first octets was now → IsPut held (put_into held slot first used links kept tags) slot octets was now
+put-done held slot first count used links kept tags octets was now sound next_sound puts begun inside stands takes w =
     let n = held.chains.cells in
-    let next : Held = put_into held slot first used links kept in
+    let next : Held = put_into held slot first used links kept tags in
     let slots = some-slots (contents held Working was) stands.working in
     let working_is : firsts held Working ≡ held.working = rw begun refl in
     let next_is : firsts next Working ≡ set (firsts held Working) slot first = rw begun refl in
@@ -168,12 +174,18 @@ put-done held slot first count used links kept octets was now sound next_sound p
     let free = first-free links held.chains.used first takes.chain takes.linked takes.free (long-chain links first takes.chain some takes.linked) in
     let working : contents next Working now ≡ Some (set slots.0 slot (Some octets)) = there ∙ ap (λ (entry : Option (List ℕ)). Some (set slots.0 slot entry)) reads.1 in
     let committed = side-kept held Committed now was sound stands stands.committed w.keeping in
+    let tags_are : tags_of held Working ≡ held.tags.working = rw begun refl in
+    let tags_next : tags_of next Working ≡ with_tags held.tags.working slot octets = rw begun (ap (λ (tags : Tags). tags.working) puts.tag.is) in
     record {
       stands = record {
         begins = begins-same held.chains.used n held.row_limit held.committed now was w.keeping stands.begins;
         links = linked;
         committed = subst (λ (o : Option Slots). IsSome o) (sym committed) stands.committed;
         working = subst (λ (o : Option Slots). IsSome o) (sym working) refl;
+        committed_tags = subst (λ (tags : Tags). AreTags tags.committed (contents next Committed now)) (sym puts.tag.is) (tags-same held.tags.committed (contents held Committed was) (contents next Committed now) committed stands.committed_tags);
+        working_tags = tags-same (tags_of next Working) (Some (set slots.0 slot (Some octets))) (contents next Working now) working
+            (subst (λ (tags : SideTags). AreTags tags (Some (set slots.0 slot (Some octets)))) (sym tags_next)
+            (tags-put held.tags.working slots.0 slot octets puts.tag.names puts.tag.stamps (omega (arith, within, slots-count was n (firsts held Working) slots.0 slots.1)) (subst (λ (tags : SideTags). AreTags tags (Some slots.0)) tags_are (subst (AreTags (tags_of held Working)) slots.1 stands.working_tags))));
         committed_octets = subst (λ (kept : List ℕ). AreKept kept held.committed (contents next Committed now)) (sym puts.kept_is)
             (octets-same held.first_octets held.committed (contents held Committed was) (contents next Committed now) first (slice_index octets 0) (side-apart held Committed first sound free.0 some) committed stands.committed_octets);
         working_octets = subst (λ (kept : List ℕ). AreKept kept (firsts next Working) (contents next Working now)) (sym puts.kept_is)
@@ -186,12 +198,12 @@ put-done held slot first count used links kept octets was now sound next_sound p
     }
 
 -- both, one after the other
-pub put-emptied : (held : Held) (slot first count : ℕ) (less used : List Bool) (links kept octets was now : List ℕ) → IsSound held → IsSound (emptied held slot less) → IsSound (put_into (emptied held slot less) slot first used links kept) → PutsOctet held first octets kept → held.begun ≡ true → slot < held.chains.cells → StaysMarked less held.chains.used
+pub put-emptied : (held : Held) (slot first count : ℕ) (less used : List Bool) (links kept : List ℕ) (tags : Tags) (octets was now : List ℕ) → IsSound held → IsSound (emptied held slot less) → IsSound (put_into (emptied held slot less) slot first used links kept tags) → PutsOctet held slot first octets kept tags → held.begun ≡ true → slot < held.chains.cells → StaysMarked less held.chains.used
     → StandsFor held was → TakesChain (emptied held slot less).chains (cells_from held.chains.cells used links) first count → IsWritten (emptied held slot less).chains (cells_from held.chains.cells used links) first octets was now
-    → IsPut held (put_into (emptied held slot less) slot first used links kept) slot octets was now
-put-emptied held slot first count less used links kept octets was now sound mid_sound next_sound puts begun inside fewer stands takes w =
+    → IsPut held (put_into (emptied held slot less) slot first used links kept tags) slot octets was now
+put-emptied held slot first count less used links kept tags octets was now sound mid_sound next_sound puts begun inside fewer stands takes w =
     let e = stands-emptied held slot less was sound mid_sound begun inside fewer stands in
-    let p = put-done (emptied held slot less) slot first count used links kept octets was now mid_sound next_sound (record { inside = puts.inside; kept_is = puts.kept_is }) begun inside e.stands takes w in
+    let p = put-done (emptied held slot less) slot first count used links kept tags octets was now mid_sound next_sound (record { inside = puts.inside; kept_is = puts.kept_is; tag = puts.tag }) begun inside e.stands takes w in
     record {
       stands = p.stands;
       committed = p.committed ∙ e.committed;

@@ -10,14 +10,14 @@ use Rattle.record_store.specs.RowRuns.{AreEnds, ArePassed, Passes, PassesRows, h
 use Rattle.record_store.specs.Held.{Held, StandsFor, firsts, contents, record_at, first_octet, kept_octet}
 use Rattle.record_store.specs.Opening.{HeldSoFar}
 use Rattle.record_store.specs.Sound.{IsSound}
+use Rattle.record_store.specs.Tags.{Tags}
 use Rattle.record_store.specs.declared.side.Side.{Side}
 use Rattle.record_store.specs.declared.side.Side.TheVariants.{Committed, Working}
 use Rattle.record_store.proofs.FirstOctets.{first-free, first-inside, kept-other, side-apart, slots-count, slot-past}
-use Rattle.record_store.proofs.InUse.{inside-or-past}
 use Rattle.record_store.proofs.OpeningSlots.{finished}
 use Rattle.record_store.proofs.Putting.{long-chain}
 use Rattle.record_store.proofs.Records.{contents-there}
-use Rattle.record_store.proofs.Sides.{same-or-other}
+use Rattle.record_store.proofs.Sides.{inside-or-past, same-or-other}
 use Rattle.record_store.proofs.Weights.{some-slots}
 
 -- searches from the slots from one on to another, which went on behind it, stop there now
@@ -165,14 +165,14 @@ rows-filled octets next firsts slot cell octet kept row rows from passed p withi
       | inr other ↦ ap (has_row_or_none octets) (get_or-set_other firsts slot passed cell 0 other) ∙ rows from passed p before
     ]
 
-pub passed-finished : (held : HeldSoFar) (working next : List ℕ) → working ≡ held.firsts → length next ≡ held.chains.cells → PassesRows held.first_octets next held.firsts → ArePassed (finished held working) next
-passed-finished held working next same size rows = record { size = size; committed = rows; working = subst (PassesRows held.first_octets next) (sym same) rows }
+pub passed-finished : (held : HeldSoFar) (working : List ℕ) (tags : Tags) (next : List ℕ) → working ≡ held.firsts → length next ≡ held.chains.cells → PassesRows held.first_octets next held.firsts → ArePassed (finished held working tags) next
+passed-finished held working tags next same size rows = record { size = size; committed = rows; working = subst (PassesRows held.first_octets next) (sym same) rows }
 
 -- for each slot that begins somewhere an octet is kept
-pub firsts-kept : (held : HeldSoFar) (working : List ℕ) → IsSound (finished held working) → (slot : ℕ) → slot < length held.firsts → (slice_index held.firsts slot ≡ 65535) ⊎ (slice_index held.firsts slot < length held.first_octets)
-firsts-kept held working sound slot inside = elim (same-or-other (slice_index held.firsts slot) 65535) [
+pub firsts-kept : (held : HeldSoFar) (working : List ℕ) (tags : Tags) → IsSound (finished held working tags) → (slot : ℕ) → slot < length held.firsts → (slice_index held.firsts slot ≡ 65535) ⊎ (slice_index held.firsts slot < length held.first_octets)
+firsts-kept held working tags sound slot inside = elim (same-or-other (slice_index held.firsts slot) 65535) [
   | inl none ↦ inl none
-  | inr some ↦ inr (omega (arith, first-inside (finished held working) Committed slot (slice_index held.firsts slot) sound inside refl some, sound.octets_count))
+  | inr some ↦ inr (omega (arith, first-inside (finished held working tags) Committed slot (slice_index held.firsts slot) sound inside refl some, sound.octets_count))
 ]
 
 pub passed-emptied : (held : Held) (new : Cells) (slot : ℕ) (next : List ℕ) → new.cells ≡ held.chains.cells → ArePassed held next → ArePassed (record held { chains = new; working = set held.working slot 65535 }) next
@@ -188,17 +188,17 @@ passed-kept held new next cells passed = record { size = passed.size ∙ sym cel
 pub passed-begun : (held : Held) (next : List ℕ) → ArePassed held next → ArePassed (record held { begun = true }) next
 passed-begun held next passed = record { size = passed.size; committed = passed.committed; working = passed.working }
 
-pub passed-committed : (held : Held) (new : Cells) (now next : List ℕ) → new.cells ≡ held.chains.cells → now ≡ held.working → ArePassed held next → ArePassed (record held { chains = new; committed = now; begun = false }) next
-passed-committed held new now next cells same passed = record { size = passed.size ∙ sym cells; committed = subst (PassesRows held.first_octets next) (sym same) passed.working; working = passed.working }
+pub passed-committed : (held : Held) (new : Cells) (tags : Tags) (now next : List ℕ) → new.cells ≡ held.chains.cells → now ≡ held.working → ArePassed held next → ArePassed (record held { chains = new; committed = now; begun = false; tags = tags }) next
+passed-committed held new tags now next cells same passed = record { size = passed.size ∙ sym cells; committed = subst (PassesRows held.first_octets next) (sym same) passed.working; working = passed.working }
 
-pub passed-rolled_back : (held : Held) (new : Cells) (now next : List ℕ) → new.cells ≡ held.chains.cells → now ≡ held.committed → ArePassed held next → ArePassed (record held { chains = new; working = now; begun = false }) next
-passed-rolled_back held new now next cells same passed = record { size = passed.size ∙ sym cells; committed = passed.committed; working = subst (PassesRows held.first_octets next) (sym same) passed.committed }
+pub passed-rolled_back : (held : Held) (new : Cells) (tags : Tags) (now next : List ℕ) → new.cells ≡ held.chains.cells → now ≡ held.committed → ArePassed held next → ArePassed (record held { chains = new; working = now; begun = false; tags = tags }) next
+passed-rolled_back held new tags now next cells same passed = record { size = passed.size ∙ sym cells; committed = passed.committed; working = subst (PassesRows held.first_octets next) (sym same) passed.committed }
 
 -- a record is put into a slot, whose chain has cells that were free
-pub passed-filled : (held : Held) (new : Cells) (slot first count octet : ℕ) (old now : List ℕ) → IsSound held → held.begun ≡ true → first < 2 * held.chains.cells → TakesChain held.chains new first count → length now ≡ length old
+pub passed-filled : (held : Held) (new : Cells) (tags : Tags) (slot first count octet : ℕ) (old now : List ℕ) → IsSound held → held.begun ≡ true → first < 2 * held.chains.cells → TakesChain held.chains new first count → length now ≡ length old
     → ((from passed : ℕ) → Passes now from passed → Passes old from passed) → ((from : ℕ) → Passes now from slot → octet ≡ row_octet) → ArePassed held old
-    → ArePassed (record held { chains = new; working = set held.working slot first; first_octets = set held.first_octets first octet }) now
-passed-filled held new slot first count octet old now sound begun inside takes size fewer row passed =
+    → ArePassed (record held { chains = new; working = set held.working slot first; first_octets = set held.first_octets first octet; tags = tags }) now
+passed-filled held new tags slot first count octet old now sound begun inside takes size fewer row passed =
     let some : first < 65535 = omega (arith, inside, sound.range.many) in
     let free = first-free new.links held.chains.used first takes.chain takes.linked takes.free (long-chain new.links first takes.chain some takes.linked) in
     let working_is : firsts held Working ≡ held.working = rw begun refl in

@@ -15,11 +15,12 @@ use Rattle.record_store.specs.Held.{Held, firsts}
 use Rattle.record_store.specs.Put.{emptied}
 use Rattle.record_store.specs.Slots.{AreUsedChains, AreReplaced}
 use Rattle.record_store.specs.Sound.{AreChains, AreBeside, HasChains, KeepsSides, IsSound, cells_in}
+use Rattle.record_store.specs.Tags.{Tags, both_sides}
 use Rattle.record_store.specs.declared.side.Side.TheVariants.{Working}
 
--- a record was put, whose chain begins at this cell, and these first octets are kept
-abbrev pub put_into : Held → ℕ → ℕ → List Bool → List ℕ → List ℕ → Held
-put_into held slot first used links octets = record held { chains = record held.chains { used = used; links = links }; working = slice_set held.working slot first; first_octets = octets }
+-- a record was put, whose chain begins at this cell, and these first octets and tags are kept
+abbrev pub put_into : Held → ℕ → ℕ → List Bool → List ℕ → List ℕ → Tags → Held
+put_into held slot first used links octets tags = record held { chains = record held.chains { used = used; links = links }; working = slice_set held.working slot first; first_octets = octets; tags = tags }
 
 -- tests that are each true where the other is
 same-test : (a b : Bool) → (a ≡ true → b ≡ true) → (b ≡ true → a ≡ true) → a ≡ b
@@ -32,6 +33,15 @@ same-or-other a b = elim (a == b) as (λ t. (a == b) ≡ t → (a ≡ b) ⊎ (a 
   | true ↦ λ e. inl (eqb-true a b e)
   | false ↦ λ e. inr (λ same. true≢false (sym (eq-eqb a b same) ∙ e))
 ] refl
+
+pub inside-or-past : (a b : ℕ) → (a < b) ⊎ (b ≤ a)
+inside-or-past zero zero = inr (omega arith)
+inside-or-past zero (suc b) = inl (omega arith)
+inside-or-past (suc a) zero = inr (omega arith)
+inside-or-past (suc a) (suc b) = elim (inside-or-past a b) [
+  | inl inside ↦ inl (omega (arith, inside))
+  | inr past ↦ inr (omega (arith, past))
+]
 
 -- a cell of chains is in one of them
 pub at-chain : (cell : ℕ) (chains : List (List ℕ)) → is_among cell (cells_in chains) ≡ true → (slot : ℕ) × (slot < length chains) × (is_among cell (get_or chains slot []) ≡ true)
@@ -313,9 +323,9 @@ empty-chain link size (x ∷ chain) few linked = absurd (omega (arith, linked.1)
 free-cell : (used : List Bool) (chain : List ℕ) (cell : ℕ) → AllByRecursion (λ cell. is_marked used cell ≡ false) chain → is_among cell chain ≡ true → is_marked used cell ≡ false
 free-cell used chain cell free here = among-all (λ cell. is_marked used cell ≡ false) chain free cell here
 
-pub sound-put : (held : Held) (slot first count : ℕ) (used : List Bool) (links octets : List ℕ) (sound : IsSound held) → length octets ≡ length held.first_octets → held.begun ≡ true → slot < held.chains.cells → slice_index held.working slot ≡ 65535 → PutIn held used links first count
-    → length (cells_in sound.sides.working) + count ≤ held.chains.cells → IsSound (put_into held slot first used links octets)
-sound-put held slot first count used links octets sound octets_count begun inside empty p fits = record {
+pub sound-put : (held : Held) (slot first count : ℕ) (used : List Bool) (links octets : List ℕ) (tags : Tags) (sound : IsSound held) → length octets ≡ length held.first_octets → held.begun ≡ true → slot < held.chains.cells → slice_index held.working slot ≡ 65535 → PutIn held used links first count
+    → length (cells_in sound.sides.working) + count ≤ held.chains.cells → IsSound (put_into held slot first used links octets tags)
+sound-put held slot first count used links octets tags sound octets_count begun inside empty p fits = record {
   range = record { few = sound.range.few; many = sound.range.many; used_count = ap (length {A = Bool}) p.used ∙ (length-with_marked held.chains.used p.chain ∙ sound.range.used_count); links_count = p.size ∙ sound.range.links_count };
   rows = sound.rows;
   committed_count = sound.committed_count;
@@ -347,7 +357,7 @@ sound-put held slot first count used links octets sound octets_count begun insid
     working_is : firsts held Working ≡ held.working
     working_is = rw begun refl
 
-    firsts_are : firsts (put_into held slot first used links octets) Working ≡ set held.working slot first
+    firsts_are : firsts (put_into held slot first used links octets tags) Working ≡ set held.working slot first
     firsts_are = rw begun refl
 
     there : slot < length k.working
@@ -414,7 +424,7 @@ rolled_back held used = record held { chains = record held.chains { used = used 
 
 -- it was committed: the working records are now those that are committed, and the gate is closed
 abbrev pub after_commit : Held → List Bool → Held
-after_commit held used = record held { chains = record held.chains { used = used }; committed = held.working; begun = false }
+after_commit held used = record held { chains = record held.chains { used = used }; committed = held.working; begun = false; tags = both_sides held.tags.working }
 
 pub sound-committed : (held : Held) (used : List Bool) (sound : IsSound held) → held.begun ≡ true → Frees held held.committed held.working used → IsSound (after_commit held used)
 sound-committed held used sound begun f = record {

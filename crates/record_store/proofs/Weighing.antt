@@ -12,6 +12,7 @@ use Rattle.record_store.specs.Held.{Held, StandsFor, firsts, contents}
 use Rattle.record_store.specs.Opening.{HeldSoFar, IsSoundSoFar}
 use Rattle.record_store.specs.Slots.{steps_without}
 use Rattle.record_store.specs.Sound.{IsSound}
+use Rattle.record_store.specs.Tags.{Tags}
 use Rattle.record_store.specs.Weighed.{walk, IsWeighed}
 use Rattle.record_store.specs.declared.side.Side.{Side}
 use Rattle.record_store.specs.declared.side.Side.TheVariants.{Committed, Working}
@@ -57,13 +58,13 @@ walk-stay held side links sound size stay =
     walk-chains links (firsts held side) s.chains (omega (arith, size, few)) (chains-stay held.chains.used held.chains.links links (firsts held side) s.chains size stay s.marked s.has.are)
     ∙ sym (walk-chains held.chains.links (firsts held side) s.chains few s.has.are)
 
-pub weighed-finished : (held : HeldSoFar) (working : List ℕ) → IsSoundSoFar held → held.claimed ≡ held.chains.cells → length working ≡ held.chains.cells
-    → IsWeighed (finished held working) held.weight held.weight
-weighed-finished held working sound all count =
+pub weighed-finished : (held : HeldSoFar) (working : List ℕ) (tags : Tags) → IsSoundSoFar held → held.claimed ≡ held.chains.cells → length working ≡ held.chains.cells
+    → IsWeighed (finished held working tags) held.weight held.weight
+weighed-finished held working tags sound all count =
     let whole : take held.claimed held.firsts ≡ held.firsts = take_all held.claimed held.firsts (omega (arith, all, sound.count)) in
     let walked = walk-chains held.chains.links (take held.claimed held.firsts) sound.chains.slots.chains (omega (arith, sound.range.links_count, sound.range.many)) sound.chains.slots.has.are in
     let is : held.weight ≡ walk held.chains.links held.firsts = sym sound.chains.count_is ∙ (sym walked ∙ ap (λ (firsts : List ℕ). sum_by (steps held.chains.links longest_chain) firsts) whole) in
-    record { sound = sound-finished held working sound all count; committed_is = is; working_is = is }
+    record { sound = sound-finished held working tags sound all count; committed_is = is; working_is = is }
 
 -- a slot was emptied
 pub weighed-emptied : (held : Held) (committed working slot weight : ℕ) (new : Cells) → IsWeighed held committed working → IsSound (record held { chains = new; working = set held.working slot 65535 }) → held.begun ≡ true → slot < held.chains.cells → new.links ≡ held.chains.links
@@ -77,10 +78,10 @@ weighed-emptied held committed working slot weight new w next begun inside links
     }
 
 -- it was filled again
-pub weighed-filled : (held mid : Held) (used : List Bool) (slot weight count first octet committed working : ℕ) (new : Cells) → Emptied held mid used slot weight count → TakesChain mid.chains new first count → IsWeighed mid committed working
-    → IsWeighed (record mid { chains = new; working = set mid.working slot first; first_octets = set mid.first_octets first octet }) committed (weight + count)
-weighed-filled held mid used slot weight count first octet committed working new e takes w = record {
-  sound = filled-sound held mid used slot weight count first octet new e takes;
+pub weighed-filled : (held mid : Held) (used : List Bool) (slot weight count first octet committed working : ℕ) (new : Cells) (tags : Tags) → Emptied held mid used slot weight count → TakesChain mid.chains new first count → IsWeighed mid committed working
+    → IsWeighed (record mid { chains = new; working = set mid.working slot first; first_octets = set mid.first_octets first octet; tags = tags }) committed (weight + count)
+weighed-filled held mid used slot weight count first octet committed working new tags e takes w = record {
+  sound = filled-sound held mid used slot weight count first octet new tags e takes;
   committed_is = w.committed_is ∙ sym (walk-stay mid Committed new.links mid_sound takes.links_count takes.stay);
   working_is = rw begun walked;
 }
@@ -122,17 +123,17 @@ weighed-failed held new committed working w keeps = record {
 }
 
 -- a transaction was committed
-pub weighed-committed : (held : Held) (new : Cells) (firsts_now : List ℕ) (committed working : ℕ) → IsWeighed held committed working → held.begun ≡ true → new.links ≡ held.chains.links → firsts_now ≡ held.working
-    → IsSound (record held { chains = new; committed = firsts_now; begun = false })
-    → IsWeighed (record held { chains = new; committed = firsts_now; begun = false }) working working
-weighed-committed held new firsts_now committed working w begun links same sound =
+pub weighed-committed : (held : Held) (new : Cells) (tags : Tags) (firsts_now : List ℕ) (committed working : ℕ) → IsWeighed held committed working → held.begun ≡ true → new.links ≡ held.chains.links → firsts_now ≡ held.working
+    → IsSound (record held { chains = new; committed = firsts_now; begun = false; tags = tags })
+    → IsWeighed (record held { chains = new; committed = firsts_now; begun = false; tags = tags }) working working
+weighed-committed held new tags firsts_now committed working w begun links same sound =
     let is : working ≡ walk held.chains.links held.working = w.working_is ∙ ap (λ (firsts : List ℕ). sum_by (steps held.chains.links longest_chain) firsts) (working-firsts held begun) in
     let now : working ≡ walk new.links firsts_now = rw (links, same) is in
     record { sound = sound; committed_is = now; working_is = now }
 
 -- it was rolled back
-pub weighed-rolled_back : (held : Held) (new : Cells) (firsts_now : List ℕ) (committed working : ℕ) → IsWeighed held committed working → new.links ≡ held.chains.links → IsSound (record held { chains = new; working = firsts_now; begun = false })
-    → IsWeighed (record held { chains = new; working = firsts_now; begun = false }) committed committed
-weighed-rolled_back held new firsts_now committed working w links sound =
+pub weighed-rolled_back : (held : Held) (new : Cells) (tags : Tags) (firsts_now : List ℕ) (committed working : ℕ) → IsWeighed held committed working → new.links ≡ held.chains.links → IsSound (record held { chains = new; working = firsts_now; begun = false; tags = tags })
+    → IsWeighed (record held { chains = new; working = firsts_now; begun = false; tags = tags }) committed committed
+weighed-rolled_back held new tags firsts_now committed working w links sound =
     let now : committed ≡ walk new.links held.committed = rw links (w.committed_is) in
     record { sound = sound; committed_is = now; working_is = now }

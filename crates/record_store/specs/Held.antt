@@ -4,11 +4,13 @@ use Rattle.eeprom.specs.Chip.{Chip}
 use Rattle.eeprom.specs.Frame.{HasRoom}
 use Rattle.eeprom.specs.StoreOf.{fresh_row_limit, migrated_row_limit, no_cell, Slots, Stored, slots_at, starts_with_magic, has_header, number_at, row_limit, is_gate_open, written_directory}
 use Rattle.cell_store.specs.Cells.{Cells, AreLinkedIn}
+use Rattle.record_store.specs.Tags.{Tags, SideTags, AreTags}
 use Rattle.record_store.specs.declared.side.Side.{Side}
 use Rattle.record_store.specs.declared.side.Side.TheVariants.{Committed, Working}
 
 -- the cells and the chains of them; how many octets a row may have; for each slot the first cell of its chain as it was committed
--- and, where a transaction was begun, as it is in it; and for each cell that the chain of a record begins at the first octet of the record
+-- and, where a transaction was begun, as it is in it; for each cell that the chain of a record begins at the first octet of the record;
+-- and the tags of the records on both sides
 pub record Held : Type 0 where
   pub chains : Cells
   pub row_limit : ℕ
@@ -16,10 +18,16 @@ pub record Held : Type 0 where
   pub working : List ℕ
   pub begun : Bool
   pub first_octets : List ℕ
+  pub tags : Tags
 
 abbrev pub firsts : Held → Side → List ℕ
 firsts held Committed = held.committed
 firsts held Working = if held.begun then held.working else held.committed
+
+-- the tags of a side
+abbrev pub tags_of : Held → Side → SideTags
+tags_of held Committed = held.tags.committed
+tags_of held Working = if held.begun then held.tags.working else held.tags.committed
 
 -- how many octets a row may have: 240, or 1,020 on a card that was migrated
 abbrev pub IsRowLimit : ℕ → Type 0
@@ -70,6 +78,8 @@ pub record StandsFor (held : Held) (image : List ℕ) : Type 0 where
   pub working : IsSome (contents held Working image)
   pub committed_octets : AreKept held.first_octets held.committed (contents held Committed image)
   pub working_octets : AreKept held.first_octets (firsts held Working) (contents held Working image)
+  pub committed_tags : AreTags held.tags.committed (contents held Committed image)
+  pub working_tags : AreTags (tags_of held Working) (contents held Working image)
 
 -- the EEPROM has room for the store that is held, and its image, where told, has that store
 pub record IsOver (held : Held) (chip : Chip) : Type 0 where

@@ -3,6 +3,7 @@ use Rattle.std.specs.Prelude.{◌≡◌, ℕ, ◌<◌, ◌≤◌, false, List, [
 use Rattle.eeprom.specs.StoreOf.{no_cell}
 use Rattle.record_store.specs.Held.{Held}
 use Rattle.record_store.specs.RowRuns.{ArePassed}
+use Rattle.record_store.specs.Tags.{Tags, HasTags, SameTagsOutside}
 use Rattle.record_store.specs.Touched.{TouchedSlots, none_touched, SameOutside}
 use Rattle.record_store.specs.Weighed.{IsWeighed}
 
@@ -22,12 +23,19 @@ pub record HasMemory (cells : ℕ) (touched : TouchedSlots) (room : ℕ) (ends :
   pub room_is : cells ≤ room
   pub searched : length ends ≡ cells
 
--- the working chains differ from the committed ones in touched slots alone, where no transaction is begun in none, and there is room for
--- an entry of each slot
+-- so many slots have tags on each side, which differ in these slots alone
+pub record AreTagsTouched (tags : Tags) (slots : List ℕ) (cells : ℕ) : Type 0 where
+  pub committed_count : HasTags cells tags.committed
+  pub working_count : HasTags cells tags.working
+  pub others : SameTagsOutside slots tags.working tags.committed
+
+-- the working chains and tags differ from the committed ones in touched slots alone, where no transaction is begun in none, and there is room
+-- for an entry of each slot
 pub record IsTouched (held : Held) (touched : TouchedSlots) (room : ℕ) : Type 0 where
   pub size : touched.size ≡ held.chains.cells
   pub others : SameOutside touched.slots held.working held.committed
   pub idle : held.begun ≡ false → touched.slots ≡ []
+  pub tags : AreTagsTouched held.tags touched.slots held.chains.cells
   pub room_is : held.chains.cells ≤ room
 
 -- how many cells the committed records and the working ones have, how many slots are in use, which ones a search passes over, and which ones

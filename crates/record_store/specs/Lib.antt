@@ -12,4 +12,5 @@ pub mod Slots
 pub mod Sound
 pub mod Touched
 pub mod Transaction
+pub mod Tags
 pub mod Weighed

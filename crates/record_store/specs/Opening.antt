@@ -7,9 +7,11 @@ use Rattle.cell_store.specs.Cells.{Cells, IsInRange, AreLinkedIn}
 use Rattle.cell_store.specs.Claims.{TakesChain}
 use Rattle.record_store.specs.Held.{BeginsAs, IsRowLimit, AreKept}
 use Rattle.record_store.specs.Sound.{Claimed, cells_in}
+use Rattle.record_store.specs.Tags.{SideTags, AreTags, HasTags}
 
 -- the cells and the chains of them; how many octets a row may have; for each slot the first cell of its chain; how many
--- slots were claimed, and how many cells their chains have; and for each cell that one of them begins at the first octet of its record
+-- slots were claimed, and how many cells their chains have; for each cell that one of them begins at the first octet of its record; and
+-- the tags of the slots that were claimed
 pub record HeldSoFar : Type 0 where
   pub chains : Cells
   pub row_limit : ℕ
@@ -17,6 +19,7 @@ pub record HeldSoFar : Type 0 where
   pub claimed : ℕ
   pub weight : ℕ
   pub first_octets : List ℕ
+  pub tags : SideTags
 
 -- the slot with these octets as its record; without octets it is empty
 abbrev pub slot_with : List ℕ → Option (List ℕ)
@@ -38,6 +41,7 @@ pub record StandsSoFar (held : HeldSoFar) (image : List ℕ) : Type 0 where
   pub links : AreLinkedIn held.chains image
   pub claimed : IsSome (slots_so_far held image)
   pub octets : AreKept held.first_octets (take held.claimed held.firsts) (slots_so_far held image)
+  pub tags : AreTags held.tags (slots_so_far held image)
 
 -- the EEPROM has room for the store, and its image, where told, has what was opened so far
 pub record IsOverSoFar (held : HeldSoFar) (chip : Chip) : Type 0 where
@@ -66,6 +70,7 @@ pub record IsSoundSoFar (held : HeldSoFar) : Type 0 where
   pub rows : IsRowLimit held.row_limit
   pub count : length held.firsts ≡ held.chains.cells
   pub octets_count : length held.first_octets ≡ 2 * held.chains.cells
+  pub tags_count : HasTags held.chains.cells held.tags
   pub claimed : held.claimed ≤ held.chains.cells
   pub chains : ClaimedSoFar held.chains (take held.claimed held.firsts) held.weight
 

@@ -3,12 +3,13 @@ use Rattle.std.specs.Prelude.{◌≡◌, ◌⊎◌, ℕ, ◌==◌, Bool, true, f
 use Rattle.eeprom.specs.Chip.{Chip, LeavesOf}
 use Rattle.eeprom.specs.StoreOf.{store_of}
 use Rattle.record_store.specs.Held.{Held, firsts, stored, StandsFor}
+use Rattle.record_store.specs.Tags.{both_sides}
 use Rattle.record_store.specs.Slots.{changed}
 use Rattle.record_store.specs.declared.side.Side.TheVariants.{Committed, Working}
 
 -- a transaction is begun: the working records are those that were committed
 abbrev pub begun_from : Held → Held
-begun_from held = record held { working = held.committed; begun = true }
+begun_from held = record held { working = held.committed; begun = true; tags = both_sides held.tags.committed }
 
 -- how many entries a commit would write now: one for each slot in which another chain begins
 abbrev pub entries : Held → ℕ

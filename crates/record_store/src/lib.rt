@@ -11,8 +11,10 @@ mod opening;
 mod refusal;
 mod row_runs;
 mod side;
+mod slot_tags;
 mod slots;
 mod store;
+mod tags;
 mod touched;
 mod writer;
 
@@ -22,6 +24,7 @@ pub use opening::Opening;
 pub use refusal::{FormatRefusal, OpenRefusal, StoreRefusal};
 pub use side::Side;
 pub use store::Store;
+pub use tags::{Tag, name_tag, pair_tag, stamp_tag};
 
 #[cfg(test)]
 mod tests;

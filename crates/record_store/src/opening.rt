@@ -17,6 +17,7 @@ use crate::OpenRefusal;
 use crate::first_octets::keep_octet;
 use crate::header::{Header, read_directory, read_header};
 use crate::row_runs::RowRuns;
+use crate::slot_tags::SlotTags;
 use crate::touched::Touched;
 use cell_store::{CellStore, ClaimRefusal, RecordOctets};
 use eeprom::{Eeprom, Heap, NO_CELL};
@@ -33,6 +34,7 @@ pub struct Opening {
     pub(crate) working: Vec<u16, Heap>,
     /// For each cell that the chain of a claimed slot begins at, the first octet of its record.
     pub(crate) first_octets: Vec<u8, Heap>,
+    pub(crate) tags: SlotTags,
     /// The memory of transactions.
     pub(crate) touched: Touched,
     pub(crate) entries: Vec<Entry, Heap>,
@@ -51,9 +53,9 @@ impl Model for Opening {
 
     ghost Value = { HeldSoFar };
 
-    ghost view = { λ opening. record { chains = opening.chains; row_limit = opening.row_limit; firsts = opening.committed.items; claimed = opening.claimed; weight = opening.weight; first_octets = opening.first_octets.items } };
+    ghost view = { λ opening. record { chains = opening.chains; row_limit = opening.row_limit; firsts = opening.committed.items; claimed = opening.claimed; weight = opening.weight; first_octets = opening.first_octets.items; tags = opening.tags.committed } };
 
-    ghost invariant = { λ opening. (opening.working.items ≡ opening.committed.items) × HasMemory opening.chains.cells opening.touched (vec_capacity opening.entries) opening.row_runs × IsSoundSoFar (record { chains = opening.chains; row_limit = opening.row_limit; firsts = opening.committed.items; claimed = opening.claimed; weight = opening.weight; first_octets = opening.first_octets.items }) };
+    ghost invariant = { λ opening. (opening.working.items ≡ opening.committed.items) × (opening.tags.working ≡ opening.tags.committed) × HasMemory opening.chains.cells opening.touched (vec_capacity opening.entries) opening.row_runs × IsSoundSoFar (record { chains = opening.chains; row_limit = opening.row_limit; firsts = opening.committed.items; claimed = opening.claimed; weight = opening.weight; first_octets = opening.first_octets.items; tags = opening.tags.committed }) };
 }
 
 impl Opening {
@@ -76,6 +78,7 @@ impl Opening {
         let committed = read_directory(alloc, bench, header)?;
         let working = Vec::from_slice(alloc, committed.as_slice())?;
         let first_octets = vec![in alloc; 0u8; 2 * header.cells as usize]?;
+        let tags = SlotTags::with_room(alloc, header.cells)?;
         let touched = Touched::with_room(alloc, header.cells)?;
         let entries = Vec::with_capacity(alloc, header.cells as usize)?;
         let row_runs = RowRuns::with_room(alloc, header.cells)?;
@@ -86,6 +89,7 @@ impl Opening {
             committed,
             working,
             first_octets,
+            tags,
             touched,
             entries,
             row_runs,
@@ -146,6 +150,7 @@ impl Opening {
             committed,
             working,
             mut first_octets,
+            mut tags,
             touched,
             entries,
             row_runs,
@@ -159,12 +164,14 @@ impl Opening {
             return Err(OpenRefusal::NotACard);
         }
         keep_octet(&mut first_octets, first, out.as_slice());
+        tags.found(claimed, out.as_slice());
         Ok(Opening {
             chains,
             row_limit,
             committed,
             working,
             first_octets,
+            tags,
             touched,
             entries,
             row_runs,

@@ -5,7 +5,8 @@ ghost use Rattle.eeprom.specs.Fault.{Counts, CountsFaults, each_error};
 ghost use Rattle.eeprom.specs.Frame.{Reads};
 ghost use Rattle.eeprom.specs.StoreOf.{fewest_cells, migrated_row_limit, most_cells, no_cell, Slots, Stored, store_of, is_gate_open, cell_size, longest_record};
 ghost use Rattle.eeprom.specs.StoreOf as image;
-ghost use Rattle.record_store.specs.Held.{firsts, contents, stored, record_at, first_octet, StandsFor, IsOver, IsRowLimit};
+ghost use Rattle.record_store.specs.Tags.{HasTags, has_tag, is_tagged};
+ghost use Rattle.record_store.specs.Held.{firsts, tags_of, contents, stored, record_at, first_octet, StandsFor, IsOver, IsRowLimit};
 ghost use Rattle.record_store.specs.Opening.{ReadsFront, ReadsStore, StandsSoFar, most_octets, slots_so_far};
 ghost use Rattle.record_store.specs.Faults.{is_open_fault, is_put_fault};
 ghost use Rattle.record_store.specs.Recovery.{Recovers};
@@ -22,7 +23,9 @@ ghost use Rattle.record_store.specs.declared.side.Side.TheVariants.{Committed, W
 use crate::entries::take_entries;
 use crate::opening::Opening;
 use crate::row_runs::{RowRuns, take_in_all};
+use crate::slot_tags::{SideTags, SlotTags};
 use crate::slots::{copy_slots, free_replaced, named_or_empty, search_from, slots_in_use};
+use crate::tags::{Tag, next_with};
 use crate::touched::Touched;
 use crate::{OpenRefusal, Side, StoreRefusal};
 use cell_store::{CellRefusal, CellStore, RecordOctets, cells_for};
@@ -40,6 +43,8 @@ pub struct Store {
     begun: bool,
     /// For each cell that the chain of a record begins at, the first octet of the record.
     first_octets: Vec<u8, Heap>,
+    /// For each slot the tag of its record, on both sides.
+    tags: SlotTags,
     /// How many cells the records of each side have.
     committed_weight: u16,
     working_weight: u16,
@@ -62,9 +67,9 @@ impl Model for Store {
 
     ghost Value = { Held };
 
-    ghost view = { λ store. record { chains = store.chains; row_limit = store.row_limit; committed = store.committed.items; working = store.working.items; begun = store.begun; first_octets = store.first_octets.items } };
+    ghost view = { λ store. record { chains = store.chains; row_limit = store.row_limit; committed = store.committed.items; working = store.working.items; begun = store.begun; first_octets = store.first_octets.items; tags = store.tags } };
 
-    ghost invariant = { λ store. IsInMemory (record { chains = store.chains; row_limit = store.row_limit; committed = store.committed.items; working = store.working.items; begun = store.begun; first_octets = store.first_octets.items }) store.committed_weight store.working_weight store.slots_in_use store.touched (vec_capacity store.entries) store.row_runs };
+    ghost invariant = { λ store. IsInMemory (record { chains = store.chains; row_limit = store.row_limit; committed = store.committed.items; working = store.working.items; begun = store.begun; first_octets = store.first_octets.items; tags = store.tags }) store.committed_weight store.working_weight store.slots_in_use store.touched (vec_capacity store.entries) store.row_runs };
 }
 
 impl Opening {
@@ -88,6 +93,7 @@ impl Opening {
             working: self.working,
             begun: false,
             first_octets: self.first_octets,
+            tags: self.tags,
             committed_weight: self.weight,
             working_weight: self.weight,
             slots_in_use,
@@ -188,6 +194,21 @@ impl Store {
         Some(self.first_octets[first as usize])
     }
 
+    /// The next slot from this one on that has a record of this tag, or none: the records of the slots before it have other tags. Nothing
+    /// is read.
+    pub fn next_tagged(&self, side: Side, tag: Tag, slot: u16) -> u16
+        ensures onward { slot ≤ result }
+        ensures most { slot ≤ self.now.chains.cells → result ≤ self.now.chains.cells }
+        ensures others { (image : List ℕ) (passed : ℕ) → StandsFor self.now image → slot ≤ passed → passed < result → has_tag tag (record_at self.now side passed image) ≡ false }
+        ensures here { (image : List ℕ) (octets : List ℕ) → StandsFor self.now image → record_at self.now side result image ≡ Some octets → is_tagged tag octets ≡ true }
+    {
+        let tags = self.side_tags(side);
+        match tag {
+            Tag::Name(tag) => next_with(tags.names(), tag, slot),
+            Tag::Stamp(tag) => next_with(tags.stamps(), tag, slot),
+        }
+    }
+
     /// Reads the record of a slot, and answers whether there is one.
     pub fn get<B: Eeprom>(
         &self,
@@ -272,6 +293,7 @@ impl Store {
                 self.touched.touch(slot);
                 self.working[slot as usize] = first;
                 self.first_octets[first as usize] = octets[0];
+                self.tags.put(slot, octets);
                 self.row_runs.take_in(slot, octets[0]);
                 self.working_weight = weight + count;
                 self.slots_in_use = self.slots_in_use.max(slot + 1);
@@ -342,6 +364,7 @@ impl Store {
         Journal::commit(bench, self.chains.cells(), self.entries.as_slice())?;
         free_replaced(&mut self.chains, slots, self.committed.as_slice(), working);
         copy_slots(slots, working, &mut self.committed);
+        self.tags.commit(slots);
         self.touched.clear();
         self.committed_weight = self.working_weight;
         self.begun = false;
@@ -361,6 +384,7 @@ impl Store {
         let committed = self.committed.as_slice();
         free_replaced(&mut self.chains, slots, self.working.as_slice(), committed);
         copy_slots(slots, committed, &mut self.working);
+        self.tags.rollback(slots);
         self.touched.clear();
         self.working_weight = self.committed_weight;
         self.begun = false;
@@ -382,6 +406,19 @@ impl Store {
         match side {
             Side::Working if self.begun => self.working.as_slice(),
             _ => self.committed.as_slice(),
+        }
+    }
+
+    /// The tags of each slot's record.
+    fn side_tags(&self, side: Side) -> &SideTags
+        ensures tags { result.now ≡ tags_of self.now side }
+        ensures count { HasTags self.now.chains.cells result.now }
+        ensures few { self.now.chains.cells ≤ most_cells }
+        ensures none { (image : List ℕ) (slot : ℕ) → StandsFor self.now image → self.now.chains.cells ≤ slot → record_at self.now side slot image ≡ None }
+    {
+        match side {
+            Side::Working if self.begun => self.tags.working(),
+            _ => self.tags.committed(),
         }
     }
 }

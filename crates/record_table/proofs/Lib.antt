@@ -12,11 +12,13 @@ pub mod MadeLeft
 pub mod ReadingCosts
 pub mod Rewriting
 pub mod Scan
+pub mod SlotCosts
 pub mod SlotReads
 pub mod Stamping
 pub mod StampsInSlots
 pub mod Steps
 pub mod SweptSlots
+pub mod TaggedSearches
 pub mod TouchedEdits
 pub mod TouchedRecords
 pub mod TouchedSlots

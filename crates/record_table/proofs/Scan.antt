@@ -5,7 +5,6 @@ use Rattle.std.specs.Option.{option_map_or}
 use Rattle.std.specs.Prelude.{IfSome, IfOk, filter, Result, Ok, Err, option_and_then}
 use Rattle.std.specs.List.{find, cons_option}
 use Rattle.std.proofs.Math.Seq.{drop-nil}
-use Rattle.std.proofs.lemmas.List.Sums.{sum_by-cons}
 use Rattle.eeprom.specs.Chip.{Becomes, RisesAtMost}
 use Rattle.eeprom.specs.Slots.{in_slot, nearest_from, nearer, above}
 use Rattle.eeprom.specs.StoreOf.{Slots, cell_size}
@@ -13,6 +12,7 @@ use Rattle.record_store.specs.Held.{Held, contents, record_at, StandsFor}
 use Rattle.record_store.specs.declared.side.Side.{Side}
 use Rattle.catalog_codec.specs.Kinds.{Kind, IsKind, read_as}
 use Rattle.record_table.specs.Listed.{in_slots, at_slot, has_kind_mark, kind_cells, cells_marked}
+use Rattle.record_table.proofs.SlotCosts as costs
 use Rattle.record_table.proofs.SlotReads.{unmarked}
 
 -- what is told of the slots that a search saw
@@ -105,11 +105,7 @@ module _ {X : Type 0} (kind : Kind X) where
   in_slots-others (entry ∷ slots) (suc from) (suc to) is onward others = in_slots-others slots from to is (omega (arith, onward)) (λ slot later earlier. others (suc slot) (omega (arith, later)) (omega (arith, earlier)))
 
   pub cells-fewer : (slots : Slots) (from to : ℕ) → from ≤ to → cells_marked kind (drop to slots) ≤ cells_marked kind (drop from slots)
-  cells-fewer [] from to onward = omega (arith, ap (cells_marked kind) (drop-nil from), ap (cells_marked kind) (drop-nil to))
-  cells-fewer (entry ∷ slots) zero zero onward = omega arith
-  cells-fewer (entry ∷ slots) zero (suc to) onward = omega (arith, cells-fewer slots zero to (omega arith), sum_by-cons (kind_cells kind) entry slots)
-  cells-fewer (entry ∷ slots) (suc from) zero onward = absurd (omega (arith, onward))
-  cells-fewer (entry ∷ slots) (suc from) (suc to) onward = cells-fewer slots from to (omega (arith, onward))
+  cells-fewer = costs.cells-fewer (kind_cells kind)
 
   module _ {Y : Type 0} (answer : Slots → Y) where
     -- the answer of all slots is what F makes of the records from a slot on
@@ -146,29 +142,17 @@ module _ {X : Type 0} (kind : Kind X) where
 
   -- so many octets were read that those of the slots from this one on are left
   abbrev pub ReadsUpTo : ℕ → Slots → ℕ → ℕ → Type 0
-  ReadsUpTo slot slots before after = after + cell_size * cells_marked kind (drop slot slots) ≤ before + cell_size * cells_marked kind slots
-
-  cells-from : (slots : Slots) (slot : ℕ) → cells_marked kind (drop slot slots) ≡ kind_cells kind (get_or slots slot None) + cells_marked kind (drop (suc slot) slots)
-  cells-from [] slot = ap (cells_marked kind) (drop-nil slot)
-  cells-from (entry ∷ slots) zero = sum_by-cons (kind_cells kind) entry slots
-  cells-from (entry ∷ slots) (suc slot) = cells-from slots slot
+  ReadsUpTo = costs.ReadsUpTo (kind_cells kind)
 
   pub reads-none : (slots : Option Slots) (a : Option ℕ) → IfSome slots (λ slots. Becomes (ReadsUpTo 0 slots) a a)
-  reads-none None a = tt
-  reads-none (Some slots) a = λ after told. (after, told, omega arith)
+  reads-none = costs.reads-none (kind_cells kind)
 
   pub reads-behind : (slots : Option Slots) (slot : ℕ) (a b c : Option ℕ) → IfSome slots (λ slots. Becomes (ReadsUpTo slot slots) a b)
       → IfSome slots (λ slots. Becomes (RisesAtMost (cell_size * kind_cells kind (get_or slots slot None))) b c) → IfSome slots (λ slots. Becomes (ReadsUpTo (slot + 1) slots) a c)
-  reads-behind None slot a b c so_far here = tt
-  reads-behind (Some slots) slot a b c so_far here = λ after told.
-      let h = here after told in
-      let s = so_far h.0 h.1 in
-      (s.0, s.1, rw add-one (omega (arith, h.2, s.2, cells-from slots slot)))
+  reads-behind slots slot a b c = costs.reads-behind (kind_cells kind) refl slots slot (kind_cells kind) a b c (costs.at_cost (kind_cells kind) slots slot)
 
   pub reads-on : (slots : Option Slots) (from to : ℕ) (a b : Option ℕ) → from ≤ to → IfSome slots (λ slots. Becomes (ReadsUpTo from slots) a b) → IfSome slots (λ slots. Becomes (ReadsUpTo to slots) a b)
-  reads-on None from to a b onward so_far = tt
-  reads-on (Some slots) from to a b onward so_far = λ after told. let s = so_far after told in (s.0, s.1, omega (arith, s.2, cells-fewer slots from to onward))
+  reads-on = costs.reads-on (kind_cells kind)
 
   pub reads-all : (slots : Option Slots) (slot : ℕ) (a b : Option ℕ) → IfSome slots (λ slots. Becomes (ReadsUpTo slot slots) a b) → IfSome slots (λ slots. Becomes (RisesAtMost (cell_size * cells_marked kind slots)) a b)
-  reads-all None slot a b so_far = tt
-  reads-all (Some slots) slot a b so_far = λ after told. let s = so_far after told in (s.0, s.1, omega (arith, s.2))
+  reads-all = costs.reads-all (kind_cells kind)

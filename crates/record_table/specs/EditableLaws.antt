@@ -17,6 +17,7 @@ use Rattle.catalog_codec.specs.KindLaws.{HaveOtherMarks-sym}
 use Rattle.catalog_codec.specs.CatalogLaws.{IsKind-user, IsKind-object, IsKind-grant, IsKind-row, HaveOtherMarks-counter-user, HaveOtherMarks-counter-object, HaveOtherMarks-counter-grant, HaveOtherMarks-user-object, HaveOtherMarks-user-grant, HaveOtherMarks-grant-object, HaveOtherMarks-row-counter, HaveOtherMarks-row-user, HaveOtherMarks-row-object, HaveOtherMarks-row-grant}
 use Rattle.scql_model.specs.Opens.{is_spelled}
 use Rattle.record_table.specs.Editable.{IsEditable}
+use Rattle.record_table.specs.TagLaws.{stamped-user, stamped-object, stamped-grant, stamped-row}
 use Rattle.record_table.specs.Touching.{stamp_in}
 
 -- one of five readers gives something
@@ -103,6 +104,7 @@ named-row octets x read =
 pub IsEditable-user : IsEditable user_kind of_user
 IsEditable-user = record {
   named = named-user;
+  stamped = stamped-user;
   lengths = length-user_in;
   spells = λ u. refl;
   stamps = λ u. refl;
@@ -130,6 +132,7 @@ IsEditable-user = record {
 pub IsEditable-object : IsEditable object_kind of_object
 IsEditable-object = record {
   named = named-object;
+  stamped = stamped-object;
   lengths = length-object_in;
   spells = λ o. refl;
   stamps = λ o. refl;
@@ -157,6 +160,7 @@ IsEditable-object = record {
 pub IsEditable-grant : IsEditable grant_kind of_grant
 IsEditable-grant = record {
   named = named-grant;
+  stamped = stamped-grant;
   lengths = length-grant_in;
   spells = λ g. refl;
   stamps = λ g. refl;
@@ -184,6 +188,7 @@ IsEditable-grant = record {
 pub IsEditable-row : IsEditable row_kind of_row
 IsEditable-row = record {
   named = named-row;
+  stamped = stamped-row;
   lengths = length-row_in;
   spells = λ r. refl;
   stamps = λ r. refl;

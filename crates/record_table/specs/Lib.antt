@@ -6,4 +6,6 @@ pub mod Listed
 pub mod Making
 pub mod Reading
 pub mod Swept
+pub mod Tagged
 pub mod Touching
+pub mod TagLaws

@@ -1,5 +1,5 @@
 // The record of one slot, if it is of a kind.
-ghost use Rattle.std.specs.Prelude.{◌≡◌, ◌<◌, ◌≤◌, ◌*◌, ℕ, List, None, false, IfOk, IfSome, if◌then◌else◌, slice_index_or};
+ghost use Rattle.std.specs.Prelude.{◌≡◌, ◌<◌, ◌≤◌, ◌*◌, ℕ, List, Some, None, false, IfOk, IfSome, if◌then◌else◌, slice_index_or};
 ghost use Rattle.eeprom.specs.Chip.{Becomes, RisesAtMost};
 ghost use Rattle.eeprom.specs.Fault.{each_error};
 ghost use Rattle.eeprom.specs.Frame.{Reads};
@@ -9,10 +9,11 @@ ghost use Rattle.record_store.specs.declared.side.Side.{Side};
 ghost use Rattle.record_table.specs.Listed.{at_slot, kind_cells, slots_of};
 ghost use Rattle.record_table.specs.Listed as listed;
 ghost use Rattle.record_table.specs.Reading.{NeverFalls};
+ghost use Rattle.record_table.specs.Tagged.{IsTagged, is_searched};
 
 use catalog_codec::Record;
 use eeprom::{Eeprom, EepromFault};
-use record_store::{RecordOctets, Side, Store};
+use record_store::{RecordOctets, Side, Store, Tag};
 use scql_base::RowRecord;
 
 /// The record of a slot, if it is of the kind. A record with another first octet isn't read. Records are read into `octets`.
@@ -80,6 +81,19 @@ pub fn next_slot<R: Record>(store: &Store, slot: u16) -> u16
         slot
     } else {
         store.end_of_rows(slot)
+    }
+}
+
+/// The next slot from this one on that may have a record of the kind and, where there is one, of the tag: the slots before it have none.
+pub(crate) fn next_tagged<R: Record>(store: &Store, side: Side, tag: Option<Tag>, slot: u16) -> u16
+    ensures onward { slot ≤ result }
+    ensures most { slot ≤ store.now.chains.cells → result ≤ store.now.chains.cells }
+    ensures others { (image : List ℕ) (passed : ℕ) → StandsFor store.now image → slot ≤ passed → passed < result → is_searched R.kind tag (record_at store.now side passed image) ≡ false }
+    ensures here { (image : List ℕ) (octets : List ℕ) → StandsFor store.now image → record_at store.now side result image ≡ Some octets → IsTagged tag octets }
+{
+    match tag {
+        Some(tag) => store.next_tagged(side, tag, slot),
+        None => next_slot::<R>(store, slot),
     }
 }
 

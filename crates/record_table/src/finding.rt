@@ -10,9 +10,10 @@ ghost use Rattle.eeprom.specs.StoreOf.{cell_size};
 ghost use Rattle.record_store.specs.Held.{IsOver};
 ghost use Rattle.record_table.specs.Listed.{at_slot, in_slots, listed, cells_marked, slots_of};
 ghost use Rattle.record_table.specs.Reading.{NeverFalls};
+ghost use Rattle.record_table.specs.Tagged.{cells_tagged};
 
-use crate::entry::{next_slot, read_into};
-use crate::{Stamped, Wanted};
+use crate::entry::{next_tagged, read_into};
+use crate::{Editable, Stamped, Wanted};
 use catalog_codec::Record;
 use eeprom::{Eeprom, EepromFault};
 use record_store::{Found, RecordOctets, Side, Store};
@@ -36,6 +37,8 @@ pub fn find_by<R: Record, W: Wanted<R>, B: Eeprom>(
         (λ slots. count_by (W.wants wanted.now) (listed R.kind slots) ≤ 1 → option_map (λ found. found.value) found ≡ find (W.wants wanted.now) (listed R.kind slots))) }
     ensures octets_read { IfOk result (λ _. IfSome (slots_of store.now side (B.chip bench.old))
         (λ slots. Becomes (RisesAtMost (cell_size * cells_marked R.kind slots)) (B.octets_read bench.old) (B.octets_read bench.new))) }
+    ensures tagged_read { IfOk result (λ _. IfSome (slots_of store.now side (B.chip bench.old))
+        (λ slots. Becomes (RisesAtMost (cell_size * cells_tagged R.kind (W.tag_is wanted.now) slots)) (B.octets_read bench.old) (B.octets_read bench.new))) }
     ensures rises { IfOk result (λ _. NeverFalls (slots_of store.now side (B.chip bench.old)) (B.octets_read bench.old) (B.octets_read bench.new)) }
     ensures frame { Reads each_error B.chip B.faults bench.old bench.new result }
 {
@@ -71,18 +74,21 @@ pub fn find_into<R: Record, W: Wanted<R>, B: Eeprom>(
         (λ slots. count_by (W.wants wanted.now) (listed R.kind slots) ≤ 1 → place.new ≡ find (W.wants wanted.now) (listed R.kind slots))) }
     ensures octets_read { IfOk result (λ _. IfSome (slots_of store.now side (B.chip bench.old))
         (λ slots. Becomes (RisesAtMost (cell_size * cells_marked R.kind slots)) (B.octets_read bench.old) (B.octets_read bench.new))) }
+    ensures tagged_read { IfOk result (λ _. IfSome (slots_of store.now side (B.chip bench.old))
+        (λ slots. Becomes (RisesAtMost (cell_size * cells_tagged R.kind (W.tag_is wanted.now) slots)) (B.octets_read bench.old) (B.octets_read bench.new))) }
     ensures rises { IfOk result (λ _. NeverFalls (slots_of store.now side (B.chip bench.old)) (B.octets_read bench.old) (B.octets_read bench.new)) }
     ensures frame { Reads each_error B.chip B.faults bench.old bench.new result }
 {
     let mut octets = RecordOctets::new();
     let end = store.slots_in_use();
-    let mut slot = next_slot::<R>(store, 0);
+    let tag = wanted.tag();
+    let mut slot = next_tagged::<R>(store, side, tag, 0);
     while slot < end {
         let read = read_into(store, bench, side, slot, &mut octets, place)?;
         if has_wanted(wanted, read, place) {
             return Ok(Some(slot));
         }
-        slot = next_slot::<R>(store, slot + 1);
+        slot = next_tagged::<R>(store, side, tag, slot + 1);
     }
     *place = None;
     Ok(None)
@@ -99,7 +105,7 @@ fn has_wanted<R: Record, W: Wanted<R>>(wanted: &W, read: bool, place: &Option<R>
 }
 
 /// Finds the record of a stamp.
-pub fn find_stamp<R: Record, B: Eeprom>(
+pub fn find_stamp<R: Editable, B: Eeprom>(
     store: &Store,
     bench: &mut B,
     side: Side,
@@ -120,7 +126,7 @@ pub fn find_stamp<R: Record, B: Eeprom>(
 }
 
 /// Finds the record of a stamp and reads it into a place, where there is one: its slot is answered. Where there is none the place is empty.
-pub fn find_stamp_into<R: Record, B: Eeprom>(
+pub fn find_stamp_into<R: Editable, B: Eeprom>(
     store: &Store,
     bench: &mut B,
     side: Side,

@@ -5,7 +5,7 @@ ghost use Rattle.record_store.specs.Held.{IsOver};
 use crate::{Wanted, add, change, find_by, find_stamp, next_after, remove};
 use catalog_codec::Counter;
 use eeprom::{Eeprom, FaultPlan, MemBench};
-use record_store::{Side, Store, StoreRefusal};
+use record_store::{Side, Store, StoreRefusal, Tag};
 use scql_base::User;
 use std::alloc::{AllocError, Global};
 use std::test::Fail;
@@ -23,6 +23,10 @@ impl Wanted<User> for MadeBy {
 
     fn is(&self, entry: &User) -> bool {
         entry.owner == self.0
+    }
+
+    fn tag(&self) -> Option<Tag> {
+        None
     }
 }
 

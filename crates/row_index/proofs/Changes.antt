@@ -1,20 +1,18 @@
 -- What becomes of places in order, and of those by tables, when one is put among them, taken out, or all are others.
-use Rattle.std.proofs.Common.{◌≡◌, ℕ, suc, ◌+◌, ◌<◌, ◌≤◌, Bool, true, false, cond, ltb, leb, eqb, List, [], ◌∷◌, ◌++◌, length, Some, take, drop, get_or, inl, inr, refl, sym, ap, ◌∙◌, arith, subst}
-use Rattle.std.proofs.Math.ListN.{set}
-use Rattle.std.specs.List.{find, filter, count_by, sum_by, AllByRecursion}
-use Rattle.std.specs.List.Sorted.{IsPermutation, IsNonDecreasingBy}
-use Rattle.std.proofs.lemmas.Bool.{cases_Bool, ltb-true, ltb-false, le-ltb, eqb-true, eqb-false, eq-eqb, ne_eqb}
-use Rattle.std.proofs.lemmas.List.{length-set, take-append-drop}
-use Rattle.std.proofs.lemmas.List.Sums.{sum_by-cons, sum_by-append, count_by-le-length, length-filter}
-use Rattle.std.proofs.lemmas.List.Sorted.{sum_by-IsPermutation}
+use Rattle.std.proofs.Common.{◌≡◌, ℕ, zero, suc, ◌+◌, ◌<◌, Bool, true, false, cond, not, ltb, leb, eqb, List, [], ◌∷◌, length, Some, take, drop, get_or, inl, inr, refl, sym, ap, ◌∙◌, arith, subst}
+use Rattle.std.specs.List.{find, filter, count_by, list_any, AllByRecursion}
+use Rattle.std.proofs.lemmas.Bool.{cases_Bool, le-ltb, eqb-true, eqb-false, eq-eqb, ne_eqb}
+use Rattle.std.proofs.lemmas.List.{length-map, length-set, take-append-drop, take_more}
+use Rattle.std.proofs.lemmas.List.Sums.{sum_by-append, count_by-le-length, length-filter}
 use Rattle.std.proofs.lemmas.Option.{none-some, same_Some}
 use Rattle.eeprom.specs.Slots.{Rises, AreApart, has, in_order, put_in_order, without}
-use Rattle.eeprom.proofs.InOrder.{counts, counts_not, count_by-cons, count-above, sum_by-put_in_order, put_in_order-first, without-none, AreApart-rising, all-filter, filter-in_order, in_order-rising, in_order-middle, Rises-in_order, sum_by-in_order}
+use Rattle.eeprom.proofs.InOrder.{counts, counts_not, count_by-cons, sum_by-put_in_order, put_in_order-first, without-none, AreApart-rising, all-filter, filter-in_order, in_order-rising, in_order-middle, Rises-in_order, list_any-in_order}
 use Rattle.row_index.specs.Places.{place_stamp, place_slot, IsOneMore}
 use Rattle.row_index.specs.Ordered.{IsOrdered}
+use Rattle.row_index.specs.SlotRows.{place_at, places_at, with_place}
 use Rattle.row_index.specs.declared.place.RowPlace.{RowPlace}
-use Rattle.row_index.proofs.Searches.{put_in_order-insert}
-use Rattle.row_index.proofs.TakenSlots.{AreTaken, AreTaken-put}
+use Rattle.row_index.specs.declared.slot_row.SlotRow.{SlotRow}
+use Rattle.row_index.proofs.Searches.{all-at, none-list_any, put_in_order-insert}
 use Rattle.row_index.proofs.Tables.{table_key, Fits, AreApart-tables, all-put_in_order}
 
 -- one more
@@ -61,19 +59,23 @@ in_order-put key other x xs rises none =
     ∙ in_order-middle other x (take at xs) (drop at xs) before
     ∙ ap (λ ys. put_in_order other x (in_order other ys)) (take-append-drop at xs)
 
-pub IsOrdered-put : (place : RowPlace) (cells : ℕ) (xs ys : List RowPlace) (taken : List Bool) (room other_room : ℕ) → IsOrdered cells xs ys taken room other_room → place_stamp place < 4294967296
-    → count_by (has place_stamp (place_stamp place)) xs ≡ 0 → length xs < cells → place_slot place < cells
-    → IsOrdered cells (put_in_order place_stamp place xs) (put_in_order table_key place ys) (set taken (place_slot place) true) room other_room
-IsOrdered-put place cells xs ys taken room other_room is small none few there = record {
-  rises = Rises-put place_stamp place xs is.rises none;
-  fits = all-put_in_order place_stamp (λ place. place_stamp place < 4294967296) place xs small is.fits;
-  tables = ap (put_in_order table_key place) is.tables ∙ sym (in_order-put place_stamp table_key place xs is.rises (no_table_key place xs small is.fits none));
-  few = omega (arith, length-put_in_order place_stamp place xs);
-  marked = AreTaken-put place taken xs is.rises is.marked (omega (arith, there, is.marks));
-  marks = length-set taken (place_slot place) true ∙ is.marks;
-  stamp_room = is.stamp_room;
-  table_room = is.table_room;
-}
+pub IsOrdered-put : (place : RowPlace) (cells : ℕ) (rows : List SlotRow) (xs xs' ys ys' : List ℕ) (room other_room : ℕ) → IsOrdered cells rows xs ys room other_room → place_stamp place < 4294967296
+    → count_by (has place_stamp (place_stamp place)) (places_at rows xs) ≡ 0 → length xs < cells → place_slot place < cells
+    → places_at (with_place place rows) xs' ≡ put_in_order place_stamp place (places_at rows xs) → places_at (with_place place rows) ys' ≡ put_in_order table_key place (places_at rows ys)
+    → IsOrdered cells (with_place place rows) xs' ys' room other_room
+IsOrdered-put place cells rows xs xs' ys ys' room other_room is small none few there put put_table =
+    let places : List RowPlace = places_at rows xs in
+    let more = sym (length-map xs' (place_at (with_place place rows))) ∙ ap length put ∙ length-put_in_order place_stamp place places ∙ ap suc (length-map xs (place_at rows)) in
+    record {
+      rises = rw put (Rises-put place_stamp place places is.rises none);
+      fits = rw put (all-put_in_order place_stamp (λ place. place_stamp place < 4294967296) place places small is.fits);
+      tables = put_table ∙ ap (put_in_order table_key place) is.tables ∙ sym (in_order-put place_stamp table_key place places is.rises (no_table_key place places small is.fits none)) ∙ ap (in_order table_key) (sym put);
+      within = rw put (all-put_in_order place_stamp (λ place. place_slot place < cells) place places there is.within);
+      few = omega (arith, more);
+      each = length-set rows (place_slot place) _ ∙ is.each;
+      stamp_room = is.stamp_room;
+      table_room = is.table_room;
+    }
 
 pub Rises-filter : {X : Type 0} (key : X → ℕ) (p : X → Bool) (xs : List X) → Rises key xs → Rises key (filter p xs)
 Rises-filter key p [] rises = tt
@@ -83,18 +85,44 @@ Rises-filter key p (x ∷ xs) rises =
       | inr f ↦ rw f (Rises-filter key p xs rises.1)
     ]
 
-pub IsOrdered-filter : (p : RowPlace → Bool) (cells : ℕ) (xs ys : List RowPlace) (taken now : List Bool) (room other_room : ℕ) → IsOrdered cells xs ys taken room other_room → AreTaken now (filter p xs) → length now ≡ length taken
-    → IsOrdered cells (filter p xs) (filter p ys) now room other_room
-IsOrdered-filter p cells xs ys taken now room other_room is are many = record {
-  rises = Rises-filter place_stamp p xs is.rises;
-  fits = all-filter (λ place. place_stamp place < 4294967296) p xs is.fits;
-  tables = ap (filter p) is.tables ∙ filter-in_order table_key p xs (AreApart-tables xs is.rises is.fits);
-  few = omega (arith, length-filter p xs, count_by-le-length p xs, is.few);
-  marked = are;
-  marks = many ∙ is.marks;
-  stamp_room = is.stamp_room;
-  table_room = is.table_room;
-}
+pub IsOrdered-filter : (p : RowPlace → Bool) (cells : ℕ) (rows : List SlotRow) (xs xs' ys ys' : List ℕ) (room other_room : ℕ) → IsOrdered cells rows xs ys room other_room
+    → places_at rows xs' ≡ filter p (places_at rows xs) → places_at rows ys' ≡ filter p (places_at rows ys) → IsOrdered cells rows xs' ys' room other_room
+IsOrdered-filter p cells rows xs xs' ys ys' room other_room is left left_table =
+    let places : List RowPlace = places_at rows xs in
+    let fewer = sym (length-map xs' (place_at rows)) ∙ ap length left ∙ length-filter p places in
+    record {
+      rises = rw left (Rises-filter place_stamp p places is.rises);
+      fits = rw left (all-filter (λ place. place_stamp place < 4294967296) p places is.fits);
+      tables = left_table ∙ ap (filter p) is.tables ∙ filter-in_order table_key p places (AreApart-tables places is.rises is.fits) ∙ ap (in_order table_key) (sym left);
+      within = rw left (all-filter (λ place. place_slot place < cells) p places is.within);
+      few = omega (arith, fewer, count_by-le-length p places, length-map xs (place_at rows), is.few);
+      each = is.each;
+      stamp_room = is.stamp_room;
+      table_room = is.table_room;
+    }
+
+-- where a slot has no row, nothing is taken out of either order
+pub IsOrdered-absent : (slot cells : ℕ) (rows : List SlotRow) (xs xs' ys : List ℕ) (room other_room : ℕ) → IsOrdered cells rows xs ys room other_room → list_any (has place_slot slot) (places_at rows xs) ≡ false
+    → places_at rows xs' ≡ without place_slot slot (places_at rows xs) → IsOrdered cells rows xs' ys room other_room
+IsOrdered-absent slot cells rows xs xs' ys room other_room is none left =
+    let none_table = ap (list_any (has place_slot slot)) is.tables ∙ list_any-in_order table_key (has place_slot slot) (places_at rows xs) ∙ none in
+    IsOrdered-filter (λ place. not (eqb (place_slot place) slot)) cells rows xs xs' ys ys room other_room is left (sym (without-none place_slot slot (places_at rows ys) (none-list_any (has place_slot slot) (places_at rows ys) none_table)))
+
+-- in order what comes next has a key above those before it, and a key apart from them
+pub below-next : {X : Type 0} (key : X → ℕ) (xs : List X) (i : ℕ) (d : X) → Rises key xs → i < length xs → AllByRecursion (λ y. key y < key (get_or xs i d)) (take i xs)
+below-next key [] i d rises within = absurd (omega arith)
+below-next key (x ∷ xs) zero d rises within = tt
+below-next key (x ∷ xs) (suc i) d rises within = (all-at (λ y. key x < key y) xs i d (omega arith) rises.0, below-next key xs i d rises.1 (omega arith))
+
+pub apart-next : {X : Type 0} (key : X → ℕ) (xs : List X) (i : ℕ) (d : X) → AreApart key xs → i < length xs → count_by (has key (key (get_or xs i d))) (take i xs) ≡ 0
+apart-next key xs i d apart within =
+    let x = get_or xs i d in
+    let test = has key (key x) in
+    let whole = ap (count_by test) (sym (take-append-drop (i + 1) xs)) ∙ sum_by-append (λ y. cond (test y) 1 0) (take (i + 1) xs) (drop (i + 1) xs) in
+    let front = ap (count_by test) (take_more xs i d within) ∙ sum_by-append (λ y. cond (test y) 1 0) (take i xs) (x ∷ []) in
+    let one = counts test x [] (eq-eqb (key x) (key x) refl) in
+    let most = apart (key x) in
+    omega arith
 
 -- what is found of a number apart, taken out and put in again
 found_above : {X : Type 0} (key : X → ℕ) (k : ℕ) (p : X → Bool) (x : X) (xs : List X) → find p xs ≡ Some x → AllByRecursion (λ y. k < key y) xs → k < key x
@@ -148,80 +176,3 @@ IsOneMore-found slot place xs rises apart found =
 pub length-in_order : {X : Type 0} (key : X → ℕ) (xs : List X) → length (in_order key xs) ≡ length xs
 length-in_order key [] = refl
 length-in_order key (x ∷ xs) = length-put_in_order key x (in_order key xs) ∙ ap suc (length-in_order key xs)
-
--- keys that don't fall, with no key twice, rise
-Rises-sorted : {X : Type 0} (key : X → ℕ) (xs : List X) → IsNonDecreasingBy key xs → AreApart key xs → Rises key xs
-Rises-sorted key [] sorted apart = tt
-Rises-sorted key (x ∷ xs) sorted apart =
-    let c = counts (has key (key x)) x xs (eq-eqb (key x) (key x) refl) in
-    let a = apart (key x) in (
-      head key x xs (λ j d within. sorted 0 (suc j) d (omega arith) (omega arith)) (omega arith),
-      Rises-sorted key xs (λ i j d le within. sorted (suc i) (suc j) d (omega arith) (omega arith)) (λ k. let b = count_by-cons (has key k) x xs in let e = apart k in omega arith),
-    )
-  where
-    head : {X : Type 0} (key : X → ℕ) (x : X) (ys : List X) → ((j : ℕ) (d : X) → j < length ys → key x ≤ key (get_or ys j d)) → count_by (has key (key x)) ys ≡ 0 → AllByRecursion (λ y. key x < key y) ys
-    head key x [] above none = tt
-    head key x (y ∷ ys) above none =
-        let le : key x ≤ key y = above 0 x (omega arith) in
-        elim (cases_Bool (eqb (key y) (key x))) [
-          | inl t ↦ absurd (let c = counts (has key (key x)) y ys t in omega arith)
-          | inr f ↦ (let ne = eqb-false (key y) (key x) f in
-              let c = counts_not (has key (key x)) y ys f in
-              (omega (arith, ne), head key x ys (λ j d within. above (suc j) d (omega arith)) (omega arith)))
-        ]
-
--- the element of a key stands first among elements whose keys rise from its own, so a sum over its key is of it alone
-alone : {X : Type 0} (key f : X → ℕ) (x : X) (xs : List X) → AllByRecursion (λ y. key x < key y) xs → sum_by (λ y. cond (eqb (key y) (key x)) (f y) 0) (x ∷ xs) ≡ f x
-alone key f x xs above =
-    sum_by-cons (λ y. cond (eqb (key y) (key x)) (f y) 0) x xs ∙ rw (eq-eqb (key x) (key x) refl, none key f (key x) xs above) (omega arith)
-  where
-    none : {X : Type 0} (key f : X → ℕ) (k : ℕ) (xs : List X) → AllByRecursion (λ y. k < key y) xs → sum_by (λ y. cond (eqb (key y) k) (f y) 0) xs ≡ 0
-    none key f k [] above = refl
-    none key f k (x ∷ xs) above = sum_by-cons (λ y. cond (eqb (key y) k) (f y) 0) x xs ∙ rw (ne_eqb (key x) k (omega (arith, above.0)), none key f k xs above.1) refl
-
--- no lesser key is first in a list of the same sums
-not_less : {X : Type 0} (key : X → ℕ) (x y : X) (xs ys : List X) → AllByRecursion (λ z. key y < key z) ys → ((f : X → ℕ) → sum_by f (x ∷ xs) ≡ sum_by f (y ∷ ys)) → key y ≤ key x
-not_less key x y xs ys above same =
-    elim (cases_Bool (ltb (key x) (key y))) [
-      | inl t ↦ absurd (let less = ltb-true (key x) (key y) t in
-          let here = counts (has key (key x)) x xs (eq-eqb (key x) (key x) refl) in
-          let none = count-above key (key x) (y ∷ ys) (less, lower key (key x) (key y) ys less above) in
-          let both = same (λ z. cond (has key (key x) z) 1 0) in
-          omega arith)
-      | inr f ↦ ltb-false (key x) (key y) f
-    ]
-  where
-    lower : {X : Type 0} (key : X → ℕ) (k m : ℕ) (xs : List X) → k < m → AllByRecursion (λ z. m < key z) xs → AllByRecursion (λ z. k < key z) xs
-    lower key k m [] less above = tt
-    lower key k m (x ∷ xs) less above = (omega (arith, above.0), lower key k m xs less above.1)
-
--- two lists in rising order that have all sums in common are one, where sums tell elements apart
-same_sums : {X : Type 0} (key : X → ℕ) → ((x y : X) → ((f : X → ℕ) → f x ≡ f y) → x ≡ y) → (xs ys : List X) → Rises key xs → Rises key ys → ((f : X → ℕ) → sum_by f xs ≡ sum_by f ys) → xs ≡ ys
-same_sums key tell [] [] up also same = refl
-same_sums key tell [] (y ∷ ys) up also same = absurd (let h = same (λ z. 1) in let c = sum_by-cons (λ z. 1) y ys in omega arith)
-same_sums key tell (x ∷ xs) [] up also same = absurd (let h = same (λ z. 1) in let c = sum_by-cons (λ z. 1) x xs in omega arith)
-same_sums {X} key tell (x ∷ xs) (y ∷ ys) up also same =
-    let k : key x ≡ key y = (let a = not_less key x y xs ys also.0 same in let b = not_less key y x ys xs up.0 (λ f. sym (same f)) in omega arith) in
-    let one : x ≡ y = tell x y (λ f. sym (alone key f x xs up.0) ∙ same (λ z. cond (eqb (key z) (key x)) (f z) 0) ∙ ap (λ k. sum_by (λ z. cond (eqb (key z) k) (f z) 0) (y ∷ ys)) k ∙ alone key f y ys also.0) in
-    let rest : (f : X → ℕ) → sum_by f xs ≡ sum_by f ys = (λ f. let h = same f in let a = sum_by-cons f x xs in let b = sum_by-cons f y ys in let e = ap f one in omega arith) in
-    ap (λ z. z ∷ xs) one ∙ ap (λ zs. y ∷ zs) (same_sums key tell xs ys up.1 also.1 rest)
-
--- sums tell places apart
-told_apart : (x y : RowPlace) → ((f : RowPlace → ℕ) → f x ≡ f y) → x ≡ y
-told_apart x y same = made x.stamp y.stamp x.table y.table x.slot y.slot (same (λ p. p.stamp)) (same (λ p. p.table)) (same (λ p. p.slot))
-  where
-    made : (a b c d e f : ℕ) → a ≡ b → c ≡ d → e ≡ f → ◌≡◌ {A = RowPlace} (record { stamp = a; table = c; slot = e }) (record { stamp = b; table = d; slot = f })
-    made a b c d e f p q r = cc
-
--- places that are sorted by tables are those in order by tables
-pub sorted-tables : (xs ys zs : List RowPlace) → Rises place_stamp xs → Fits xs → ys ≡ xs → IsPermutation ys zs → IsNonDecreasingBy table_key zs → zs ≡ in_order table_key xs
-sorted-tables xs ys zs rises fits is moved sorted =
-    let apart = AreApart-tables xs rises fits in
-    let sums : (f : RowPlace → ℕ) → sum_by f zs ≡ sum_by f (in_order table_key xs) = (λ f. sum_by-IsPermutation f ys zs moved ∙ ap (sum_by f) is ∙ sym (sum_by-in_order table_key f xs)) in
-    let up : Rises table_key zs = Rises-sorted table_key zs sorted (λ k. let a = apart k in let b = sum_by-IsPermutation (λ y. cond (has table_key k y) 1 0) ys zs moved in let e = ap (count_by (has table_key k)) is in omega arith) in
-    same_sums table_key told_apart zs (in_order table_key xs) up (Rises-in_order table_key xs apart) sums
-
--- what holds of all and of one more
-pub all-push : {X : Type 0} (P : X → Type 0) (xs : List X) (x : X) → AllByRecursion P xs → P x → AllByRecursion P (xs ++ x ∷ [])
-all-push P [] x all here = (here, tt)
-all-push P (y ∷ ys) x all here = (all.0, all-push P ys x all.1 here)

@@ -125,7 +125,7 @@ new_stamp slot row slots here apart =
     let one = counts test (place_of slot row) [] (eq-eqb row.stamp row.stamp refl) in
     omega arith
 
-none_lower_slot : (slot : ℕ) (places : List RowPlace) → AllByRecursion (λ place. place_slot place < slot) places → count_by (has place_slot slot) places ≡ 0
+pub none_lower_slot : (slot : ℕ) (places : List RowPlace) → AllByRecursion (λ place. place_slot place < slot) places → count_by (has place_slot slot) places ≡ 0
 none_lower_slot slot places lower = count-below place_slot slot places lower
 
 -- a slot with a row of a new stamp

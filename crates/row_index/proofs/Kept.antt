@@ -1,8 +1,8 @@
 -- What an index keeps of its places when one is put among them or taken out.
 use Rattle.std.proofs.Common.{◌≡◌, ℕ, ◌+◌, ◌<◌, ◌≤◌, Bool, true, false, cond, not, ◌&&◌, ltb, eqb, List, [], ◌∷◌, ◌++◌, length, Option, Some, None, inl, inr, refl, sym, ap, ◌∙◌, arith, subst}
 use Rattle.std.specs.Prelude.{IfSome, is_some}
-use Rattle.std.specs.List.{find, filter, count_by, list_all, list_any, AllByRecursion}
-use Rattle.std.proofs.lemmas.Bool.{cases_Bool, ltb-true, eqb-true, eq-eqb, and_parts, or_parts, not-true}
+use Rattle.std.specs.List.{find, filter, count_by, list_any, AllByRecursion}
+use Rattle.std.proofs.lemmas.Bool.{cases_Bool, ltb-true, eqb-true, eq-eqb, and_parts, not-true}
 use Rattle.std.proofs.lemmas.List.Sums.{count_by-le-length, length-filter}
 use Rattle.std.proofs.lemmas.Option.{none-some}
 use Rattle.eeprom.specs.Slots.{has, put_in_order, without}
@@ -10,21 +10,13 @@ use Rattle.eeprom.proofs.InOrder.{counts_not, count_by-cons, count-below, put_in
 use Rattle.row_index.specs.Index.{ArePlaces, Index, is_above, may_add}
 use Rattle.row_index.specs.Places.{place_stamp, place_slot, IsOneMore}
 use Rattle.row_index.specs.declared.place.RowPlace.{RowPlace}
+use Rattle.row_index.proofs.Searches.{all-list_all, none-list_any}
 use Rattle.row_index.proofs.Changes.{Rises-put, Rises-filter, length-put_in_order, count_by-put}
 use Rattle.row_index.proofs.Tables.{all-put_in_order}
-
--- each passes where all pass
-pub all-list_all : {X : Type 0} (p : X → Bool) (P : X → Type 0) (xs : List X) → ((x : X) → p x ≡ true → P x) → list_all p xs ≡ true → AllByRecursion P xs
-all-list_all p P [] says all = tt
-all-list_all p P (x ∷ xs) says all = let both = and_parts (p x) (list_all p xs) all in (says x both.0, all-list_all p P xs says both.1)
 
 -- the stamps of all places are below one that is above them
 pub below-above : (stamp : ℕ) (places : List RowPlace) → is_above stamp places ≡ true → AllByRecursion (λ place. place_stamp place < stamp) places
 below-above stamp places above = all-list_all (λ place. ltb (place_stamp place) stamp) (λ place. place_stamp place < stamp) places (λ place t. ltb-true (place_stamp place) stamp t) above
-
-pub none-list_any : {X : Type 0} (p : X → Bool) (xs : List X) → list_any p xs ≡ false → count_by p xs ≡ 0
-none-list_any p [] none = refl
-none-list_any p (x ∷ xs) none = let both = or_parts (p x) (list_any p xs) none in counts_not p x xs both.0 ∙ none-list_any p xs both.1
 
 -- what isn't found isn't there, and what is found is
 pub none-found : {X : Type 0} (p : X → Bool) (xs : List X) → find p xs ≡ None → count_by p xs ≡ 0
@@ -46,6 +38,15 @@ found-some p xs (Some x) is some none = none-some x (sym none ∙ sym is)
 -- where no place has a slot, nothing is taken out
 pub without-not_found : (slot : ℕ) (xs : List RowPlace) → find (has place_slot slot) xs ≡ None → without place_slot slot xs ≡ xs
 without-not_found slot xs none = without-none place_slot slot xs (none-found (has place_slot slot) xs none)
+
+-- and none has it that are left
+pub none-without : {X : Type 0} (key : X → ℕ) (k : ℕ) (xs : List X) → count_by (has key k) (without key k xs) ≡ 0
+none-without key k [] = refl
+none-without key k (x ∷ xs) =
+    elim (cases_Bool (eqb (key x) k)) [
+      | inl t ↦ rw t (none-without key k xs)
+      | inr f ↦ rw f (counts_not (has key k) x (without key k xs) f ∙ none-without key k xs)
+    ]
 
 -- what holds of all holds of the one that is found
 pub found-all : {X : Type 0} (P : X → Type 0) (p : X → Bool) (xs : List X) → AllByRecursion P xs → IfSome (find p xs) P

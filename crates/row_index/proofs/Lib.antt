@@ -1,6 +1,6 @@
 pub mod Searches
 pub mod Tables
-pub mod TakenSlots
+pub mod SlotPlaces
 pub mod Changes
 pub mod Kept
 pub mod Scans

@@ -1,18 +1,33 @@
 -- Lists in rising order of a key, searched by halves.
-use Rattle.std.proofs.Common.{◌≡◌, ℕ, zero, suc, ◌<◌, ◌≤◌, Bool, true, false, cond, ltb, leb, eqb, List, [], ◌∷◌, length, Option, Some, None, get_or, inl, inr, refl, sym, ap, ◌∙◌, arith}
-use Rattle.std.specs.List.{find, insert, slice_get, count_by, AllByRecursion}
+use Rattle.std.proofs.Common.{◌≡◌, ℕ, zero, suc, ◌<◌, ◌≤◌, Bool, true, false, cond, ◌&&◌, ltb, leb, eqb, List, [], ◌∷◌, length, Option, Some, None, get_or, inl, inr, refl, sym, ap, ◌∙◌, arith, subst}
+use Rattle.std.specs.List.{find, insert, slice_get, count_by, list_all, list_any, AllByRecursion}
 use Rattle.std.specs.Prelude.{Result, IsOk, is_ok}
 use Rattle.std.specs.List.Sorted.{IsPartitionPoint, IsNonDecreasingBy}
-use Rattle.std.proofs.lemmas.Bool.{cases_Bool, ltb-true, ltb-false, leb-true, leb-false, lt-ltb, le-ltb, lt-leb, le-leb, ne_eqb}
-use Rattle.std.proofs.lemmas.Option.{slice_get_read, slice_get_past}
+use Rattle.std.proofs.lemmas.Bool.{cases_Bool, ltb-true, ltb-false, leb-true, leb-false, lt-ltb, le-ltb, lt-leb, le-leb, ne_eqb, and_parts, and_right, or_parts}
+use Rattle.std.proofs.lemmas.Option.{none-some, same_Some}
 use Rattle.eeprom.specs.Slots.{Rises, has, is_after, put_in_order}
 use Rattle.eeprom.proofs.InOrder.{counts, counts_not}
 
 -- what holds of all holds at each index
-all-at : {X : Type 0} (P : X → Type 0) (xs : List X) (i : ℕ) (d : X) → i < length xs → AllByRecursion P xs → P (get_or xs i d)
+pub all-at : {X : Type 0} (P : X → Type 0) (xs : List X) (i : ℕ) (d : X) → i < length xs → AllByRecursion P xs → P (get_or xs i d)
 all-at P [] i d within all = absurd (omega arith)
 all-at P (x ∷ xs) zero d within all = all.0
 all-at P (x ∷ xs) (suc i) d within all = all-at P xs i d (omega arith) all.1
+
+-- what holds of all holds of the one that a search reads
+all-got : {X : Type 0} (P : X → Type 0) (xs : List X) (i : ℕ) (x : X) → AllByRecursion P xs → slice_get xs i ≡ Some x → P x
+all-got P [] i x all got = absurd (none-some x got)
+all-got P (y ∷ ys) zero x all got = subst P (same_Some y x got) all.0
+all-got P (y ∷ ys) (suc i) x all got = all-got P ys i x all.1 got
+
+-- each passes where all pass, and none where none does
+pub all-list_all : {X : Type 0} (p : X → Bool) (P : X → Type 0) (xs : List X) → ((x : X) → p x ≡ true → P x) → list_all p xs ≡ true → AllByRecursion P xs
+all-list_all p P [] says all = tt
+all-list_all p P (x ∷ xs) says all = let both = and_parts (p x) (list_all p xs) all in (says x both.0, all-list_all p P xs says both.1)
+
+pub none-list_any : {X : Type 0} (p : X → Bool) (xs : List X) → list_any p xs ≡ false → count_by p xs ≡ 0
+none-list_any p [] none = refl
+none-list_any p (x ∷ xs) none = let both = or_parts (p x) (list_any p xs) none in counts_not p x xs both.0 ∙ none-list_any p xs both.1
 
 -- keys that rise don't fall
 pub IsNonDecreasingBy-rising : {X : Type 0} (key : X → ℕ) (xs : List X) → Rises key xs → IsNonDecreasingBy key xs
@@ -56,6 +71,24 @@ count_by-here key k (x ∷ xs) (suc i) d rises within same =
     let rest = count_by-here key k xs i d rises.1 (omega arith) same in
     let one = counts (λ y. leb (key y) k) x xs (le-leb (key x) k (omega (arith, same, less))) in
     omega arith
+
+-- all keys are below a number where the last is
+pub last-below : {X : Type 0} (key : X → ℕ) (k : ℕ) (xs : List X) (i : ℕ) (x : X) → Rises key xs → slice_get xs i ≡ Some x → suc i ≡ length xs → ltb (key x) k ≡ list_all (λ y. ltb (key y) k) xs
+last-below key k [] i x rises got end = absurd (none-some x got)
+last-below key k (y ∷ []) zero x rises got end = subst (λ z. ltb (key z) k ≡ (ltb (key y) k && true)) (same_Some y x got) (either (ltb (key y) k))
+  where
+    either : (b : Bool) → b ≡ (b && true)
+    either true = refl
+    either false = refl
+last-below key k (y ∷ []) (suc i) x rises got end = absurd (none-some x got)
+last-below key k (y ∷ z ∷ zs) zero x rises got end = absurd (omega (arith, end))
+last-below key k (y ∷ z ∷ zs) (suc i) x rises got end =
+    let rest = last-below key k (z ∷ zs) i x rises.1 got (omega (arith, end)) in
+    let less : key y < key x = all-got (λ w. key y < key w) (z ∷ zs) i x rises.0 got in
+    elim (cases_Bool (ltb (key x) k)) [
+      | inl t ↦ rw (t, lt-ltb (key y) k (omega (arith, less, ltb-true (key x) k t))) (sym t ∙ rest)
+      | inr f ↦ rw f (sym (and_right (ltb (key y) k) (list_all (λ w. ltb (key w) k) (z ∷ zs)) (sym rest ∙ f)))
+    ]
 
 -- no key behind a greater one is found
 not_found : {X : Type 0} (key : X → ℕ) (k m : ℕ) (xs : List X) → k ≤ m → AllByRecursion (λ y. m < key y) xs → find (has key k) xs ≡ None
@@ -112,13 +145,6 @@ put_in_order-insert key x (y ∷ ys) rises =
 -- what a call leaves that succeeds
 pub if_ok : {A E Y : Type 0} (r : Result A E) (x y : Y) → IsOk r → cond (is_ok r) x y ≡ x
 if_ok r x y ok = rw ok refl
-
--- what a search reads: the element at a place, if there is one
-pub at_place : {X : Type 0} (xs ys : List X) (i : ℕ) (x : X) → ys ≡ xs → true ≡ ltb i (length ys) → x ≡ get_or ys i x → slice_get xs i ≡ Some x
-at_place xs ys i x same within read = slice_get_read xs (length xs) i x refl (ltb-true i (length xs) (sym (within ∙ ap (λ zs. ltb i (length zs)) same))) (read ∙ ap (λ zs. get_or zs i x) same)
-
-pub at_no_place : {X : Type 0} (xs ys : List X) (i : ℕ) → ys ≡ xs → false ≡ ltb i (length ys) → slice_get xs i ≡ None
-at_no_place xs ys i same past = slice_get_past xs i (ltb-false i (length xs) (sym (past ∙ ap (λ zs. ltb i (length zs)) same)))
 
 -- what has a key, by where it stands
 pub find-at : {X : Type 0} (key : X → ℕ) (k : ℕ) (xs : List X) (i : ℕ) (o : Option X) → Rises key xs → i ≡ count_by (λ y. ltb (key y) k) xs → slice_get xs i ≡ o → find (has key k) xs ≡ with_key key k o

@@ -1,5 +1,5 @@
 // The index: the places of the rows of both sides of a store.
-ghost use Rattle.std.specs.Prelude.{◌≡◌, ◌<◌, ◌≤◌, ◌*◌, OnOk, [], Some, false, true, IfOk, IfSome, IsTrue, if◌then◌else◌, length, not, option_map, ◌++◌, ◌∷◌};
+ghost use Rattle.std.specs.Prelude.{◌≡◌, ◌<◌, ◌≤◌, ◌*◌, OnOk, [], Some, false, true, IfOk, IfSome, IsTrue, if◌then◌else◌, length, map, not, option_map, ◌++◌, ◌∷◌};
 ghost use Rattle.std.specs.List.{AllByRecursion, filter, find};
 ghost use Rattle.eeprom.specs.Chip.{Becomes, RisesAtMost};
 ghost use Rattle.eeprom.specs.Fault.{each_error};
@@ -44,8 +44,8 @@ impl Model for RowIndex {
 }
 
 impl RowIndex {
-    /// An index of no rows, with room for those of a store of so many cells: for each cell 12 octets on each side, as many by tables, and one
-    /// that says whether the slot has a row. That is 102,400 octets for 2,048 cells.
+    /// An index of no rows, with room for those of a store of so many cells: for each cell on each side 8 octets for the stamp and the table of
+    /// the row of a slot, and 4 for the slot in both orders. That is 49,152 octets for 2,048 cells.
     pub fn with_room(alloc: Heap, cells: u16) -> Result<RowIndex, AllocError>
         ensures none { IfOk result (λ index. index ≡ record { cells = cells; begun = false; committed = []; working = [] }) }
     {
@@ -102,10 +102,10 @@ impl RowIndex {
         Some((place.stamp, place.slot))
     }
 
-    /// The places of the rows of a table, in rising order of their stamps.
-    pub fn rows_of(&self, side: Side, table: u32) -> &[RowPlace]
-        ensures rows { result.now ≡ filter (is_in_table table) (side_places self.now side) }
-        ensures there { AllByRecursion (λ place. place.slot < self.now.cells) result.now }
+    /// The slots of the rows of a table, in rising order of their stamps.
+    pub fn rows_of(&self, side: Side, table: u32) -> &[u16]
+        ensures rows { result.now ≡ map place_slot (filter (is_in_table table) (side_places self.now side)) }
+        ensures there { AllByRecursion (λ slot. slot < self.now.cells) result.now }
     {
         self.side(side).of_table(table)
     }
@@ -137,8 +137,7 @@ impl RowIndex {
         requires begun { IsTrue self.old.begun }
         ensures removed { self.new ≡ record { cells = self.old.cells; begun = true; committed = self.old.committed; working = without place_slot slot self.old.working } }
     {
-        if let Some(place) = self.working.in_slot(slot) {
-            self.working.take_out(slot);
+        if let Some(place) = self.working.take_out(slot) {
             self.done = self.done.and(Done::Removed(place));
         }
     }
@@ -231,7 +230,9 @@ fn follow(places: &mut OrderedPlaces, others: &OrderedPlaces, done: Done)
     match done {
         Done::Nothing => {}
         Done::Added(place) => places.put(place),
-        Done::Removed(place) => places.take_out(place.slot),
+        Done::Removed(place) => {
+            places.take_out(place.slot);
+        }
         Done::Much => places.copy(others),
     }
 }

@@ -8,6 +8,7 @@ mod order;
 mod ordered;
 mod place;
 mod refusal;
+mod slot_row;
 
 pub use index::RowIndex;
 pub use place::RowPlace;

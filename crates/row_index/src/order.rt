@@ -1,15 +1,19 @@
-// Places in rising order of a key.
-ghost use Rattle.std.specs.Prelude.{◌≡◌, ◌<◌, ◌≤◌, count_by, length, nat_lt, nat_le};
-ghost use Rattle.std.specs.List.{AllByRecursion};
+// Slots in rising order of a key of their rows.
+ghost use Rattle.std.specs.Prelude.{◌≡◌, ◌<◌, ◌≤◌, ◌==◌, count_by, false, length, nat_lt, nat_le, slice_get};
+ghost use Rattle.std.specs.List.{list_all, list_any};
+ghost use Rattle.std.specs.Option.{option_map_or};
 ghost use Rattle.std.specs.Vec.{vec_len, vec_capacity};
-ghost use Rattle.eeprom.specs.Slots.{Rises, put_in_order};
-ghost use Rattle.row_index.specs.Places.{key_of, place_stamp};
+ghost use Rattle.eeprom.specs.Slots.{Rises, has, put_in_order, without};
+ghost use Rattle.row_index.specs.Places.{key_of, place_slot, place_stamp};
 ghost use Rattle.row_index.specs.Places as places;
+ghost use Rattle.row_index.specs.SlotRows as specs;
+ghost use Rattle.row_index.specs.SlotRows.{places_at};
 
 use crate::RowPlace;
+use crate::slot_row::{SlotRow, place_at};
 use eeprom::Heap;
 
-/// By what places are in order.
+/// By what rows are in order.
 #[derive(Clone, Copy)]
 pub(crate) enum Order {
     ByStamp,
@@ -37,57 +41,101 @@ pub(crate) fn key_in_table(table: u32, stamp: u32) -> u64
     u64::from(table) * 0x1_0000_0000 + u64::from(stamp)
 }
 
-// How many keys are below a number.
-pub(crate) fn count_below(places: &[RowPlace], order: Order, key: u64) -> usize
-    requires rises { Rises (key_of order) places.now }
-    ensures count { result ≡ count_by (λ place. nat_lt (key_of order place) key) places.now }
+// Whether all keys are below a number. Where the last is, all are.
+pub(crate) fn are_below(slots: &[u16], rows: &[SlotRow], order: Order, key: u64) -> bool
+    requires rises { Rises (key_of order) (places_at rows.now slots.now) }
+    ensures { result ≡ list_all (λ place. nat_lt (key_of order place) key) (places_at rows.now slots.now) }
 {
-    places.partition_point(|place| order.key(place) < key)
+    match slots.last() {
+        Some(slot) => order.key(&place_at(rows, *slot)) < key,
+        None => true,
+    }
+}
+
+// How many keys are below a number.
+pub(crate) fn count_below(slots: &[u16], rows: &[SlotRow], order: Order, key: u64) -> usize
+    requires rises { Rises (key_of order) (places_at rows.now slots.now) }
+    ensures count { result ≡ count_by (λ place. nat_lt (key_of order place) key) (places_at rows.now slots.now) }
+{
+    slots.partition_point(|slot| order.key(&place_at(rows, *slot)) < key)
 }
 
 // How many keys are at most a number.
-pub(crate) fn count_up_to(places: &[RowPlace], order: Order, key: u64) -> usize
-    requires rises { Rises (key_of order) places.now }
-    ensures count { result ≡ count_by (λ place. nat_le (key_of order place) key) places.now }
+pub(crate) fn count_up_to(slots: &[u16], rows: &[SlotRow], order: Order, key: u64) -> usize
+    requires rises { Rises (key_of order) (places_at rows.now slots.now) }
+    ensures count { result ≡ count_by (λ place. nat_le (key_of order place) key) (places_at rows.now slots.now) }
 {
-    places.partition_point(|place| order.key(place) <= key)
+    slots.partition_point(|slot| order.key(&place_at(rows, *slot)) <= key)
 }
 
 // How many keys are at most a number. Where the key at the place `near` is the number, nothing is searched for.
-pub(crate) fn count_up_to_near(places: &[RowPlace], order: Order, key: u64, near: usize) -> usize
-    requires rises { Rises (key_of order) places.now }
-    ensures count { result ≡ count_by (λ place. nat_le (key_of order place) key) places.now }
+pub(crate) fn count_up_to_near(
+    slots: &[u16],
+    rows: &[SlotRow],
+    order: Order,
+    key: u64,
+    near: usize,
+) -> usize
+    requires rises { Rises (key_of order) (places_at rows.now slots.now) }
+    ensures count { result ≡ count_by (λ place. nat_le (key_of order place) key) (places_at rows.now slots.now) }
 {
-    match places.get(near) {
-        Some(place) if order.key(place) == key => near + 1,
-        _ => count_up_to(places, order, key),
+    match slots.get(near) {
+        Some(slot) if order.key(&place_at(rows, *slot)) == key => near + 1,
+        _ => count_up_to(slots, rows, order, key),
     }
 }
 
-// Puts a place before the first of a greater key. There is room for it, so no memory is taken.
-pub(crate) fn put(places: &mut Vec<RowPlace, Heap>, order: Order, place: RowPlace)
-    requires rises { Rises (key_of order) places.old.items }
-    requires room { vec_len places.old < vec_capacity places.old }
-    ensures placed { places.new.items ≡ put_in_order (key_of order) place places.old.items }
-    ensures room { vec_capacity places.new ≡ vec_capacity places.old }
-    ensures fits { place_stamp place < 4294967296 }
+// Whether a slot is at a place among some.
+pub(crate) fn stands_at(slots: &[u16], at: usize, slot: u16) -> bool
+    ensures { result ≡ option_map_or (λ other. other == slot) (slice_get slots.now at) false }
 {
-    let at = count_up_to(places.as_slice(), order, order.key(&place));
-    // There is room, so this doesn't fail.
-    let _done = places.insert(at, place);
+    match slots.get(at) {
+        Some(other) => *other == slot,
+        None => false,
+    }
 }
 
-// Has these places in the place of its own. There is room for them, so no memory is taken.
-pub(crate) fn refill(places: &mut Vec<RowPlace, Heap>, from: &[RowPlace])
-    requires room { length from.now ≤ vec_capacity places.old }
-    ensures same { places.new.items ≡ from.now }
-    ensures room { vec_capacity places.old ≤ vec_capacity places.new }
-    ensures fits { AllByRecursion (λ place. place_stamp place < 4294967296) from.now }
+// Puts a slot before the first of a greater key. There is room for it, so no memory is taken.
+pub(crate) fn put(slots: &mut Vec<u16, Heap>, rows: &[SlotRow], order: Order, slot: u16)
+    requires rises { Rises (key_of order) (places_at rows.now slots.old.items) }
+    requires room { vec_len slots.old < vec_capacity slots.old }
+    ensures placed { places_at rows.now slots.new.items ≡ put_in_order (key_of order) (specs.place_at rows.now slot) (places_at rows.now slots.old.items) }
+    ensures room { vec_capacity slots.new ≡ vec_capacity slots.old }
+    ensures fits { place_stamp (specs.place_at rows.now slot) < 4294967296 }
 {
-    places.clear();
-    for place in from {
-        place.has_short_stamp();
+    let key = order.key(&place_at(rows, slot));
+    if are_below(slots.as_slice(), rows, order, key) {
+        slots.push_reserved(slot);
+    } else {
+        let at = count_up_to(slots.as_slice(), rows, order, key);
         // There is room, so this doesn't fail.
-        let _done = places.push(*place);
+        let _done = slots.insert(at, slot);
     }
+}
+
+// Takes a slot out, and answers whether it was there.
+pub(crate) fn take(slots: &mut Vec<u16, Heap>, rows: &[SlotRow], order: Order, slot: u16) -> bool
+    requires rises { Rises (key_of order) (places_at rows.now slots.old.items) }
+    ensures taken { places_at rows.now slots.new.items ≡ without place_slot slot (places_at rows.now slots.old.items) }
+    ensures was { result ≡ list_any (has place_slot slot) (places_at rows.now slots.old.items) }
+    ensures room { vec_capacity slots.new ≡ vec_capacity slots.old }
+{
+    let key = order.key(&place_at(rows, slot));
+    let at = count_below(slots.as_slice(), rows, order, key);
+    let was = stands_at(slots.as_slice(), at, slot);
+    if was {
+        slots.remove(at);
+    }
+    was
+}
+
+// Has these slots in the place of its own. There is room for them, so no memory is taken.
+pub(crate) fn refill(slots: &mut Vec<u16, Heap>, from: &[u16])
+    requires room { length from.now ≤ vec_capacity slots.old }
+    ensures same { slots.new.items ≡ from.now }
+    ensures room { vec_capacity slots.old ≤ vec_capacity slots.new }
+{
+    slots.clear();
+    // There is room, so this doesn't fail.
+    let _done = slots.extend_from_slice(from);
 }

@@ -7,12 +7,15 @@ ghost use Rattle.eeprom.specs.Frame.{Reads};
 ghost use Rattle.eeprom.specs.Slots.{Rises, is_after};
 ghost use Rattle.eeprom.specs.StoreOf.{cell_size};
 ghost use Rattle.record_store.specs.Held.{IsOver};
+ghost use Rattle.record_store.specs.Tags as tags;
+ghost use Rattle.record_store.specs.declared.tags.Tag.TheVariants as by;
 ghost use Rattle.scql_model.specs.Rules.{is_named, user_named, user_stamped};
 ghost use Rattle.catalog_codec.specs.Catalog.{user_kind};
 ghost use Rattle.record_table.specs.Listed.{at_slot, cells_marked, in_slots, listed, slots_of};
+ghost use Rattle.record_table.specs.Tagged.{cells_tagged};
 
 use eeprom::{Eeprom, EepromFault};
-use record_store::{Found, Side, Store};
+use record_store::{Found, Side, Store, Tag, name_tag};
 use record_table::{Wanted, find_by};
 use scql_base::{Name, User};
 
@@ -23,8 +26,14 @@ struct Named(Name);
 impl Wanted<User> for Named {
     ghost wants = { λ wanted user. is_named wanted.0 user };
 
+    ghost tag_is = { λ wanted. Some (by.Name (tags.name_tag wanted.0)) };
+
     fn is(&self, entry: &User) -> bool {
         self.0.octets() == entry.name.octets()
+    }
+
+    fn tag(&self) -> Option<Tag> {
+        Some(Tag::Name(name_tag(self.0.octets())))
     }
 }
 
@@ -67,6 +76,8 @@ pub fn find_name<B: Eeprom>(
         (λ slots. count_by (is_named name) (listed user_kind slots) ≤ 1 → option_map (λ found. found.value) found ≡ user_named (listed user_kind slots) name)) }
     ensures octets_read { IfOk result (λ _. IfSome (slots_of store.now side (B.chip bench.old))
         (λ slots. Becomes (RisesAtMost (cell_size * cells_marked user_kind slots)) (B.octets_read bench.old) (B.octets_read bench.new))) }
+    ensures tagged_read { IfOk result (λ _. IfSome (slots_of store.now side (B.chip bench.old))
+        (λ slots. Becomes (RisesAtMost (cell_size * cells_tagged user_kind (Some (by.Name (tags.name_tag name))) slots)) (B.octets_read bench.old) (B.octets_read bench.new))) }
     ensures frame { Reads each_error B.chip B.faults bench.old bench.new result }
 {
     find_by(store, bench, side, &Named(name))

@@ -62,7 +62,7 @@ impl Engine {
     }
 }
 
-fn leave_each(sessions: &mut [Option<Session>], stamp: u32)
+fn leave_each(sessions: &mut [Option<Session>; 4], stamp: u32)
     ensures { sessions.new ≡ map (option_map (left_session stamp)) sessions.old }
 {
     for session in sessions.iter_mut() {

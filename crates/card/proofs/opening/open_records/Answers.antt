@@ -3,7 +3,9 @@ use Rattle.std.proofs.Common.{◌≡◌, ◌+◌, ℕ, false, List, length, Opti
 use Rattle.std.proofs.lemmas.Grind.{common_steps}
 use Rattle.std.specs.Prelude.{IfSome}
 use Rattle.eeprom.specs.Chip.{Chip, Becomes, RisesBy}
+use Rattle.eeprom.specs.Fault.{CountsFaults}
 use Rattle.eeprom.specs.StoreOf.{Stored, is_gate_open, store_of}
+use Rattle.record_store.specs.Faults.{is_open_fault}
 use Rattle.record_store.specs.declared.side.Side.TheVariants.{Committed}
 use Rattle.record_store.specs.Held.{stored}
 use Rattle.record_store.specs.Opening.{IsOverSoFar, front_octets, slot_with}
@@ -36,6 +38,15 @@ returns-in_err-opening-2-clause-not_a_card g c = λ refused.
     let start = g.B.Eeprom.chip c.new.new.bench in
     refused-kept (g.B.Eeprom.chip c.args.bench.now) start c.new.ensures.frame.store.keeps c.in_ok-opening.ensures.told
     (none-stored start.image (rw c.loop-slot.invariant.same at (c.in_err-opening-2.ensures.not_a_card (first_of (search rules, search (rules, refused, c.from_residual-in_err-opening-2.ensures))))))
+
+pub returns-in_err-opening-2-clause-frame : goal.returns-in_err-opening-2-clause-frame
+returns-in_err-opening-2-clause-frame g c = record {
+  store = subst (KeepsStore (g.B.Eeprom.chip c.args.bench.now)) (sym (c.in_err-opening-2.ensures.frame.same ∙ c.loop-slot.invariant.same)) c.new.ensures.frame.store;
+  counts = subst (λ (n : ℕ). CountsFaults is_open_fault n (g.B.Eeprom.faults c.claim_next.new.bench) c.from_residual-in_err-opening-2.result) (c.loop-slot.invariant.faults ∙ c.in_ok-opening.ensures.frame.counts.1) (first_of (
+    search (rules, c.in_err-opening-2.ensures.frame.counts, c.from_residual-in_err-opening-2.ensures),
+    grind (arith, common_steps, c.in_err-opening-2.ensures.frame.counts, c.from_residual-in_err-opening-2.ensures),
+  ));
+}
 
 pub returns-in_err-add_slot-clause-frame : goal.returns-in_err-add_slot-clause-frame
 returns-in_err-add_slot-clause-frame g c = record {
@@ -174,6 +185,30 @@ returns-in_err-for_cells-clause-frame g c = record {
   counts = first_of (
     search (rules, c.in_ok-opening.ensures.frame.counts.1, c.from_residual-in_err-for_cells.ensures),
     grind (arith, common_steps, c.in_ok-opening.ensures.frame.counts.1, c.from_residual-in_err-for_cells.ensures),
+  );
+}
+
+pub returns-in_err-rooms-clause-no_memory : goal.returns-in_err-rooms-clause-no_memory
+returns-in_err-rooms-clause-no_memory g c = λ _. (c.in_ok-opening.opening.chains.cells, c.in_ok-opening.ensures.reads_front)
+
+pub returns-in_err-rooms-clause-frame : goal.returns-in_err-rooms-clause-frame
+returns-in_err-rooms-clause-frame g c = record {
+  store = c.new.ensures.frame.store;
+  counts = first_of (
+    search (rules, c.in_ok-opening.ensures.frame.counts.1, c.from_residual-in_err-rooms.ensures),
+    grind (arith, common_steps, c.in_ok-opening.ensures.frame.counts.1, c.from_residual-in_err-rooms.ensures),
+  );
+}
+
+pub returns-in_err-command-clause-no_memory : goal.returns-in_err-command-clause-no_memory
+returns-in_err-command-clause-no_memory g c = λ _. (c.in_ok-opening.opening.chains.cells, c.in_ok-opening.ensures.reads_front)
+
+pub returns-in_err-command-clause-frame : goal.returns-in_err-command-clause-frame
+returns-in_err-command-clause-frame g c = record {
+  store = c.new.ensures.frame.store;
+  counts = first_of (
+    search (rules, c.in_ok-opening.ensures.frame.counts.1, c.from_residual-in_err-command.ensures),
+    grind (arith, common_steps, c.in_ok-opening.ensures.frame.counts.1, c.from_residual-in_err-command.ensures),
   );
 }
 

@@ -2,14 +2,14 @@ use Rattle.guide.proofs.Told.{told-then}
 use Rattle.card_run.proofs.statements.answer_statements.Goals as goal
 
 pub returns-clause-told : goal.returns-clause-told
-returns-clause-told g c = told-then g.P.Person.lost g.P.Person.shown _ _ _ c.greet.ensures (told-then g.P.Person.lost g.P.Person.shown _ _ _ c.carry_out-status.ensures.told c.take_leave.ensures)
+returns-clause-told g c = told-then g.P.Person.lost g.P.Person.shown _ _ _ c.greet.ensures.told (told-then g.P.Person.lost g.P.Person.shown _ _ _ c.carry_out-status.ensures.told c.take_leave.ensures)
 
 -- the card's counts are taken from memory, and the bench stays
 pub returns-clause-runs : goal.returns-clause-runs
-returns-clause-runs g c = rw c.cells_of.ensures at c.carry_out-status.ensures.runs
+returns-clause-runs g c = rw c.greet.ensures.same at c.carry_out-status.ensures.runs
 
 pub returns-clause-refusals : goal.returns-clause-refusals
-returns-clause-refusals g c = rw c.cells_of.ensures at c.carry_out-status.ensures.refusals
+returns-clause-refusals g c = rw c.greet.ensures.same at c.carry_out-status.ensures.refusals
 
 pub returns-clause-behind : goal.returns-clause-behind
-returns-clause-behind g c = rw c.cells_of.ensures at c.carry_out-status.ensures.behind
+returns-clause-behind g c = rw c.greet.ensures.same at c.carry_out-status.ensures.behind

@@ -39,7 +39,7 @@ returns-clause-refusals g c = λ db at.
     let run : Ran g = (goal.at.returns-clause-refusals g c).After-of_input-status in
     let last = c.run_lines-end.result.1 in
     subst (λ (status : Status). TellsRefusals term_lines was_refused (opened db) status (g.S.Source.left c.args.source.now) (g.S.Source.left c.run_lines-end.new.source)) (sym c.of_input-status.ensures)
-    (tells-refused term_lines (opened db) was_refused c.run_lines-end.result.0 last.refused (λ (s : Sitting). SitsSo (at_machine g run) last.terminal last.card last.refused s) (g.S.Source.left c.args.source.now)
+    (tells-refused term_lines (opened db) was_refused c.run_lines-end.result.0 last.refused (λ (s : Sitting). SitsSo (at_machine g run) last.terminal.now last.card last.refused s) (g.S.Source.left c.args.source.now)
     (g.S.Source.left c.run_lines-end.new.source) (λ s sits. sits.tells) (c.run_lines-end.ensures.at (opened db) (begins g run db at)))
 
 pub returns-clause-too_long : goal.returns-clause-too_long

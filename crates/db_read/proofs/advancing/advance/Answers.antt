@@ -1,5 +1,5 @@
 -- What was found is gone over, or else looked for first.
-use Rattle.std.proofs.Common.{ℕ, ◌+◌, ◌*◌, Option, None, Some, option_map, sym, ap, subst, ◌∙◌, arith}
+use Rattle.std.proofs.Common.{ℕ, ◌+◌, ◌*◌, Option, Bool, sym, ap, subst, ◌∙◌, arith}
 use Rattle.std.specs.Prelude.{IfSome}
 use Rattle.eeprom.specs.Chip.{Becomes, RisesAtMost}
 use Rattle.eeprom.specs.StoreOf.{cell_size}
@@ -9,18 +9,17 @@ use Rattle.privilege_table.proofs.Seen.{told-held}
 use Rattle.record_table.specs.Listed.{cells_marked}
 use Rattle.db_read.specs.Advanced.{Advances}
 use Rattle.db_read.specs.Scan as specs
-use Rattle.db_read.specs.declared.scan.Prepared.{Prepared}
-use Rattle.db_read.specs.Scan.{GoesOver, IsRight, prepared_view}
+use Rattle.db_read.specs.Scan.{GoesOver, IsRight, found_rows, rows_of}
 use Rattle.db_read.proofs.MotionLaws.{advanced-most, moved-by, of-slots, refused-stays, said-by}
 use Rattle.db_read.proofs.advancing.advance.Goals as goal
 use Rattle.db_read.proofs.advancing.advance.Goals.{After-go_over}
 
 -- the scan's rows are those of the cursor
-over : (g : _) (c : After-go_over g) (db : Database) → IsRight db c.args.actor c.args.scan.now c.args.cursor.now → GoesOver db c.args.actor c.args.cursor.now (prepared_view c.in-Some.prepared)
-over g c db right = subst (λ (o : Option specs.TableRows). IfSome o (GoesOver db c.args.actor c.args.cursor.now)) (sym c.scan.view_is ∙ ap (option_map prepared_view) c.in-Some.is) right
+over : (g : _) (c : After-go_over g) (db : Database) → IsRight db c.args.actor c.args.scan.now c.args.cursor.now → GoesOver db c.args.actor c.args.cursor.now (rows_of c.scan.inside.selection)
+over g c db right = subst (λ (o : Option specs.TableRows). IfSome o (GoesOver db c.args.actor c.args.cursor.now)) (sym c.scan.view_is ∙ ap (λ (found : Bool). found_rows found c.scan.inside.selection) c.if-scan.true) right
 
-pub returns-in-Some-clause-moved : goal.returns-in-Some-clause-moved
-returns-in-Some-clause-moved g c = λ db held cursor right pending.
+pub returns-then-scan-clause-moved : goal.returns-then-scan-clause-moved
+returns-then-scan-clause-moved g c = λ db held cursor right pending.
     let on = c.args.cursor.now in
     let each = rw c.requires.here at (c.go_over.ensures.advances db c.args.actor on held cursor (over g c db right)) in
     said-by c.go_over.result (λ word all stays.
@@ -28,8 +27,8 @@ returns-in-Some-clause-moved g c = λ db held cursor right pending.
     told-held c.args.store.now c.args.side (g.B.Eeprom.chip c.args.bench.now) db _ held all in
     moved-by c.args.motion db c.args.actor on c.go_over.new.place word c.go_over.new.out pending advances.rows advances.under c.requires.opened (advances.goes on)) each c.go_over.ensures.stays
 
-pub returns-in-Some-clause-refused : goal.returns-in-Some-clause-refused
-returns-in-Some-clause-refused g c = λ db held cursor right.
+pub returns-then-scan-clause-refused : goal.returns-then-scan-clause-refused
+returns-then-scan-clause-refused g c = λ db held cursor right.
     let on = c.args.cursor.now in
     let each = rw c.requires.here at (c.go_over.ensures.advances db c.args.actor on held cursor (over g c db right)) in
     said-by c.go_over.result (λ word all stays refusing.
@@ -37,8 +36,8 @@ returns-in-Some-clause-refused g c = λ db held cursor right.
     told-held c.args.store.now c.args.side (g.B.Eeprom.chip c.args.bench.now) db _ held all in
     refused-stays c.args.motion on.place c.go_over.new.place word c.go_over.new.out advances.rows on (advances.goes on) (rw c.requires.here at stays) refusing ∙ sym c.requires.here) each c.go_over.ensures.stays
 
-pub returns-in-Some-clause-octets_read : goal.returns-in-Some-clause-octets_read
-returns-in-Some-clause-octets_read g c = λ db held cursor right kind.
+pub returns-then-scan-clause-octets_read : goal.returns-then-scan-clause-octets_read
+returns-then-scan-clause-octets_read g c = λ db held cursor right kind.
     let on = c.args.cursor.now in
     let chip = g.B.Eeprom.chip c.args.bench.now in
     let a : Option ℕ = g.B.Eeprom.octets_read c.args.bench.now in
@@ -48,11 +47,3 @@ returns-in-Some-clause-octets_read g c = λ db held cursor right kind.
     told-held c.args.store.now c.args.side chip db _ held all in
     advanced-most c.args.store.now c.args.side chip db held c.args.actor on c.args.motion c.go_over.new.place word c.go_over.new.out a a _ kind advances
     (of-slots c.args.store.now c.args.side chip db held (λ slots. Becomes (RisesAtMost (cell_size * cells_marked object_kind slots + cell_size * cells_marked grant_kind slots)) a a) (λ after told. (after, told, omega arith)))) each c.go_over.ensures.stays
-
--- what was found, as it is seen
-as-seen : (P : specs.TableRows → Type 0) (o : Option Prepared) → IfSome o (λ prepared. P (prepared_view prepared)) → IfSome (option_map prepared_view o) P
-as-seen P None is = tt
-as-seen P (Some prepared) is = is
-
-pub returns-clause-right : goal.returns-clause-right
-returns-clause-right g c = λ db held right. as-seen (GoesOver db c.args.actor c.args.cursor.now) c.find_and_go.new.found (c.find_and_go.ensures.prepared db held)

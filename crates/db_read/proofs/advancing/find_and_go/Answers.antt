@@ -89,12 +89,12 @@ returns-in-Err-go_on-clause-least g c = λ db held cursor kind.
     let all = rw c.in-Ok.ensures.frame.same at c.in-Err-go_on.ensures.fault in
     fault-said _ c.in-Err-go_on.stop c.stopped-in-Err-go_on.result c.stopped-in-Err-go_on.ensures (all db c.args.actor held cursor (c.in-Ok.ensures.found db held))
 
-pub returns-in-Ok-go_on-clause-prepared : goal.returns-in-Ok-go_on-clause-prepared
-returns-in-Ok-go_on-clause-prepared g c = λ db held.
-    let all = rw c.in-Ok.ensures.frame.same at c.in-Ok-go_on.ensures.prepared in
+pub returns-in-Ok-go_on-clause-right : goal.returns-in-Ok-go_on-clause-right
+returns-in-Ok-go_on-clause-right g c = λ db held.
+    let all = rw c.in-Ok.ensures.frame.same at c.in-Ok-go_on.ensures.right in
     all db c.args.actor held (c.in-Ok.ensures.found db held)
 
-pub returns-in-Err-go_on-clause-prepared : goal.returns-in-Err-go_on-clause-prepared
-returns-in-Err-go_on-clause-prepared g c = λ db held.
-    let all = rw c.in-Ok.ensures.frame.same at c.in-Err-go_on.ensures.prepared in
+pub returns-in-Err-go_on-clause-right : goal.returns-in-Err-go_on-clause-right
+returns-in-Err-go_on-clause-right g c = λ db held.
+    let all = rw c.in-Ok.ensures.frame.same at c.in-Err-go_on.ensures.right in
     all db c.args.actor held (c.in-Ok.ensures.found db held)

@@ -6,7 +6,7 @@ use Rattle.record_store.specs.declared.side.Side.TheVariants.{Committed}
 use Rattle.catalog_codec.specs.Catalog.{row_kind}
 use Rattle.record_table.specs.Listed.{slots_of}
 use Rattle.record_table.proofs.Scan.{empty-told, reads-none, reads-behind}
-use Rattle.row_index.proofs.Gathering.{gathered-none, gathered-passed, gathered-put, gathered-twice, gathered-all}
+use Rattle.row_index.proofs.Gathering.{gathered-none, gathered-passed, gathered-put, gathered-twice, gathered-all, none_lower_slot}
 use Rattle.row_index.specs.Places.{place_stamp}
 use Rattle.row_index.proofs.Kept.{unfound-counted, found-some}
 use Rattle.row_index.proofs.build.gather.Goals as goal
@@ -27,6 +27,9 @@ loop-slot-init g c =
 
 pub put-requires-clause-new_stamp : goal.put-requires-clause-new_stamp
 put-requires-clause-new_stamp g c = unfound-counted (has place_stamp c.in-Some.row.stamp) c.loop-slot.places.places c.find.result c.find.ensures c.if-is_none.ensures
+
+pub put-requires-clause-new_slot : goal.put-requires-clause-new_slot
+put-requires-clause-new_slot g c = none_lower_slot c.loop-slot.slot c.loop-slot.places.places c.loop-slot.invariant.so_far.lower
 
 pub loop-slot-preserved : goal.loop-slot-preserved
 loop-slot-preserved g c =

@@ -26,8 +26,8 @@ use Rattle.card.proofs.engine.Engine.change.Goals as goal
 
 pub unreachable-requires : goal.unreachable-requires
 unreachable-requires g c =
-    let there = index-there c.self.inside.sessions c.from.result c.index-sessions-from.result (omega (arith, c.from.ensures, c.requires.channel, c.self.invariant.0)) c.index-sessions-from.is ∙ (c.index-sessions-from.is ∙ c.in_default.is) in
-    let closed = rw c.from.ensures at (closed-none c.self.inside.sessions c.self.inside.chains c.from.result there) in
+    let there = index-there c.self.inside.sessions.value c.from.result c.index-sessions-from.result (omega (arith, c.from.ensures, c.requires.channel, c.self.invariant.0)) (rw c.deref-sessions.ensures at c.index-sessions-from.is) ∙ (c.index-sessions-from.is ∙ c.in_default.is) in
+    let closed = rw c.from.ensures at (closed-none c.self.inside.sessions.value c.self.inside.chains.value c.from.result there) in
     false≢true (sym closed ∙ (ap (λ (kept : Kept). opened.is_open kept.sessions c.args.channel) c.self.view_is ∙ c.requires.there))
 
 pub change_within-requires-clause-last : goal.change_within-requires-clause-last
@@ -39,8 +39,8 @@ pub returns-in_err-word-in-None-clause-performs : goal.returns-in_err-word-in-No
 returns-in_err-word-in-None-clause-performs g c = λ m at others.
     let old = g.B.Eeprom.chip c.args.bench.now in
     let new = g.B.Eeprom.chip c.change.new.bench in
-    let there = index-there c.self.inside.sessions c.from.result c.index-sessions-from.result (omega (arith, c.from.ensures, c.requires.channel, c.self.invariant.0)) c.index-sessions-from.is ∙ (c.index-sessions-from.is ∙ c.in-Some.is) in
-    let reads = cursor-card c.args.self.now old m c.self.inside.sessions c.self.inside.chains c.args.channel c.in-Some.session at (ap (λ (kept : Kept). kept.sessions) (sym c.self.view_is)) (c.self.invariant.0 ∙ sym c.self.invariant.1)
+    let there = index-there c.self.inside.sessions.value c.from.result c.index-sessions-from.result (omega (arith, c.from.ensures, c.requires.channel, c.self.invariant.0)) (rw c.deref-sessions.ensures at c.index-sessions-from.is) ∙ (c.index-sessions-from.is ∙ c.in-Some.is) in
+    let reads = cursor-card c.args.self.now old m c.self.inside.sessions.value c.self.inside.chains.value c.args.channel c.in-Some.session at (ap (λ (kept : Kept). kept.sessions) (sym c.self.view_is)) (c.self.invariant.0 ∙ sym c.self.invariant.1)
     (rw c.from.ensures at there) in
     let by = Performs-at_once c.args.self.now c.args.self.now c.change.new.store c.change.new.index old new m c.args.channel c.args.operation.now c.proved_user-user.result c.in-Some.session.cursor c.change.result c.requires.ready at
     (ap (λ (kept : Kept). kept.transaction) (sym c.self.view_is) ∙ c.in-None.is) c.proved_user-user.ensures reads (rw c.in_err-word-in-None.was tt)
@@ -52,8 +52,8 @@ pub returns-in_err-word-in-Some-transaction-clause-performs : goal.returns-in_er
 returns-in_err-word-in-Some-transaction-clause-performs g c = λ m at others.
     let old = g.B.Eeprom.chip c.args.bench.now in
     let new = g.B.Eeprom.chip c.change_within.new.bench in
-    let there = index-there c.self.inside.sessions c.from.result c.index-sessions-from.result (omega (arith, c.from.ensures, c.requires.channel, c.self.invariant.0)) c.index-sessions-from.is ∙ (c.index-sessions-from.is ∙ c.in-Some.is) in
-    let reads = cursor-card c.args.self.now old m c.self.inside.sessions c.self.inside.chains c.args.channel c.in-Some.session at (ap (λ (kept : Kept). kept.sessions) (sym c.self.view_is)) (c.self.invariant.0 ∙ sym c.self.invariant.1)
+    let there = index-there c.self.inside.sessions.value c.from.result c.index-sessions-from.result (omega (arith, c.from.ensures, c.requires.channel, c.self.invariant.0)) (rw c.deref-sessions.ensures at c.index-sessions-from.is) ∙ (c.index-sessions-from.is ∙ c.in-Some.is) in
+    let reads = cursor-card c.args.self.now old m c.self.inside.sessions.value c.self.inside.chains.value c.args.channel c.in-Some.session at (ap (λ (kept : Kept). kept.sessions) (sym c.self.view_is)) (c.self.invariant.0 ∙ sym c.self.invariant.1)
     (rw c.from.ensures at there) in
     let by = Performs-in_transaction c.args.self.now c.args.self.now c.change_within.new.store c.change_within.new.index old new m c.args.channel c.in-Some-transaction.field-0 c.args.operation.now c.proved_user-user.result c.in-Some.session.cursor
     c.change_within.result c.requires.ready at (ap (λ (kept : Kept). kept.transaction) (sym c.self.view_is) ∙ c.in-Some-transaction.is) others c.proved_user-user.ensures reads (rw c.in_err-word-in-Some-transaction.was tt)
@@ -65,8 +65,8 @@ returns-in_err-word-in-Some-transaction-clause-performs g c = λ m at others.
 pub returns-clause-performs : goal.returns-clause-performs
 returns-clause-performs g c = λ m at others.
     let old = g.B.Eeprom.chip c.args.bench.now in
-    let there = index-there c.self.inside.sessions c.from.result c.index-sessions-from.result (omega (arith, c.from.ensures, c.requires.channel, c.self.invariant.0)) c.index-sessions-from.is ∙ (c.index-sessions-from.is ∙ c.in-Some.is) in
-    let reads = cursor-card c.args.self.now old m c.self.inside.sessions c.self.inside.chains c.args.channel c.in-Some.session at (ap (λ (kept : Kept). kept.sessions) (sym c.self.view_is)) (c.self.invariant.0 ∙ sym c.self.invariant.1)
+    let there = index-there c.self.inside.sessions.value c.from.result c.index-sessions-from.result (omega (arith, c.from.ensures, c.requires.channel, c.self.invariant.0)) (rw c.deref-sessions.ensures at c.index-sessions-from.is) ∙ (c.index-sessions-from.is ∙ c.in-Some.is) in
+    let reads = cursor-card c.args.self.now old m c.self.inside.sessions.value c.self.inside.chains.value c.args.channel c.in-Some.session at (ap (λ (kept : Kept). kept.sessions) (sym c.self.view_is)) (c.self.invariant.0 ∙ sym c.self.invariant.1)
     (rw c.from.ensures at there) in
     elim c.match-transaction.branch [
       | in-None+in_ok-word-in-None w ↦ (

@@ -30,13 +30,13 @@ use Rattle.card.proofs.engine.Engine.read.Goals as goal
 abbrev now : (g : _) → After-read g → Kept
 now g c = record c.args.self.now { found = c.actor_reading.new.self.found }
 
-view : (g : _) (c : After-read g) → record { store = c.self.inside.store; index = c.self.inside.index; sessions = sessions_of c.self.inside.sessions c.self.inside.chains; transaction = c.self.inside.transaction; found = c.self.inside.found; live = c.self.inside.live } ≡ now g c
+view : (g : _) (c : After-read g) → record { store = c.self.inside.store; index = c.self.inside.index; sessions = sessions_of c.self.inside.sessions.value c.self.inside.chains.value; transaction = c.self.inside.transaction; found = c.self.inside.found.value; live = c.self.inside.live } ≡ now g c
 view g c = c.self.view_is ∙ c.in_ok-actor.ensures.kept
 
 -- its session
-session-there : (g : _) (c : After-read g) → slice_index_or c.self.inside.sessions c.args.command.now.channel None ≡ Some c.in-Some.session
+session-there : (g : _) (c : After-read g) → slice_index_or c.self.inside.sessions.value c.args.command.now.channel None ≡ Some c.in-Some.session
 session-there g c =
-    rw c.from.ensures at (index-there c.self.inside.sessions c.from.result c.index-self-from.result (omega (arith, c.from.ensures, c.requires.formed.channel, c.self.invariant.0)) c.index-self-from.is ∙ (c.index-self-from.is ∙ c.in-Some.is))
+    rw c.from.ensures at (index-there c.self.inside.sessions.value c.from.result c.index-deref_mut-from.result (omega (arith, c.from.ensures, c.requires.formed.channel, c.self.invariant.0)) (rw c.deref_mut.ensures.value at c.index-deref_mut-from.is) ∙ (c.index-deref_mut-from.is ∙ c.in-Some.is))
 
 -- what its side holds
 held-there : (g : _) (c : After-read g) (db : Database) → IsHeld c.args.self.now.store (side_of c.args.self.now.transaction c.args.command.now.channel) (g.B.Eeprom.chip c.args.bench.now) db
@@ -50,21 +50,22 @@ held-there g c db held =
 
 -- what was found is right for its cursor
 right-there : (g : _) (c : After-read g) (db : Database) → IsHeld c.args.self.now.store (side_of c.args.self.now.transaction c.args.command.now.channel) (g.B.Eeprom.chip c.args.bench.now) db
-    → IsRightFor db c.in_ok-actor.actor c.self.inside.found.scan c.in-Some.session.cursor
+    → IsRightFor db c.in_ok-actor.actor c.deref_mut-3.result.now.scan c.in-Some.session.cursor
 right-there g c db held =
     let channel = c.args.command.now.channel in
     let who = c.in_ok-actor.actor in
     let cursors = ap (λ (kept : Kept). cursor_on kept.sessions channel) (sym (view g c))
-    ∙ cursor-seen c.self.inside.sessions c.self.inside.chains channel c.in-Some.session (c.self.invariant.0 ∙ sym c.self.invariant.1) (session-there g c) in
-    subst (λ (scan : Option TableRows). IsRightFor db who scan c.in-Some.session.cursor) (sym (ap (λ (kept : Kept). kept.found.scan) c.self.view_is))
+    ∙ cursor-seen c.self.inside.sessions.value c.self.inside.chains.value channel c.in-Some.session (c.self.invariant.0 ∙ sym c.self.invariant.1) (session-there g c) in
+    subst (λ (scan : Option TableRows). IsRightFor db who scan c.in-Some.session.cursor)
+    (sym (ap (λ (kept : Kept). kept.found.scan) c.self.view_is) ∙ ap (λ (found : Found). found.scan) (sym c.deref_mut-3.ensures.value))
     (subst (IsRightFor db who c.actor_reading.new.self.found.scan) cursors (c.in_ok-actor.ensures.right db held))
 
 -- the session that has read
 set-there : (g : _) (c : After-read g) → c.read.new.session.user ≡ c.in-Some.session.user
-    → record { store = c.self.inside.store; index = c.self.inside.index; sessions = sessions_of (slice_set c.self.inside.sessions c.from.result (Some c.read.new.session)) c.self.inside.chains; transaction = c.self.inside.transaction; found = c.self.inside.found; live = c.self.inside.live }
+    → record { store = c.self.inside.store; index = c.self.inside.index; sessions = sessions_of (slice_set c.self.inside.sessions.value c.from.result (Some c.read.new.session)) c.self.inside.chains.value; transaction = c.self.inside.transaction; found = c.self.inside.found.value; live = c.self.inside.live }
     ≡ changing_session (reading_so (reading_in c.read.new.session)) (now g c) c.args.command.now.channel
 set-there g c user =
-    rw c.from.ensures (card-changed (reading_so (reading_in c.read.new.session)) c.self.inside.store c.self.inside.index c.self.inside.transaction c.self.inside.found c.self.inside.live c.self.inside.sessions c.self.inside.chains c.args.command.now.channel
+    rw c.from.ensures (card-changed (reading_so (reading_in c.read.new.session)) c.self.inside.store c.self.inside.index c.self.inside.transaction c.self.inside.found.value c.self.inside.live c.self.inside.sessions.value c.self.inside.chains.value c.args.command.now.channel
     c.in-Some.session c.read.new.session (now g c) (view g c) (λ chain. reads-so c.read.new.session c.in-Some.session user chain) (session-there g c))
 
 pub returns-in_err-actor-clause-performs : goal.returns-in_err-actor-clause-performs
@@ -79,8 +80,8 @@ returns-in_err-word-clause-performs g c = λ m from.
 
 pub unreachable-requires : goal.unreachable-requires
 unreachable-requires g c =
-    let there = index-there c.self.inside.sessions c.from.result c.index-self-from.result (omega (arith, c.from.ensures, c.requires.formed.channel, c.self.invariant.0)) c.index-self-from.is ∙ (c.index-self-from.is ∙ c.in_default.is) in
-    let closed = rw c.from.ensures at (closed-none c.self.inside.sessions c.self.inside.chains c.from.result there) in
+    let there = index-there c.self.inside.sessions.value c.from.result c.index-deref_mut-from.result (omega (arith, c.from.ensures, c.requires.formed.channel, c.self.invariant.0)) (rw c.deref_mut.ensures.value at c.index-deref_mut-from.is) ∙ (c.index-deref_mut-from.is ∙ c.in_default.is) in
+    let closed = rw c.from.ensures at (closed-none c.self.inside.sessions.value c.self.inside.chains.value c.from.result there) in
     false≢true (sym closed ∙ (ap (λ (kept : Kept). opened.is_open kept.sessions c.args.command.now.channel) (c.self.view_is ∙ c.in_ok-actor.ensures.kept) ∙ c.requires.open))
 
 pub returns-clause-performs : goal.returns-clause-performs
@@ -97,18 +98,18 @@ returns-clause-performs g c = λ m from.
     let same : new ≡ old = c.in_ok-word.ensures.frame.same ∙ c.in_ok-actor.ensures.frame.same in
     let held = IsHeld-base args old m channel c.requires.ready.stands from in
     let at = HoldsMachine-found args c.actor_reading.new.self.found old m from.held in
-    let seen = reading-card (now g w) old m c.self.inside.sessions c.self.inside.chains channel session at (ap (λ (kept : Kept). kept.sessions) (sym (view g w))) (c.self.invariant.0 ∙ sym c.self.invariant.1) (session-there g w) in
+    let seen = reading-card (now g w) old m c.self.inside.sessions.value c.self.inside.chains.value channel session at (ap (λ (kept : Kept). kept.sessions) (sym (view g w))) (c.self.invariant.0 ∙ sym c.self.invariant.1) (session-there g w) in
     let who = actor-at args old m channel (proved_user (session_on args.sessions channel)) from.held refl ∙ sym (c.in_ok-actor.ensures.actor db held) in
     let cursors = of_database db session.cursor (subst (λ (reading : Reading). IfSome reading.cursor (StandsOn db)) seen (from.valid.readings channel).cursor) in
     let reads = reads-command command c.requires.formed c.requires.reads in
     let moves = c.in_ok-word.ensures.moves db (held-there g w db held) cursors (right-there g w db held) in
-    let kept : Kept = record { store = c.self.inside.store; index = c.self.inside.index; sessions = sessions_of (slice_set c.self.inside.sessions c.from.result (Some after)) c.self.inside.chains; transaction = c.self.inside.transaction; found = c.self.inside.found; live = c.self.inside.live } in
-    Performs-found m _ _ c.read.new.reply.body c.in_ok-word.word kept _ old new
+    let kept : Kept = record { store = c.self.inside.store; index = c.self.inside.index; sessions = sessions_of (slice_set c.self.inside.sessions.value c.from.result (Some after)) c.self.inside.chains.value; transaction = c.self.inside.transaction; found = c.self.inside.found.value; live = c.self.inside.live } in
+    rw (c.deref_mut.ensures.value, c.deref_mut-4.ensures.value) (Performs-found m _ _ c.read.new.reply.body c.in_ok-word.word kept _ old new
     (Performs-unwritten args kept old new m _ _ c.read.new.reply.body (Ok c.in_ok-word.word) c.requires.ready.stands from same
     (subst (λ (chip : Chip). HoldsAnswer (answered m (carried_out m command)) (replied c.read.new.reply.body c.in_ok-word.word) kept chip) (sym same)
     (HoldsAnswer-read (now g w) kept old m command reads.0 c.read.new.reply.body c.in_ok-word.word (reading_in after) at reads.1
     (move-there db db c.in_ok-actor.actor (actor m channel) (reading_in session) (reading_of m channel) reads.0 (move_to c.read.new.reply.body c.in_ok-word.word after.cursor after.pending) refl who seen (moves reads.0 reads.1))
-    (set-there g w c.in_ok-word.ensures.user))))
+    (set-there g w c.in_ok-word.ensures.user)))))
 
 pub returns-clause-ready : goal.returns-clause-ready
 returns-clause-ready g c =
@@ -122,10 +123,10 @@ returns-clause-ready g c =
     let w = (goal.at.returns-clause-ready g c).After-read in
     let same : new ≡ old = c.in_ok-word.ensures.frame.same ∙ c.in_ok-actor.ensures.frame.same in
     let found : Found = record { last = Some (record { channel = channel; actor = c.in_ok-actor.actor }); scan = c.read.new.scan } in
-    let kept : Kept = record { store = c.self.inside.store; index = c.self.inside.index; sessions = sessions_of (slice_set c.self.inside.sessions c.from.result (Some after)) c.self.inside.chains; transaction = c.self.inside.transaction; found = c.self.inside.found; live = c.self.inside.live } in
-    subst (λ (chip : Chip). IsReady (record kept { found = found }) chip) (sym same) (subst (λ (kept : Kept). IsReady (record kept { found = found }) old) (sym (set-there g w c.in_ok-word.ensures.user))
+    let kept : Kept = record { store = c.self.inside.store; index = c.self.inside.index; sessions = sessions_of (slice_set c.self.inside.sessions.value c.from.result (Some after)) c.self.inside.chains.value; transaction = c.self.inside.transaction; found = c.self.inside.found.value; live = c.self.inside.live } in
+    rw (c.deref_mut.ensures.value, c.deref_mut-4.ensures.value) (subst (λ (chip : Chip). IsReady (record kept { found = found }) chip) (sym same) (subst (λ (kept : Kept). IsReady (record kept { found = found }) old) (sym (set-there g w c.in_ok-word.ensures.user))
     (IsReady-read (now g w) old channel (reading_in after) c.in_ok-actor.actor c.read.new.scan (StandsOver-found args c.actor_reading.new.self.found old c.requires.ready.stands)
-    (λ db held. c.in_ok-actor.ensures.actor db held) (λ db held. c.in_ok-word.ensures.right db (held-there g w db held) (right-there g w db held))))
+    (λ db held. c.in_ok-actor.ensures.actor db held) (λ db held. c.in_ok-word.ensures.right db (held-there g w db held) (right-there g w db held)))))
 
 pub returns-in_err-actor-clause-octets_read : goal.returns-in_err-actor-clause-octets_read
 returns-in_err-actor-clause-octets_read g c = λ m from. err-on _ _ c.from_residual.result c.from_residual.ensures.1
@@ -145,7 +146,7 @@ returns-clause-octets_read g c = λ m from asked is.
     let d : Option ℕ = g.B.Eeprom.octets_read c.read.new.bench in
     let held = IsHeld-base args old m channel c.requires.ready.stands from in
     let at = HoldsMachine-found args c.actor_reading.new.self.found old m from.held in
-    let seen = reading-card (now g w) old m c.self.inside.sessions c.self.inside.chains channel session at (ap (λ (kept : Kept). kept.sessions) (sym (view g w))) (c.self.invariant.0 ∙ sym c.self.invariant.1) (session-there g w) in
+    let seen = reading-card (now g w) old m c.self.inside.sessions.value c.self.inside.chains.value channel session at (ap (λ (kept : Kept). kept.sessions) (sym (view g w))) (c.self.invariant.0 ∙ sym c.self.invariant.1) (session-there g w) in
     let who = actor-at args old m channel (proved_user (session_on args.sessions channel)) from.held refl ∙ sym (c.in_ok-actor.ensures.actor db held) in
     let cursors = of_database db session.cursor (subst (λ (reading : Reading). IfSome reading.cursor (StandsOn db)) seen (from.valid.readings channel).cursor) in
     reads-there db c.in_ok-actor.actor (actor m channel) (reading_in session) (reading_of m channel) asked a d who seen

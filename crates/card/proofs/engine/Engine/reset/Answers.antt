@@ -19,7 +19,7 @@ undone c chip m at = elim c.if-is_some.branch [
 
 pub returns-clause-at : goal.returns-clause-at
 returns-clause-at c = λ chip m at.
-    let held = subst (λ (kept : Kept). HoldsMachine kept chip (record m { transaction = None })) (sym c.self-2.view_is) (undone c chip m at) in record {
+    let held = subst (λ (kept : Kept). HoldsMachine kept chip (record m { transaction = None })) (sym c.self-2.view_is) (undone (goal.at.returns-clause-at c).After-forget chip m at) in record {
       held = record {
         slots = held.slots;
         committed = held.committed;
@@ -27,7 +27,7 @@ returns-clause-at c = λ chip m at.
         holds = held.holds;
         transaction = held.transaction;
         works = tt;
-        sessions = sym (c.first_sessions-self-inside.ensures m.committed) ∙ ap (sessions_of c.first_sessions-self-inside.result) (sym c.clear.ensures);
+        sessions = sym (c.first_sessions.ensures m.committed) ∙ ap (sessions_of c.first_sessions.result) (sym c.clear.ensures);
       };
       valid = IsValidMachine-start m.committed at.valid.committed;
     }

@@ -74,7 +74,7 @@ pub returns-clause-ready : goal.returns-clause-ready
 returns-clause-ready g c =
     let old = g.B.Eeprom.chip c.args.bench.now in
     let new = g.B.Eeprom.chip c.verify.new.bench in
-    let before : Kept = record { store = c.self.inside.store; index = c.self.inside.index; sessions = sessions_of c.self.inside.sessions c.self.inside.chains; transaction = c.self.inside.transaction; found = c.self.inside.found; live = c.self.inside.live } in
+    let before : Kept = record { store = c.self.inside.store; index = c.self.inside.index; sessions = sessions_of c.self.inside.sessions.value c.self.inside.chains.value; transaction = c.self.inside.transaction; found = c.self.inside.found.value; live = c.self.inside.live } in
     let ready : StandsOver before old = subst (λ (kept : Kept). StandsOver kept old) (sym c.self.view_is) c.requires.ready in
     let next = StandsOver-verified before c.verify.new.store old new ready (ap (λ (kept : Kept). kept.transaction) c.self.view_is ∙ c.requires.closed) c.in_ok-word.ensures.goes_on c.in_ok-word.ensures.holds c.in_ok-word.ensures.rows in
     subst (λ (kept : Kept). StandsOver kept new) (sym (settles g c))

@@ -37,26 +37,26 @@ rows limit own most is = omega (arith, most, is)
 
 -- the card once octets were taken
 abbrev after_take : (g : _) → After-take g → Kept
-after_take g c = record { store = c.self.inside.store; index = c.self.inside.index; sessions = sessions_of c.self.inside.sessions c.take.new.self; transaction = c.self.inside.transaction; found = c.self.inside.found; live = c.self.inside.live }
+after_take g c = record { store = c.self.inside.store; index = c.self.inside.index; sessions = sessions_of c.self.inside.sessions.value c.take.new.self; transaction = c.self.inside.transaction; found = c.self.inside.found.value; live = c.self.inside.live }
 
 -- what they are
 abbrev form : (g : _) → After-take g → Form
-form g c = form_of operations c.args.octets.now c.open_channels-channels.result (chain_on c.self.inside.chains) (min c.row_limit.result 1020)
+form g c = form_of operations c.args.octets.now c.open_channels-channels.result (chain_on c.self.inside.chains.value) (min c.row_limit.result 1020)
 
 steps : (g : _) (c : After-take g) (m : Machine) → IsAt c.args.self.now (g.B.Eeprom.chip c.args.bench.now) m
     → step m c.args.octets.now ≡ answered (taken_at m (form g c)) (outcome_of (taken_at m (form g c)) (form g c))
 steps g c m at =
-    step-taken c.args.self.now (g.B.Eeprom.chip c.args.bench.now) m c.args.octets.now c.open_channels-channels.result c.self.inside.sessions c.self.inside.chains (min c.row_limit.result 1020) at
+    step-taken c.args.self.now (g.B.Eeprom.chip c.args.bench.now) m c.args.octets.now c.open_channels-channels.result c.self.inside.sessions.value c.self.inside.chains.value (min c.row_limit.result 1020) at
     c.open_channels-channels.ensures (ap (λ (kept : Kept). kept.sessions) (sym c.self.view_is)) (rows c.row_limit.result _ c.row_limit.ensures.most (c.row_limit.ensures.limit ∙ ap (λ (kept : Kept). kept.store.row_limit) c.self.view_is))
 
 bounds : (g : _) (c : After-take g) (m : Machine) → IsAt c.args.self.now (g.B.Eeprom.chip c.args.bench.now) m → octets_bound m c.args.octets.now ≡ octets_taken (taken_at m (form g c)) (form g c)
 bounds g c m at =
-    bound-taken c.args.self.now (g.B.Eeprom.chip c.args.bench.now) m c.args.octets.now c.open_channels-channels.result c.self.inside.sessions c.self.inside.chains (min c.row_limit.result 1020) at
+    bound-taken c.args.self.now (g.B.Eeprom.chip c.args.bench.now) m c.args.octets.now c.open_channels-channels.result c.self.inside.sessions.value c.self.inside.chains.value (min c.row_limit.result 1020) at
     c.open_channels-channels.ensures (ap (λ (kept : Kept). kept.sessions) (sym c.self.view_is)) (rows c.row_limit.result _ c.row_limit.ensures.most (c.row_limit.ensures.limit ∙ ap (λ (kept : Kept). kept.store.row_limit) c.self.view_is))
 
 at-taken : (g : _) (c : After-take g) (m : Machine) → IsAt c.args.self.now (g.B.Eeprom.chip c.args.bench.now) m → IsAt (after_take g c) (g.B.Eeprom.chip c.args.bench.now) (taken_at m (form g c))
 at-taken g c m at =
-    IsAt-taken c.self.inside.store c.self.inside.index c.self.inside.transaction c.self.inside.found c.self.inside.live c.self.inside.sessions c.self.inside.chains c.take.new.self c.args.self.now (g.B.Eeprom.chip c.args.bench.now) m (form g c) at c.self.view_is c.take.ensures.chains
+    IsAt-taken c.self.inside.store c.self.inside.index c.self.inside.transaction c.self.inside.found.value c.self.inside.live c.self.inside.sessions.value c.self.inside.chains.value c.take.new.self c.args.self.now (g.B.Eeprom.chip c.args.bench.now) m (form g c) at c.self.view_is (rw c.deref_mut.ensures.value at c.take.ensures.chains)
 
 -- nothing is written for what is no command, nor said
 unwritten : (g : _) (c : After-take g) (m : Machine) (answer : Answer) (word : StatusWord) (after : Kept) → IsAt c.args.self.now (g.B.Eeprom.chip c.args.bench.now) m
@@ -72,7 +72,7 @@ pub returns-in-Refused-clause-performs : goal.returns-in-Refused-clause-performs
 returns-in-Refused-clause-performs g c = λ m at.
     let w = (goal.at.returns-in-Refused-clause-performs g c).After-take in
     let next = taken_at m (form g w) in
-    unwritten g w m (answered next (Err c.in-Refused.word)) c.in-Refused.word (after_take g w) at (ap (answered next) (taken-refused next (form g w) c.in-Refused.word (sym c.in-Refused.is ∙ c.take.ensures.taken)))
+    unwritten g w m (answered next (Err c.in-Refused.word)) c.in-Refused.word (after_take g w) at (ap (answered next) (taken-refused next (form g w) c.in-Refused.word (sym c.in-Refused.is ∙ (rw c.deref_mut.ensures.value at c.take.ensures.taken))))
     (record { reply = refl; held = (at-taken g w m at).held }) c.requires.empty
 
 pub returns-in-Kept-clause-performs : goal.returns-in-Kept-clause-performs
@@ -84,26 +84,26 @@ returns-in-Kept-clause-performs g c = λ m at.
     subst (λ (kept : Kept). Performs m (step m c.args.octets.now) (octets_bound m c.args.octets.now) c.args.reply.now.body (Ok done) (record kept { found = c.forget.new.self }) chip chip) (sym c.self-in-Kept.view_is)
     (Performs-found m _ _ c.args.reply.now.body done c.drop_pending.new.self c.forget.new.self chip chip
     (unwritten g w m (done_with next channel []) done c.drop_pending.new.self at
-    (ap (answered next) (taken-kept next c.args.octets.now (form g w) (named-taken c.args.octets.now c.open_channels-channels.result (chain_on c.self.inside.chains) (min c.row_limit.result 1020)) (sym c.in-Kept.is ∙ c.take.ensures.taken)))
+    (ap (answered next) (taken-kept next c.args.octets.now (form g w) (named-taken c.args.octets.now c.open_channels-channels.result (chain_on c.self.inside.chains.value) (min c.row_limit.result 1020)) (sym c.in-Kept.is ∙ (rw c.deref_mut.ensures.value at c.take.ensures.taken))))
     (HoldsAnswer-done (after_take g w) c.drop_pending.new.self chip next channel [] (at-taken g w m at).held (rw (sym c.channel_named.ensures.named) c.drop_pending.ensures)) c.requires.empty))
 
 pub carry_out-requires-clause-open : goal.carry_out-requires-clause-open
 carry_out-requires-clause-open g c =
-    open-taken c.args.octets.now c.open_channels-channels.result c.self.inside.sessions c.self.inside.chains c.take.new.self (min c.row_limit.result 1020) c.take.new.command
-    (c.open_channels-channels.ensures ∙ ap (λ (kept : Kept). map (λ (s : Option Session). is_some s) kept.sessions) (sym c.self.view_is)) c.take.ensures.chains (c.take.ensures.whole c.in-Whole.is)
+    open-taken c.args.octets.now c.open_channels-channels.result c.self.inside.sessions.value c.self.inside.chains.value c.take.new.self (min c.row_limit.result 1020) c.take.new.command
+    (c.open_channels-channels.ensures ∙ ap (λ (kept : Kept). map (λ (s : Option Session). is_some s) kept.sessions) (sym c.self.view_is)) (rw c.deref_mut.ensures.value at c.take.ensures.chains) ((rw c.deref_mut.ensures.value at c.take.ensures.whole) c.in-Whole.is)
 
 pub carry_out-requires-clause-fits : goal.carry_out-requires-clause-fits
 carry_out-requires-clause-fits g c =
     subst (λ (limit : ℕ). FitsCard limit c.take.new.command.operation)
     (rows c.row_limit.result _ c.row_limit.ensures.most c.row_limit.ensures.limit)
-    (fits-taken c.args.octets.now c.open_channels-channels.result (chain_on c.self.inside.chains) (min c.row_limit.result 1020) c.take.new.command (λ i. omega (arith, c.type_inv.octets i)) (omega arith) (c.take.ensures.whole c.in-Whole.is))
+    (fits-taken c.args.octets.now c.open_channels-channels.result (chain_on c.self.inside.chains.value) (min c.row_limit.result 1020) c.take.new.command (λ i. omega (arith, c.type_inv.octets i)) (omega arith) ((rw c.deref_mut.ensures.value at c.take.ensures.whole) c.in-Whole.is))
 
 pub returns-in-Whole-clause-performs : goal.returns-in-Whole-clause-performs
 returns-in-Whole-clause-performs g c = λ m at.
     let w = (goal.at.returns-in-Whole-clause-performs g c).After-take in
     let next = taken_at m (form g w) in
-    let most = bounds g w m at ∙ octets-whole next (form g w) c.take.new.command (c.take.ensures.whole c.in-Whole.is) in
-    let is = steps g w m at ∙ ap (answered next) (outcome-whole next (form g w) c.take.new.command (c.take.ensures.whole c.in-Whole.is)) in
+    let most = bounds g w m at ∙ octets-whole next (form g w) c.take.new.command ((rw c.deref_mut.ensures.value at c.take.ensures.whole) c.in-Whole.is) in
+    let is = steps g w m at ∙ ap (answered next) (outcome-whole next (form g w) c.take.new.command ((rw c.deref_mut.ensures.value at c.take.ensures.whole) c.in-Whole.is)) in
     subst (λ (answer : Answer). Performs m answer (octets_bound m c.args.octets.now) c.carry_out.new.reply.body c.carry_out.result c.carry_out.new.self (g.B.Eeprom.chip c.args.bench.now) (g.B.Eeprom.chip c.carry_out.new.bench)) (sym is)
     (subst (λ (most : ℕ). Performs m (answered next (carried_out next c.take.new.command)) most c.carry_out.new.reply.body c.carry_out.result c.carry_out.new.self (g.B.Eeprom.chip c.args.bench.now) (g.B.Eeprom.chip c.carry_out.new.bench)) (sym most)
     (Performs-from m next _ _ c.carry_out.new.reply.body c.carry_out.result c.carry_out.new.self (g.B.Eeprom.chip c.args.bench.now) (g.B.Eeprom.chip c.carry_out.new.bench) (taken-committed m (form g w))
@@ -123,11 +123,11 @@ returns-in-Whole-clause-behind g c =
 ready-taken : (g : _) (c : After-take g) → IsReady (after_take g c) (g.B.Eeprom.chip c.args.bench.now)
 ready-taken g c =
     let chip = g.B.Eeprom.chip c.args.bench.now in
-    let same = ap length c.take.ensures.chains ∙ length-after c.self.inside.chains (form g c) in
-    let before : Kept = record { store = c.self.inside.store; index = c.self.inside.index; sessions = sessions_of c.self.inside.sessions c.self.inside.chains; transaction = c.self.inside.transaction; found = c.self.inside.found; live = c.self.inside.live } in
-    IsReady-sessions before chip (sessions_of c.self.inside.sessions c.take.new.self)
-    (λ channel. ap (option_and_then proved_stamp) (parts-unseen (λ (s : machine.Session). s.user) (λ chain next s. refl) c.self.inside.sessions c.self.inside.chains c.take.new.self channel same))
-    (λ channel. parts-unseen (λ (s : machine.Session). s.reading.cursor) (λ chain next s. refl) c.self.inside.sessions c.self.inside.chains c.take.new.self channel same)
+    let same = ap length (rw c.deref_mut.ensures.value at c.take.ensures.chains) ∙ length-after c.self.inside.chains.value (form g c) in
+    let before : Kept = record { store = c.self.inside.store; index = c.self.inside.index; sessions = sessions_of c.self.inside.sessions.value c.self.inside.chains.value; transaction = c.self.inside.transaction; found = c.self.inside.found.value; live = c.self.inside.live } in
+    IsReady-sessions before chip (sessions_of c.self.inside.sessions.value c.take.new.self)
+    (λ channel. ap (option_and_then proved_stamp) (parts-unseen (λ (s : machine.Session). s.user) (λ chain next s. refl) c.self.inside.sessions.value c.self.inside.chains.value c.take.new.self channel same))
+    (λ channel. parts-unseen (λ (s : machine.Session). s.reading.cursor) (λ chain next s. refl) c.self.inside.sessions.value c.self.inside.chains.value c.take.new.self channel same)
     (subst (λ (kept : Kept). IsReady kept chip) (sym c.self.view_is) c.requires.ready)
 
 pub carry_out-requires-clause-ready : goal.carry_out-requires-clause-ready
@@ -149,7 +149,7 @@ pub returns-in-Refused-clause-lowered : goal.returns-in-Refused-clause-lowered
 returns-in-Refused-clause-lowered g c = λ m at first second rest twice.
     let w = (goal.at.returns-in-Refused-clause-lowered g c).After-take in
     let next = taken_at m (form g w) in
-    let is : step m c.args.octets.now ≡ answered next (Err c.in-Refused.word) = steps g w m at ∙ ap (answered next) (taken-refused next (form g w) c.in-Refused.word (sym c.in-Refused.is ∙ c.take.ensures.taken)) in
+    let is : step m c.args.octets.now ≡ answered next (Err c.in-Refused.word) = steps g w m at ∙ ap (answered next) (taken-refused next (form g w) c.in-Refused.word (sym c.in-Refused.is ∙ (rw c.deref_mut.ensures.value at c.take.ensures.taken))) in
     let none : [] ≡ first ∷ second ∷ rest = sym (ap (λ (answer : Answer). answer.commits) is) ∙ twice in
     absurd cc
 
@@ -158,7 +158,7 @@ returns-in-Kept-clause-lowered g c = λ m at first second rest twice.
     let w = (goal.at.returns-in-Kept-clause-lowered g c).After-take in
     let next = taken_at m (form g w) in
     let is : step m c.args.octets.now ≡ done_with next (channel_named c.args.octets.now) [] =
-    steps g w m at ∙ ap (answered next) (taken-kept next c.args.octets.now (form g w) (named-taken c.args.octets.now c.open_channels-channels.result (chain_on c.self.inside.chains) (min c.row_limit.result 1020)) (sym c.in-Kept.is ∙ c.take.ensures.taken)) in
+    steps g w m at ∙ ap (answered next) (taken-kept next c.args.octets.now (form g w) (named-taken c.args.octets.now c.open_channels-channels.result (chain_on c.self.inside.chains.value) (min c.row_limit.result 1020)) (sym c.in-Kept.is ∙ (rw c.deref_mut.ensures.value at c.take.ensures.taken))) in
     let none : [] ≡ first ∷ second ∷ rest = sym (ap (λ (answer : Answer). answer.commits) is) ∙ twice in
     absurd cc
 
@@ -166,7 +166,7 @@ pub returns-in-Whole-clause-lowered : goal.returns-in-Whole-clause-lowered
 returns-in-Whole-clause-lowered g c = λ m at.
     let w = (goal.at.returns-in-Whole-clause-lowered g c).After-take in
     let next = taken_at m (form g w) in
-    let is = steps g w m at ∙ ap (answered next) (outcome-whole next (form g w) c.take.new.command (c.take.ensures.whole c.in-Whole.is)) in
+    let is = steps g w m at ∙ ap (answered next) (outcome-whole next (form g w) c.take.new.command ((rw c.deref_mut.ensures.value at c.take.ensures.whole) c.in-Whole.is)) in
     subst (λ (answer : Answer). OnOk c.carry_out.result (LeavesFirstOfTwo answer (g.B.Eeprom.chip c.args.bench.now) (g.B.Eeprom.chip c.carry_out.new.bench))) (sym is)
     (c.carry_out.ensures.lowered next (at-taken g w m at))
 
@@ -174,22 +174,22 @@ returns-in-Whole-clause-lowered g c = λ m at.
 forms : (g : _) (c : After-take g) (m : Machine) → IsAt c.args.self.now (g.B.Eeprom.chip c.args.bench.now) m
     → form_of operations c.args.octets.now (open_channels m) (command_chain m) m.committed.limit ≡ form g c
 forms g c m at =
-    form-card c.args.self.now (g.B.Eeprom.chip c.args.bench.now) m c.args.octets.now c.open_channels-channels.result c.self.inside.sessions c.self.inside.chains (min c.row_limit.result 1020) at
+    form-card c.args.self.now (g.B.Eeprom.chip c.args.bench.now) m c.args.octets.now c.open_channels-channels.result c.self.inside.sessions.value c.self.inside.chains.value (min c.row_limit.result 1020) at
     c.open_channels-channels.ensures (ap (λ (kept : Kept). kept.sessions) (sym c.self.view_is)) (rows c.row_limit.result _ c.row_limit.ensures.most (c.row_limit.ensures.limit ∙ ap (λ (kept : Kept). kept.store.row_limit) c.self.view_is))
 
 pub returns-in-Refused-clause-octets_read : goal.returns-in-Refused-clause-octets_read
 returns-in-Refused-clause-octets_read g c = λ m at.
     let w = (goal.at.returns-in-Refused-clause-octets_read g c).After-take in
-    reads-untaken m c.args.octets.now _ _ (form g w) (forms g w m at) (refused-untaken (form g w) c.in-Refused.word (sym c.in-Refused.is ∙ c.take.ensures.taken))
+    reads-untaken m c.args.octets.now _ _ (form g w) (forms g w m at) (refused-untaken (form g w) c.in-Refused.word (sym c.in-Refused.is ∙ (rw c.deref_mut.ensures.value at c.take.ensures.taken)))
 
 pub returns-in-Kept-clause-octets_read : goal.returns-in-Kept-clause-octets_read
 returns-in-Kept-clause-octets_read g c = λ m at.
     let w = (goal.at.returns-in-Kept-clause-octets_read g c).After-take in
-    reads-untaken m c.args.octets.now _ _ (form g w) (forms g w m at) (kept-untaken (form g w) (sym c.in-Kept.is ∙ c.take.ensures.taken))
+    reads-untaken m c.args.octets.now _ _ (form g w) (forms g w m at) (kept-untaken (form g w) (sym c.in-Kept.is ∙ (rw c.deref_mut.ensures.value at c.take.ensures.taken)))
 
 pub returns-in-Whole-clause-octets_read : goal.returns-in-Whole-clause-octets_read
 returns-in-Whole-clause-octets_read g c = λ m at.
     let w = (goal.at.returns-in-Whole-clause-octets_read g c).After-take in
-    let named = named-taken c.args.octets.now c.open_channels-channels.result (chain_on c.self.inside.chains) (min c.row_limit.result 1020) in
-    on-then c.carry_out.result (λ reads. reads-taken m c.args.octets.now _ _ (form g w) c.take.new.command (forms g w m at) (c.take.ensures.whole c.in-Whole.is) named reads)
+    let named = named-taken c.args.octets.now c.open_channels-channels.result (chain_on c.self.inside.chains.value) (min c.row_limit.result 1020) in
+    on-then c.carry_out.result (λ reads. reads-taken m c.args.octets.now _ _ (form g w) c.take.new.command (forms g w m at) ((rw c.deref_mut.ensures.value at c.take.ensures.whole) c.in-Whole.is) named reads)
     (c.carry_out.ensures.octets_read (taken_at m (form g w)) (at-taken g w m at))

@@ -1,5 +1,5 @@
 -- Once all slots were claimed, the chains in memory are those of a store.
-use Rattle.std.proofs.Common.{◌≡◌, ◌∙◌, ℕ, length, ap, sym, subst}
+use Rattle.std.proofs.Common.{◌≡◌, ◌∙◌, ℕ, length, refl, ap, sym, subst}
 use Rattle.std.specs.Vec.{vec_capacity}
 use Rattle.eeprom.specs.StoreOf.{weight_of}
 use Rattle.record_store.specs.Opening.{HeldSoFar, StandsSoFar}
@@ -14,30 +14,30 @@ pub invariant_of-result : goal.invariant_of-result
 invariant_of-result c =
     let mine = c.self.inside in
     let all : mine.claimed ≡ mine.chains.cells = subst (λ (held : HeldSoFar). held.claimed ≡ held.chains.cells) (sym c.self.view_is) c.requires.all in
-    let whole = held_of mine.chains mine.row_limit mine.committed.items mine.claimed mine.weight mine.first_octets.items in
+    let whole = held_of mine.chains mine.row_limit mine.committed.items mine.claimed mine.weight mine.first_octets.items mine.tags.committed in
     record {
-      weighed = weighed-finished whole mine.working.items c.self.invariant.2 all (ap (length {A = ℕ}) c.self.invariant.0 ∙ c.self.invariant.2.count);
-      in_use = in_use-finished whole mine.working.items c.slots_in_use-slots_in_use.result c.self.invariant.0 c.self.invariant.2.count (rw c.as_slice-firsts.ensures.value at c.slots_in_use-slots_in_use.ensures.most) (rw c.as_slice-firsts.ensures.value at c.slots_in_use-slots_in_use.ensures.empty);
-      passed = passed-finished whole mine.working.items c.take_in_all.new.runs c.self.invariant.0 (c.take_in_all.ensures.size ∙ c.self.invariant.1.searched) (rw (c.as_slice-firsts.ensures.value, c.as_slice.ensures.value) at c.take_in_all.ensures.rows);
-      transaction = touched-finished whole mine.working.items mine.touched (vec_capacity mine.entries) c.self.invariant.0 mine.row_runs c.self.invariant.1;
+      weighed = weighed-finished whole mine.working.items mine.tags c.self.invariant.3 all (ap (length {A = ℕ}) c.self.invariant.0 ∙ c.self.invariant.3.count);
+      in_use = in_use-finished whole mine.working.items mine.tags c.slots_in_use-slots_in_use.result c.self.invariant.0 c.self.invariant.3.count (rw c.as_slice-firsts.ensures.value at c.slots_in_use-slots_in_use.ensures.most) (rw c.as_slice-firsts.ensures.value at c.slots_in_use-slots_in_use.ensures.empty);
+      passed = passed-finished whole mine.working.items mine.tags c.take_in_all.new.runs c.self.invariant.0 (c.take_in_all.ensures.size ∙ c.self.invariant.2.searched) (rw (c.as_slice-firsts.ensures.value, c.as_slice.ensures.value) at c.take_in_all.ensures.rows);
+      transaction = touched-finished whole mine.working.items mine.tags mine.touched (vec_capacity mine.entries) c.self.invariant.0 c.self.invariant.1 c.self.invariant.3.tags_count mine.row_runs c.self.invariant.2;
     }
 
 pub returns-clause-stands : goal.returns-clause-stands
 returns-clause-stands c = λ image stands.
     let mine = c.self.inside in
-    stands-finished (held_of mine.chains mine.row_limit mine.committed.items mine.claimed mine.weight mine.first_octets.items) mine.working.items image c.self.invariant.2.count
+    stands-finished (held_of mine.chains mine.row_limit mine.committed.items mine.claimed mine.weight mine.first_octets.items mine.tags.committed) mine.working.items mine.tags image refl c.self.invariant.3.count
     (subst (λ (held : HeldSoFar). held.claimed ≡ held.chains.cells) (sym c.self.view_is) c.requires.all) (subst (λ (held : HeldSoFar). StandsSoFar held image) (sym c.self.view_is) stands)
 
 pub returns-clause-weight : goal.returns-clause-weight
 returns-clause-weight c = λ image slots stands there.
     let mine = c.self.inside in
     subst (λ (held : HeldSoFar). held.weight ≡ weight_of slots) c.self.view_is
-    (weight-finished (held_of mine.chains mine.row_limit mine.committed.items mine.claimed mine.weight mine.first_octets.items) image slots c.self.invariant.2 (subst (λ (held : HeldSoFar). held.claimed ≡ held.chains.cells) (sym c.self.view_is) c.requires.all)
+    (weight-finished (held_of mine.chains mine.row_limit mine.committed.items mine.claimed mine.weight mine.first_octets.items mine.tags.committed) image slots c.self.invariant.3 (subst (λ (held : HeldSoFar). held.claimed ≡ held.chains.cells) (sym c.self.view_is) c.requires.all)
     (subst (λ (held : HeldSoFar). StandsSoFar held image) (sym c.self.view_is) stands) there)
 
 pub take_in_all-requires-clause-kept : goal.take_in_all-requires-clause-kept
 take_in_all-requires-clause-kept c =
     let mine = c.self.inside in
     let all : mine.claimed ≡ mine.chains.cells = subst (λ (held : HeldSoFar). held.claimed ≡ held.chains.cells) (sym c.self.view_is) c.requires.all in
-    let whole = held_of mine.chains mine.row_limit mine.committed.items mine.claimed mine.weight mine.first_octets.items in
-    rw (c.as_slice-firsts.ensures.value, c.as_slice.ensures.value) (firsts-kept whole mine.working.items (sound-finished whole mine.working.items c.self.invariant.2 all (ap (length {A = ℕ}) c.self.invariant.0 ∙ c.self.invariant.2.count)))
+    let whole = held_of mine.chains mine.row_limit mine.committed.items mine.claimed mine.weight mine.first_octets.items mine.tags.committed in
+    rw (c.as_slice-firsts.ensures.value, c.as_slice.ensures.value) (firsts-kept whole mine.working.items mine.tags (sound-finished whole mine.working.items mine.tags c.self.invariant.3 all (ap (length {A = ℕ}) c.self.invariant.0 ∙ c.self.invariant.3.count)))

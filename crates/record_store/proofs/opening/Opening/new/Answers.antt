@@ -3,6 +3,7 @@ use Rattle.std.proofs.Common.{◌≡◌, ℕ, ◌*◌, length, replicate, ap, sy
 use Rattle.std.proofs.lemmas.List.{length-replicate}
 use Rattle.cell_store.specs.Cells.{Cells}
 use Rattle.record_store.specs.Opening.{ReadsFront}
+use Rattle.record_store.specs.Tags.{Tags}
 use Rattle.record_store.specs.Touched.{none_touched}
 use Rattle.record_store.proofs.OpeningSlots.{sound-begun, stands-begun}
 use Rattle.record_store.proofs.Replaying.{front-read, reads-front, reads-nothing}
@@ -15,10 +16,13 @@ invariant_of-result g c =
     let range = c.in_ok-header.ensures.range in
     let cells = ap (λ (store : Cells). store.cells) c.in_ok-chains.ensures in
     let filled : c.in_ok-first_octets.first_octets.items ≡ replicate (2 * header.cells) 0 = search rules in
+    let tags_are = c.in_ok-tags.ensures in
     let copied : c.in_ok-working.working.items ≡ c.in_ok-committed.committed.items = search rules in (
       copied,
+      ap (λ (tags : Tags). tags.working) tags_are ∙ sym (ap (λ (tags : Tags). tags.committed) tags_are),
       record { none = c.in_ok-touched.ensures ∙ ap none_touched (sym cells); room_is = omega (arith, cells, c.in_ok-entries.ensures.capacity); searched = c.in_ok-row_runs.ensures ∙ sym cells },
-      sound-begun header.cells header.row_limit c.in_ok-committed.committed.items _ c.in_ok-chains.chains c.in_ok-chains.ensures range.few range.many range.rows c.in_ok-committed.ensures.count (ap (length {A = ℕ}) filled ∙ length-replicate {A = ℕ} (2 * header.cells) 0),
+      sound-begun header.cells header.row_limit c.in_ok-committed.committed.items _ _ c.in_ok-chains.chains c.in_ok-chains.ensures range.few range.many range.rows c.in_ok-committed.ensures.count (ap (length {A = ℕ}) filled ∙ length-replicate {A = ℕ} (2 * header.cells) 0)
+          (record { names = ap (λ (tags : Tags). length tags.committed.names) tags_are ∙ length-replicate {A = ℕ} header.cells 0; stamps = ap (λ (tags : Tags). length tags.committed.stamps) tags_are ∙ length-replicate {A = ℕ} header.cells 0 }),
     )
 
 cells : (g : _) (c : In_ok-chains g) → c.in_ok-chains.chains.cells ≡ c.in_ok-header.header.cells
@@ -29,7 +33,7 @@ returns-clause-over g c =
     let size : (g.B.Eeprom.chip c.read_directory.new.bench).still.size ≡ (g.B.Eeprom.chip c.args.bench.now).still.size =
     ap (λ chip. chip.still.size) c.read_directory.ensures.frame.same ∙ (ap (λ still. still.size) c.close_gate.ensures.frame.store.keeps.still ∙ ap (λ chip. chip.still.size) c.read_header.ensures.frame.same) in record {
       room = omega (arith, cells g c, c.in_ok-header.ensures.range.room, size);
-      stands = rw (c.read_directory.ensures.frame.same) (stands-begun c.in_ok-header.header c.in_ok-committed.committed.items _ c.in_ok-chains.chains (g.B.Eeprom.chip c.close_gate.new.bench).image c.in_ok-chains.ensures
+      stands = rw (c.read_directory.ensures.frame.same) (stands-begun c.in_ok-header.header c.in_ok-committed.committed.items _ _ c.in_ok-chains.chains (g.B.Eeprom.chip c.close_gate.new.bench).image c.in_ok-chains.ensures
           c.in_ok-close_gate.ensures.header c.in_ok-committed.ensures.directory);
     }
 
@@ -65,6 +69,9 @@ returns-in_err-working-clause-no_memory g c = λ _. (c.in_ok-header.header.cells
 
 pub returns-in_err-first_octets-clause-no_memory : goal.returns-in_err-first_octets-clause-no_memory
 returns-in_err-first_octets-clause-no_memory g c = λ _. (c.in_ok-header.header.cells, front g (goal.at.returns-in_err-first_octets-clause-no_memory g c).After-read_directory)
+
+pub returns-in_err-tags-clause-no_memory : goal.returns-in_err-tags-clause-no_memory
+returns-in_err-tags-clause-no_memory g c = λ _. (c.in_ok-header.header.cells, front g (goal.at.returns-in_err-tags-clause-no_memory g c).After-read_directory)
 
 pub returns-in_err-touched-clause-no_memory : goal.returns-in_err-touched-clause-no_memory
 returns-in_err-touched-clause-no_memory g c = λ _. (c.in_ok-header.header.cells, front g (goal.at.returns-in_err-touched-clause-no_memory g c).After-read_directory)

@@ -5,13 +5,14 @@ use Rattle.eeprom.specs.Chip.{Keeps}
 use Rattle.eeprom.specs.StoreOf.{image_size}
 use Rattle.record_store.specs.Held.{Held}
 use Rattle.record_store.specs.Kept.{IsTouched}
+use Rattle.record_store.specs.Tags.{both_sides}
 use Rattle.record_store.specs.Transaction.{Commits}
 use Rattle.record_store.proofs.Commit.{Ready, ready-from, changed-few, commits-from, commit-done}
 use Rattle.record_store.proofs.Filling.{commit-sound, commit-view}
 use Rattle.record_store.proofs.InUse.{in_use-committed}
 use Rattle.record_store.proofs.Keeping.{behind-commit}
 use Rattle.record_store.proofs.RunsOfRows.{passed-committed}
-use Rattle.record_store.proofs.Transacting.{touched-sorted, touched-slots, working-others, committed-others, touched-room, touched-committed}
+use Rattle.record_store.proofs.Transacting.{touched-sorted, touched-slots, working-others, committed-others, tags-others-back, touched-room, touched-committed}
 use Rattle.record_store.proofs.Weighing.{weighed-committed}
 use Rattle.record_store.proofs.store.Store.commit.Goals.{After-sort, After-take_entries, After-commit}
 use Rattle.record_store.proofs.store.Store.commit.Goals as goal
@@ -34,7 +35,7 @@ commit-requires-clause-entries g c =
 
 -- the slots that were touched, in rising order
 sorted : (g : _) (c : After-sort g)
-    → IsTouched (record { chains = c.self.inside.chains; row_limit = c.self.inside.row_limit; committed = c.self.inside.committed.items; working = c.self.inside.working.items; begun = c.self.inside.begun; first_octets = c.self.inside.first_octets.items }) c.sort.new.self (vec_capacity c.self.inside.entries)
+    → IsTouched (record { chains = c.self.inside.chains; row_limit = c.self.inside.row_limit; committed = c.self.inside.committed.items; working = c.self.inside.working.items; begun = c.self.inside.begun; first_octets = c.self.inside.first_octets.items; tags = c.self.inside.tags }) c.sort.new.self (vec_capacity c.self.inside.entries)
 sorted g c = touched-sorted _ c.self.inside.touched c.sort.new.self _ c.sort.ensures.slots c.sort.ensures.size c.self.invariant.transaction
 
 moments : (g : _) (c : After-commit g) → Commits c.args.self.now (g.B.Eeprom.chip c.args.bench.now) (g.B.Eeprom.chip c.commit.new.bench)
@@ -48,16 +49,16 @@ returns-in_err-commit-clause-moments g c = moments g (goal.at.returns-in_err-com
 pub invariant_of-self-2 : goal.invariant_of-self-2
 invariant_of-self-2 g c =
     let begun = ap (λ (held : Held). held.begun) c.self.view_is ∙ c.requires.begun in
-    let whole : Held = record { chains = c.self.inside.chains; row_limit = c.self.inside.row_limit; committed = c.self.inside.committed.items; working = c.self.inside.working.items; begun = c.self.inside.begun; first_octets = c.self.inside.first_octets.items } in
+    let whole : Held = record { chains = c.self.inside.chains; row_limit = c.self.inside.row_limit; committed = c.self.inside.committed.items; working = c.self.inside.working.items; begun = c.self.inside.begun; first_octets = c.self.inside.first_octets.items; tags = c.self.inside.tags } in
     let same = c.copy_slots.ensures ∙ c.as_slice-working.ensures.value in
     record {
-      in_use = in_use-committed whole c.free_replaced.new.cells _ c.self.inside.slots_in_use c.free_replaced.ensures.cells same c.self.invariant.in_use;
-      passed = passed-committed whole c.free_replaced.new.cells _ c.self.inside.row_runs c.free_replaced.ensures.cells same c.self.invariant.passed;
-      weighed = weighed-committed whole c.free_replaced.new.cells _ c.self.inside.committed_weight c.self.inside.working_weight c.self.invariant.weighed begun c.free_replaced.ensures.links same
-          (commit-sound whole c.free_replaced.new.cells _ c.as_slice-3.result.now c.as_slice-working.result.now c.self.invariant.weighed.sound begun c.as_slice-3.ensures.value c.as_slice-working.ensures.value
+      in_use = in_use-committed whole c.free_replaced.new.cells c.commit-2.new.self _ c.self.inside.slots_in_use c.free_replaced.ensures.cells same c.self.invariant.in_use;
+      passed = passed-committed whole c.free_replaced.new.cells c.commit-2.new.self _ c.self.inside.row_runs c.free_replaced.ensures.cells same c.self.invariant.passed;
+      weighed = weighed-committed whole c.free_replaced.new.cells c.commit-2.new.self _ c.self.inside.committed_weight c.self.inside.working_weight c.self.invariant.weighed begun c.free_replaced.ensures.links same
+          (commit-sound whole c.free_replaced.new.cells c.commit-2.new.self _ c.as_slice-3.result.now c.as_slice-working.result.now c.self.invariant.weighed.sound begun c.as_slice-3.ensures.value c.as_slice-working.ensures.value
           c.free_replaced.ensures.cells c.free_replaced.ensures.links same c.free_replaced.ensures.freed c.free_replaced.ensures.others c.free_replaced.ensures.fewer c.free_replaced.ensures.count);
-      transaction = touched-committed whole c.free_replaced.new.cells _ c.sort.new.self c.clear.new.self (vec_capacity c.self.inside.entries) (vec_capacity c.take_entries.new.entries) c.free_replaced.ensures.cells same c.clear.ensures.slots c.clear.ensures.size
-          c.take_entries.ensures.room (sorted g (goal.at.invariant_of-self-2 g c).After-sort);
+      transaction = touched-committed whole c.free_replaced.new.cells c.commit-2.new.self _ c.sort.new.self c.clear.new.self (vec_capacity c.self.inside.entries) (vec_capacity c.take_entries.new.entries) c.free_replaced.ensures.cells same c.clear.ensures.slots c.clear.ensures.size
+          c.take_entries.ensures.room c.commit-2.ensures (sorted g (goal.at.invariant_of-self-2 g c).After-sort);
     }
 
 pub invariant_of-self : goal.invariant_of-self
@@ -76,7 +77,7 @@ returns-clause-done g c =
     let used : c.self.inside.chains.used ≡ c.args.self.now.chains.used = ap (λ (held : Held). held.chains.used) c.self.view_is in
     commit-done c.args.self.now _ c.take_entries.new.entries.items c.free_replaced.new.cells.used (g.B.Eeprom.chip c.args.bench.now).image (g.B.Eeprom.chip c.commit.new.bench).image
     (ready g (goal.at.returns-clause-done g c).After-take_entries) (subst (λ (used : List Bool). StaysMarked c.free_replaced.new.cells.used used) used c.free_replaced.ensures.fewer)
-    (commit-view c.args.self.now c.free_replaced.new.cells _ _ _ _ cells links (ap (λ (held : Held). held.row_limit) c.self.view_is) (c.copy_slots.ensures ∙ (c.as_slice-working.ensures.value ∙ working)) working (ap (λ (held : Held). held.first_octets) c.self.view_is))
+    (commit-view c.args.self.now c.free_replaced.new.cells _ _ _ _ _ cells links (ap (λ (held : Held). held.row_limit) c.self.view_is) (c.copy_slots.ensures ∙ (c.as_slice-working.ensures.value ∙ working)) working (ap (λ (held : Held). held.first_octets) c.self.view_is) (c.commit-2.ensures ∙ ap (λ (held : Held). both_sides held.tags.working) c.self.view_is))
     c.requires.over.stands (rw (c.as_slice-2.ensures.value, c.cells.ensures.number, ap (λ (held : Held). held.chains.cells) c.self.view_is) at c.in_ok-commit.ensures.done)
 
 pub returns-clause-moments : goal.returns-clause-moments
@@ -116,3 +117,7 @@ copy_slots-requires-clause-slots g c =
 pub copy_slots-requires-clause-others : goal.copy_slots-requires-clause-others
 copy_slots-requires-clause-others g c =
     committed-others _ c.sort.new.self _ c.slots-slots.result.now c.as_slice-working.result.now c.self.inside.committed.items (sorted g (goal.at.copy_slots-requires-clause-others g c).After-sort) c.slots-slots.ensures.slots c.as_slice-working.ensures.value refl
+
+pub commit-requires-2-clause-others : goal.commit-requires-2-clause-others
+commit-requires-2-clause-others g c =
+    tags-others-back _ c.sort.new.self _ c.slots-slots.result.now (sorted g (goal.at.commit-requires-2-clause-others g c).After-sort) c.slots-slots.ensures.slots

@@ -2,7 +2,7 @@ use Rattle.std.proofs.Common.{inl, inr, length, subst, arith}
 use Rattle.record_store.specs.Held.{Held}
 use Rattle.record_store.specs.RowRuns.{ArePassed}
 use Rattle.record_store.specs.Sound.{IsSound}
-use Rattle.record_store.proofs.InUse.{inside-or-past}
+use Rattle.record_store.proofs.Sides.{inside-or-past}
 use Rattle.record_store.proofs.RunsOfRows.{passed-rows}
 use Rattle.record_store.proofs.store.Store.end_of_rows.Goals as goal
 

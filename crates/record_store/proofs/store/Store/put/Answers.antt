@@ -12,7 +12,7 @@ use Rattle.record_store.proofs.InUse.{in_use-filled, in_use-kept}
 use Rattle.record_store.proofs.Keeping.{behind-marked}
 use Rattle.record_store.proofs.RunsOfRows.{passed-filled, passed-kept}
 use Rattle.record_store.proofs.Putting.{put-over, put-within}
-use Rattle.record_store.proofs.Transacting.{touched-set, touched-kept}
+use Rattle.record_store.proofs.Transacting.{tag-put, touched-set, touched-kept}
 use Rattle.record_store.proofs.Weighing.{weighed-filled, weighed-failed}
 use Rattle.record_store.proofs.store.Store.put.Goals.{In-Some, After-as_slice, After-weight_without-weight, After-write_chain}
 use Rattle.record_store.proofs.store.Store.put.Goals as goal
@@ -55,7 +55,7 @@ returns-then-weight-count-clause-full g c = λ _.
 
 -- the store once the slot was emptied
 abbrev mid : (g : _) (c : After-write_chain g) → Held
-mid g c = record { chains = c.self-2.inside.chains; row_limit = c.self-2.inside.row_limit; committed = c.self-2.inside.committed.items; working = c.self-2.inside.working.items; begun = c.self-2.inside.begun; first_octets = c.self-2.inside.first_octets.items }
+mid g c = record { chains = c.self-2.inside.chains; row_limit = c.self-2.inside.row_limit; committed = c.self-2.inside.committed.items; working = c.self-2.inside.working.items; begun = c.self-2.inside.begun; first_octets = c.self-2.inside.first_octets.items; tags = c.self-2.inside.tags }
 
 -- there is room in it for the record
 emptied : (g : _) (c : After-write_chain g) → Emptied c.args.self.now (mid g c) c.remove.new.self.chains.used c.in-Some.slot c.weight_without-weight.result (cells_for (length c.args.octets.now))
@@ -78,13 +78,13 @@ invariant_of-self g c =
     let at = (goal.at.invariant_of-self g c).After-write_chain in
     record {
       weighed = rw (c.cells_for-count.ensures) (weighed-filled c.args.self.now (mid g at) c.remove.new.self.chains.used c.in-Some.slot c.weight_without-weight.result (cells_for (length c.args.octets.now)) c.in-Ok.first (slice_index c.args.octets.now 0)
-          c.self-2.inside.committed_weight c.self-2.inside.working_weight c.write_chain.new.self (emptied g at) c.in-Ok.ensures.takes c.self-2.invariant.weighed);
-      in_use = in_use-filled (mid g at) c.write_chain.new.self c.in-Some.slot c.in-Ok.first (slice_index c.args.octets.now 0) c.self-2.inside.slots_in_use _ c.in-Ok.ensures.takes.cells (omega arith) (omega arith)
+          c.self-2.inside.committed_weight c.self-2.inside.working_weight c.write_chain.new.self c.put.new.self (emptied g at) c.in-Ok.ensures.takes c.self-2.invariant.weighed);
+      in_use = in_use-filled (mid g at) c.write_chain.new.self c.put.new.self c.in-Some.slot c.in-Ok.first (slice_index c.args.octets.now 0) c.self-2.inside.slots_in_use _ c.in-Ok.ensures.takes.cells (omega arith) (omega arith)
           (omega (arith, inside g (goal.at.After-write_chain g at).In-Some, ap (λ (held : Held). held.chains.cells) (emptied g at).is, c.self-2.invariant.in_use.most)) c.self-2.invariant.in_use;
-      passed = passed-filled (mid g at) c.write_chain.new.self c.in-Some.slot c.in-Ok.first _ (slice_index c.args.octets.now 0) c.self-2.inside.row_runs c.take_in.new.self c.self-2.invariant.weighed.sound (ap (λ (held : Held). held.begun) (emptied g at).is ∙ c.requires.begun) (omega (arith, c.in-Ok.ensures.there, ap (λ (held : Held). held.chains.cells) (emptied g at).is)) c.in-Ok.ensures.takes
+      passed = passed-filled (mid g at) c.write_chain.new.self c.put.new.self c.in-Some.slot c.in-Ok.first _ (slice_index c.args.octets.now 0) c.self-2.inside.row_runs c.take_in.new.self c.self-2.invariant.weighed.sound (ap (λ (held : Held). held.begun) (emptied g at).is ∙ c.requires.begun) (omega (arith, c.in-Ok.ensures.there, ap (λ (held : Held). held.chains.cells) (emptied g at).is)) c.in-Ok.ensures.takes
           c.take_in.ensures.size c.take_in.ensures.fewer c.take_in.ensures.row c.self-2.invariant.passed;
-      transaction = touched-set (mid g at) c.write_chain.new.self (set (mid g at).first_octets c.in-Ok.first (slice_index c.args.octets.now 0)) c.in-Some.slot c.in-Ok.first c.self-2.inside.touched c.touch.new.self (vec_capacity c.self-2.inside.entries)
-          (ap (λ (held : Held). held.begun) (emptied g at).is ∙ c.requires.begun) c.in-Ok.ensures.takes.cells c.touch.ensures.slots c.touch.ensures.size c.self-2.invariant.transaction;
+      transaction = touched-set (mid g at) c.write_chain.new.self (set (mid g at).first_octets c.in-Ok.first (slice_index c.args.octets.now 0)) c.put.new.self c.in-Some.slot c.in-Ok.first c.self-2.inside.touched c.touch.new.self (vec_capacity c.self-2.inside.entries)
+          (ap (λ (held : Held). held.begun) (emptied g at).is ∙ c.requires.begun) c.in-Ok.ensures.takes.cells c.touch.ensures.slots c.touch.ensures.size (tag-put c.self-2.inside.tags c.in-Some.slot c.args.octets.now c.put.new.self c.put.ensures) c.self-2.invariant.transaction;
     }
 
 pub invariant_of-self-in-Err-Fault : goal.invariant_of-self-in-Err-Fault
@@ -106,8 +106,12 @@ unreachable-requires g c =
 pub returns-in-Ok-clause-put : goal.returns-in-Ok-clause-put
 returns-in-Ok-clause-put g c =
     let at = (goal.at.returns-in-Ok-clause-put g c).After-write_chain in
-    filled-becomes c.args.self.now (mid g at) c.remove.new.self.chains.used c.in-Some.slot c.weight_without-weight.result (cells_for (length c.args.octets.now)) c.in-Ok.first (slice_index c.args.octets.now 0) c.write_chain.new.self c.args.octets.now
-    (g.B.Eeprom.chip c.args.bench.now).image (g.B.Eeprom.chip c.write_chain.new.bench).image (omega (arith, c.in-Ok.ensures.there, ap (λ (held : Held). held.chains.cells) (emptied g at).is)) refl (emptied g at) c.requires.over.stands c.in-Ok.ensures.takes c.in-Ok.ensures.written
+    filled-becomes c.args.self.now (mid g at) c.remove.new.self.chains.used c.in-Some.slot c.weight_without-weight.result (cells_for (length c.args.octets.now)) c.in-Ok.first (slice_index c.args.octets.now 0) c.write_chain.new.self c.put.new.self c.args.octets.now
+    (g.B.Eeprom.chip c.args.bench.now).image (g.B.Eeprom.chip c.write_chain.new.bench).image (omega (arith, c.in-Ok.ensures.there, ap (λ (held : Held). held.chains.cells) (emptied g at).is)) refl (record {
+      names = omega (arith, inside g (goal.at.After-write_chain g at).In-Some, ap (λ (held : Held). held.chains.cells) (emptied g at).is, c.self-2.invariant.transaction.tags.working_count.names);
+      stamps = omega (arith, inside g (goal.at.After-write_chain g at).In-Some, ap (λ (held : Held). held.chains.cells) (emptied g at).is, c.self-2.invariant.transaction.tags.working_count.stamps);
+      is = c.put.ensures;
+    }) (emptied g at) c.requires.over.stands c.in-Ok.ensures.takes c.in-Ok.ensures.written
 
 -- at each moment, also where the write failed
 moments : (g : _) (c : After-write_chain g) → Keeps store_of (g.B.Eeprom.chip c.args.bench.now) (g.B.Eeprom.chip c.write_chain.new.bench)
@@ -136,12 +140,12 @@ returns-in-Ok-clause-within g c =
 pub returns-in-Ok-clause-entries : goal.returns-in-Ok-clause-entries
 returns-in-Ok-clause-entries g c =
     let at = (goal.at.returns-in-Ok-clause-entries g c).After-write_chain in
-    entries-filled c.args.self.now (mid g at) c.write_chain.new.self (set (mid g at).first_octets c.in-Ok.first (slice_index c.args.octets.now 0)) c.in-Some.slot c.in-Ok.first c.remove.new.self.chains.used c.requires.begun (emptied g at).is
+    entries-filled c.args.self.now (mid g at) c.write_chain.new.self (set (mid g at).first_octets c.in-Ok.first (slice_index c.args.octets.now 0)) c.put.new.self c.in-Some.slot c.in-Ok.first c.remove.new.self.chains.used c.requires.begun (emptied g at).is
 
 pub returns-in-Ok-clause-only : goal.returns-in-Ok-clause-only
 returns-in-Ok-clause-only g c =
     let at = (goal.at.returns-in-Ok-clause-only g c).After-write_chain in
-    only-filled c.args.self.now (mid g at) c.write_chain.new.self (set (mid g at).first_octets c.in-Ok.first (slice_index c.args.octets.now 0)) c.in-Some.slot c.in-Ok.first c.remove.new.self.chains.used c.requires.begun (emptied g at).is
+    only-filled c.args.self.now (mid g at) c.write_chain.new.self (set (mid g at).first_octets c.in-Ok.first (slice_index c.args.octets.now 0)) c.put.new.self c.in-Some.slot c.in-Ok.first c.remove.new.self.chains.used c.requires.begun (emptied g at).is
 
 behind : (g : _) (c : After-write_chain g) → Keeps (drop (image_size c.args.self.now.chains.cells)) (g.B.Eeprom.chip c.args.bench.now) (g.B.Eeprom.chip c.write_chain.new.bench)
 behind g c =

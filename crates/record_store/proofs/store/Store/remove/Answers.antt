@@ -11,14 +11,14 @@ use Rattle.record_store.proofs.Emptying.{removed-stands}
 use Rattle.record_store.proofs.Filling.{freed-sound, kept-sound}
 use Rattle.record_store.proofs.InUse.{in_use-emptied}
 use Rattle.record_store.proofs.RunsOfRows.{passed-emptied}
-use Rattle.record_store.proofs.Transacting.{touched-set}
+use Rattle.record_store.proofs.Transacting.{tag-stays, touched-set}
 use Rattle.record_store.proofs.Weighing.{weighed-emptied}
 use Rattle.record_store.proofs.store.Store.remove.Goals.{then-first-index, else-first-index}
 use Rattle.record_store.proofs.store.Store.remove.Goals as goal
 
 -- what holds of a store whose slot is empty
 abbrev emptied_is_kept : ℕ → ℕ → Inside → Type 0
-emptied_is_kept slot weight inside = IsInMemory (record { chains = inside.chains; row_limit = inside.row_limit; committed = inside.committed.items; working = set inside.working.items slot 65535; begun = inside.begun; first_octets = inside.first_octets.items }) inside.committed_weight weight inside.slots_in_use inside.touched (vec_capacity inside.entries) inside.row_runs
+emptied_is_kept slot weight inside = IsInMemory (record { chains = inside.chains; row_limit = inside.row_limit; committed = inside.committed.items; working = set inside.working.items slot 65535; begun = inside.begun; first_octets = inside.first_octets.items; tags = inside.tags }) inside.committed_weight weight inside.slots_in_use inside.touched (vec_capacity inside.entries) inside.row_runs
 
 pub invariant_of-self : goal.invariant_of-self
 invariant_of-self c =
@@ -38,7 +38,7 @@ invariant_of-self c =
                 w.free_chain.ensures.count) begun inside w.free_chain.ensures.links weight;
             in_use = in_use-emptied _ w.free_chain.new.self c.args.slot c.self.inside.slots_in_use w.free_chain.ensures.cells c.self.invariant.in_use;
             passed = passed-emptied _ w.free_chain.new.self c.args.slot c.self.inside.row_runs w.free_chain.ensures.cells c.self.invariant.passed;
-            transaction = touched-set _ w.free_chain.new.self c.self.inside.first_octets.items c.args.slot 65535 c.self.inside.touched c.touch.new.self (vec_capacity c.self.inside.entries) begun w.free_chain.ensures.cells c.touch.ensures.slots c.touch.ensures.size c.self.invariant.transaction;
+            transaction = touched-set _ w.free_chain.new.self c.self.inside.first_octets.items c.self.inside.tags c.args.slot 65535 c.self.inside.touched c.touch.new.self (vec_capacity c.self.inside.entries) begun w.free_chain.ensures.cells c.touch.ensures.slots c.touch.ensures.size (tag-stays c.self.inside.tags c.args.slot) c.self.invariant.transaction;
           })
       | else-first-index w ↦ subst (emptied_is_kept c.args.slot c.weight_without-weight.result) (sym w.self-inside-is)
           (record {
@@ -46,7 +46,7 @@ invariant_of-self c =
                 (kept-sound _ c.args.slot c.self.invariant.weighed.sound begun inside (sym first ∙ (w.if-first-index.false ∙ old))) begun inside refl weight;
             in_use = in_use-emptied _ c.self.inside.chains c.args.slot c.self.inside.slots_in_use refl c.self.invariant.in_use;
             passed = passed-emptied _ c.self.inside.chains c.args.slot c.self.inside.row_runs refl c.self.invariant.passed;
-            transaction = touched-set _ c.self.inside.chains c.self.inside.first_octets.items c.args.slot 65535 c.self.inside.touched c.touch.new.self (vec_capacity c.self.inside.entries) begun refl c.touch.ensures.slots c.touch.ensures.size c.self.invariant.transaction;
+            transaction = touched-set _ c.self.inside.chains c.self.inside.first_octets.items c.self.inside.tags c.args.slot 65535 c.self.inside.touched c.touch.new.self (vec_capacity c.self.inside.entries) begun refl c.touch.ensures.slots c.touch.ensures.size (tag-stays c.self.inside.tags c.args.slot) c.self.invariant.transaction;
           })
     ]
 

@@ -10,7 +10,7 @@ use Rattle.record_store.proofs.store.Store.weight_without.Goals.{After-length_of
 use Rattle.record_store.proofs.store.Store.weight_without.Goals as goal
 
 abbrev mine : After-length_of_chain → Held
-mine c = record { chains = c.self.inside.chains; row_limit = c.self.inside.row_limit; committed = c.self.inside.committed.items; working = c.self.inside.working.items; begun = c.self.inside.begun; first_octets = c.self.inside.first_octets.items }
+mine c = record { chains = c.self.inside.chains; row_limit = c.self.inside.row_limit; committed = c.self.inside.committed.items; working = c.self.inside.working.items; begun = c.self.inside.begun; first_octets = c.self.inside.first_octets.items; tags = c.self.inside.tags }
 
 -- the weight is that of the chain of the slot, and of the others
 parts : (c : After-length_of_chain) → c.self.inside.working_weight ≡ steps_without c.self.inside.chains.links c.self.inside.working.items c.args.slot + c.length_of_chain.result

@@ -13,6 +13,13 @@ put-requires-clause-new_stamp c =
     let may = rw (← c.self.view_is) at (sym c.may_add.ensures ∙ c.if-may_add.true) in
     (IsAddable-may_add index place may).new_stamp
 
+pub put-requires-clause-new_slot : goal.put-requires-clause-new_slot
+put-requires-clause-new_slot c =
+    let place : RowPlace = record { stamp = c.args.stamp; table = c.args.table; slot = c.args.slot } in
+    let index : Index = record { cells = c.self.inside.committed.cells; begun = c.self.inside.begun; committed = c.self.inside.committed.places; working = c.self.inside.working.places } in
+    let may = rw (← c.self.view_is) at (sym c.may_add.ensures ∙ c.if-may_add.true) in
+    (IsAddable-may_add index place may).new_slot
+
 pub invariant_of-self : goal.invariant_of-self
 invariant_of-self c =
     let place : RowPlace = record { stamp = c.args.stamp; table = c.args.table; slot = c.args.slot } in
