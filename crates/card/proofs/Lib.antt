@@ -1,10 +1,12 @@
 mod Asked
+mod CatalogKept
 mod ChangedStore
 mod ChangingOperations
 mod Counted
 mod CountedKinds
 mod DeletedSessions
 mod Founding
+mod FoundAgain
 mod FreeCommands
 mod GatheredSlots
 mod Grouped

@@ -61,10 +61,14 @@ pub record IsStillFound (card : Kept) (chip : Chip) (last : ChannelActor) : Type
   pub actor : (db : Database) → IsHeld card.store (side_of card.transaction last.channel) chip db → last.actor ≡ acting db (proved_user (session_on card.sessions last.channel))
   pub scan : (db : Database) → IsHeld card.store (side_of card.transaction last.channel) chip db → IsRightFor db last.actor card.found.scan (cursor_on card.sessions last.channel)
 
--- The card may be asked: it stands over the EEPROM, and what it keeps of the reading command that came last, if anything, is what it would find again.
+-- what it keeps of the reading command that came last, if anything, is what it would find again
+abbrev pub FindsAgain : Kept → Chip → Type 0
+FindsAgain card chip = IfSome card.found.last (IsStillFound card chip)
+
+-- The card may be asked: it stands over the EEPROM, and what it keeps it would find again.
 pub record IsReady (card : Kept) (chip : Chip) : Type 0 where
   pub stands : StandsOver card chip
-  pub found : IfSome card.found.last (IsStillFound card chip)
+  pub found : FindsAgain card chip
 
 -- The working records are those of a transaction's database, and those that it touched stand in all slots that it changed.
 pub record WorksOn (store : Held) (chip : Chip) (committed : Slots) (t : Transaction) : Type 0 where

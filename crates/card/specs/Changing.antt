@@ -3,6 +3,7 @@ use Rattle.std.specs.Prelude.{◌≡◌, ◌⊎◌, ℕ, Bool, true, false, List
 use Rattle.eeprom.specs.Chip.{Chip, Becomes, RisesAtMost}
 use Rattle.eeprom.specs.declared.EepromFault.{EepromFault}
 use Rattle.record_store.specs.Held.{Held}
+use Rattle.record_store.specs.declared.side.Side.{Side}
 use Rattle.scql_base.specs.declared.operation.Operation.{Operation}
 use Rattle.scql_base.specs.declared.operation.OperationKind.{OperationKind}
 use Rattle.scql_base.specs.declared.operation.OperationKind.TheVariants.{CreateTable, CreateView, CreateDictionary, DropTable, DropView, Grant, Revoke, Insert, Update, Delete, CreateUser, DeleteUser}
@@ -13,7 +14,7 @@ use Rattle.scql_model.specs.Database.{Database}
 use Rattle.scql_model.specs.Edits.{Edit, octets_for, with_edits}
 use Rattle.scql_model.specs.Operations.{kind_of}
 use Rattle.scql_model.specs.Refusals.{◌>>=◌}
-use Rattle.record_table.specs.Making.{Makes}
+use Rattle.record_table.specs.Making.{IsHeld, Makes}
 use Rattle.record_table.specs.AtRest.{IsAtRest, LeavesOneOf}
 
 -- the operations that change the database; DELETE USER changes sessions besides
@@ -38,7 +39,14 @@ goes_through_cursor Update = true
 goes_through_cursor Delete = true
 goes_through_cursor kind = false
 
--- one of them
+-- those of them that change rows, and leave users, objects and grants as they are
+abbrev pub changes_rows : OperationKind → Bool
+changes_rows Insert = true
+changes_rows Update = true
+changes_rows Delete = true
+changes_rows kind = false
+
+-- one of the operations that change the database
 abbrev pub IsChange : Operation → Type 0
 IsChange operation = is_changing (kind_of operation) ≡ true
 
@@ -67,6 +75,16 @@ pub record Changes (db : Database) (edited : Result (List Edit) StatusWord) (res
   pub moments : LeavesOneOf (db ∷ commits_of (new_of db edited)) old new
   pub unwritten : OnOk result (commits_of (new_of db edited) ≡ [] → new ≡ old)
   pub octets : OnOk result (Becomes (RisesAtMost (octets_of db edited)) old.written new.written)
+
+-- Two databases have the same catalog: the same users, objects and grants.
+pub record HaveSameCatalog (db next : Database) : Type 0 where
+  pub users : next.users ≡ db.users
+  pub objects : next.objects ≡ db.objects
+  pub grants : next.grants ≡ db.grants
+
+-- Whatever database a side of a store holds afterwards, it held one with the same catalog before.
+abbrev pub KeepsCatalog : Side → Held → Held → Chip → Chip → Type 0
+KeepsCatalog side old new before after = (next : Database) → IsHeld new side after next → (db : Database) × IsHeld old side before db × HaveSameCatalog db next
 
 -- The working database is another one with these edits, and the answer is done; or it is the refusal's word, and nothing was done.
 abbrev pub ConcludesWithin : Database → Result (List Edit) StatusWord → StatusWord → Held → Held → Chip → Chip → Type 0

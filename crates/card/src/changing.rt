@@ -21,16 +21,29 @@ ghost use Rattle.row_index.specs.Index.{Indexes, is_above};
 ghost use Rattle.record_table.specs.AtRest.{IsAtRest};
 ghost use Rattle.card.specs.Card.{HoldsSome};
 ghost use Rattle.card.specs.Acting.{acting};
-ghost use Rattle.card.specs.Changing.{IsChange, Changes, ConcludesWithin, goes_through_cursor};
+ghost use Rattle.db_read.specs.Scan.{IsRightFor};
+ghost use Rattle.card.specs.Changing as specs;
+ghost use Rattle.card.specs.Changing.{IsChange, Changes, ConcludesWithin, KeepsCatalog, goes_through_cursor};
 
 use db_access::{create_user, delete_user, grant, revoke};
 use db_define::{create_dictionary, create_table, create_view, drop_table, drop_view};
+use db_read::Scan;
 use db_write::{delete, insert, update};
 use eeprom::{Eeprom, EepromFault};
 use record_store::{Side, Store};
 use record_table::{Stop, find_stamp};
 use row_index::RowIndex;
 use scql_base::{Actor, Cursor, Operation, StatusWord, User};
+
+/// Whether an operation changes rows, and leaves users, objects and grants as they are.
+pub(crate) fn changes_rows(operation: &Operation) -> bool
+    ensures { result ≡ specs.changes_rows (kind_of operation.now) }
+{
+    matches!(
+        operation,
+        Operation::Insert { .. } | Operation::Update { .. } | Operation::Delete
+    )
+}
 
 /// Changes the database by an operation, for the user of this stamp or for the public, through a cursor where it is UPDATE or DELETE,
 /// and commits it. Where the operation is refused nothing is written, and the word of the refusal is answered.
@@ -41,17 +54,20 @@ pub(crate) fn change<B: Eeprom>(
     user: Option<u32>,
     cursor: &Option<Cursor>,
     operation: &Operation,
+    scan: &Scan,
 ) -> Result<StatusWord, EepromFault>
     requires idle { store.old.begun ≡ false }
     requires over { IsOver store.old (B.chip bench.old) }
     requires holds { HoldsSome store.old Committed (B.chip bench.old) }
     requires index_idle { index.old.begun ≡ false }
     requires index { Indexes index.old store.old (B.chip bench.old) }
+    requires right { (db : Database) → IsHeld store.old Committed (B.chip bench.old) db → IsRightFor db (acting db user) scan.now cursor.now }
     requires changes { IsChange operation.now }
     requires formed { HasForm operation.now }
     requires fits { FitsCard store.old.row_limit operation.now }
     ensures changes { (db : Database) → IsAtRest store.old (B.chip bench.old) db → IfSome cursor.now (IsCursorOf db)
         → Changes db (edits_of db (acting db user) cursor.now operation.now) result store.new (B.chip bench.old) (B.chip bench.new) }
+    ensures catalog { specs.changes_rows (kind_of operation.now) ≡ true → OnOk result (KeepsCatalog Committed store.old store.new (B.chip bench.old) (B.chip bench.new)) }
     ensures over { OnOk result (IsOver store.new (B.chip bench.new)) }
     ensures idle { OnOk result (store.new.begun ≡ false) }
     ensures holds { OnOk result (HoldsSome store.new Committed (B.chip bench.new)) }
@@ -64,7 +80,7 @@ pub(crate) fn change<B: Eeprom>(
     let actor = actor_of(store, bench, Side::Committed, user)?;
     store.begin();
     index.begin();
-    match make(store, bench, index, actor, cursor, operation) {
+    match make(store, bench, index, actor, cursor, operation, scan) {
         Ok(()) => {
             store.commit(bench)?;
             index.commit();
@@ -87,6 +103,7 @@ pub(crate) fn change_within<B: Eeprom>(
     user: Option<u32>,
     cursor: &Option<Cursor>,
     operation: &Operation,
+    scan: &Scan,
 ) -> Result<StatusWord, EepromFault>
     requires begun { IsTrue store.old.begun }
     requires over { IsOver store.old (B.chip bench.old) }
@@ -94,11 +111,13 @@ pub(crate) fn change_within<B: Eeprom>(
     requires index_begun { IsTrue index.old.begun }
     requires index { Indexes index.old store.old (B.chip bench.old) }
     requires last { (db : Database) → IsHeld store.old Working (B.chip bench.old) db → is_above db.next index.old.committed ≡ true }
+    requires right { (db : Database) → IsHeld store.old Working (B.chip bench.old) db → IsRightFor db (acting db user) scan.now cursor.now }
     requires changes { IsChange operation.now }
     requires formed { HasForm operation.now }
     requires fits { FitsCard store.old.row_limit operation.now }
     ensures changes { (db : Database) → IsHeld store.old Working (B.chip bench.old) db → IfSome cursor.now (IsCursorOf db)
         → IfOk result (λ word. ConcludesWithin db (edits_of db (acting db user) cursor.now operation.now) word store.old store.new (B.chip bench.old) (B.chip bench.new)) }
+    ensures catalog { specs.changes_rows (kind_of operation.now) ≡ true → OnOk result (KeepsCatalog Working store.old store.new (B.chip bench.old) (B.chip bench.new)) }
     ensures works { OnOk result (HoldsSome store.new Working (B.chip bench.new)) }
     // Whatever the cursor is, no stamp that was given out is left again.
     ensures stamps { (db next : Database) → IsHeld store.old Working (B.chip bench.old) db → OnOk result (IsHeld store.new Working (B.chip bench.new) next → db.next ≤ next.next) }
@@ -111,7 +130,7 @@ pub(crate) fn change_within<B: Eeprom>(
     ensures cause { Counts (B.faults bench.old) (B.faults bench.new) result }
 {
     let actor = actor_of(store, bench, Side::Working, user)?;
-    match make(store, bench, index, actor, cursor, operation) {
+    match make(store, bench, index, actor, cursor, operation, scan) {
         Ok(()) => Ok(StatusWord::DONE),
         Err(Stop::Refused { word }) => Ok(word),
         Err(Stop::Fault) => Err(EepromFault),
@@ -126,12 +145,14 @@ fn make<B: Eeprom>(
     actor: Actor,
     cursor: &Option<Cursor>,
     operation: &Operation,
+    scan: &Scan,
 ) -> Result<(), Stop>
     requires begun { IsTrue store.old.begun }
     requires over { IsOver store.old (B.chip bench.old) }
     requires index_begun { IsTrue index.old.begun }
     requires index { Indexes index.old store.old (B.chip bench.old) }
     requires last { (db : Database) → IsHeld store.old Working (B.chip bench.old) db → is_above db.next index.old.committed ≡ true }
+    requires right { (db : Database) → IsHeld store.old Working (B.chip bench.old) db → IsRightFor db actor scan.now cursor.now }
     requires changes { IsChange operation.now }
     requires fits { FitsCard store.old.row_limit operation.now }
     ensures ends { (db : Database) → IsHeld store.old Working (B.chip bench.old) db → IfSome cursor.now (IsCursorOf db) → IsActorOf db actor → HasForm operation.now → FitsCard db.limit operation.now
@@ -150,8 +171,10 @@ fn make<B: Eeprom>(
     ensures cause { CountsFaults is_stop_fault (B.faults bench.old) (B.faults bench.new) result }
 {
     match operation {
-        Operation::Update { changes } => update(store, bench, actor, cursor, changes, index),
-        Operation::Delete => delete(store, bench, actor, cursor, index),
+        Operation::Update { changes } => {
+            update(store, bench, actor, cursor, changes, index, scan)
+        }
+        Operation::Delete => delete(store, bench, actor, cursor, index, scan),
         operation => make_without_cursor(store, bench, index, actor, operation),
     }
 }

@@ -8,9 +8,10 @@ ghost use Rattle.scql_model.specs.Replies as model;
 ghost use Rattle.scql_model.specs.Machine as machine;
 ghost use Rattle.scql_model.specs.Step as stepping;
 ghost use Rattle.scql_model.specs.Database.{Database};
-ghost use Rattle.card.specs.Card.{Kept, IsReady, IsAt, StandsOver};
+ghost use Rattle.card.specs.Card.{Kept, FindsAgain, IsReady, IsAt, StandsOver};
 ghost use Rattle.card.specs.Answering.{HoldsAnswer, LeavesFirstOfTwo, Performs, changing_session, settled, with_session, with_session_for};
 ghost use Rattle.card.specs.Changing.{IsChange};
+ghost use Rattle.card.specs.Changing as changing;
 ghost use Rattle.card.specs.Counting.{counts_of};
 ghost use Rattle.card.specs.ReadCosts.{ReadsAsked, ReadsFor};
 ghost use Rattle.card.specs.Reading as reading;
@@ -35,7 +36,7 @@ mod deleting;
 mod transacting;
 mod verifying;
 
-use crate::changing::{actor_of, change, change_within};
+use crate::changing::{actor_of, change, change_within, changes_rows};
 use crate::counting::count_records;
 use crate::engine::channels::channel_meant;
 use crate::found::{ChannelActor, Found};
@@ -204,8 +205,10 @@ impl Engine {
             return self.read(bench, command, reply);
         }
         let word = self.carry_out_otherwise(bench, command, reply)?;
-        // Who acts, what is granted and the tables may be others now.
-        self.found.forget();
+        if !changes_rows(&command.operation) {
+            // Who acts, what is granted and the tables may be others now.
+            self.found.forget();
+        }
         Ok(word)
     }
 
@@ -217,6 +220,7 @@ impl Engine {
         reply: &mut Reply,
     ) -> Result<StatusWord, EepromFault>
         requires ready { StandsOver self.old (B.chip bench.old) }
+        requires found { FindsAgain self.old (B.chip bench.old) }
         requires empty { reply.old.body ≡ [] }
         requires formed { IsWellFormed command.now }
         requires fits { FitsCard self.old.store.row_limit command.now.operation }
@@ -228,6 +232,8 @@ impl Engine {
         ensures lowered { (m : machine.Machine) → IsAt self.old (B.chip bench.old) m
             → OnOk result (LeavesFirstOfTwo (stepping.answered m (stepping.carried_out m command.now)) (B.chip bench.old) (B.chip bench.new)) }
         ensures ready { OnOk result (StandsOver self.new (B.chip bench.new)) }
+        // Rows are no part of what was found.
+        ensures found { changing.changes_rows (kind_of command.now.operation) ≡ true → OnOk result (FindsAgain self.new (B.chip bench.new)) }
         ensures cause { Counts (B.faults bench.old) (B.faults bench.new) result }
         ensures cells { OnOk result (self.new.store.chains.cells ≡ self.old.store.chains.cells) }
         ensures behind { Keeps (drop (image_size self.old.store.chains.cells)) (B.chip bench.old) (B.chip bench.new) }
@@ -367,34 +373,53 @@ impl Engine {
         requires ready { StandsOver self.old (B.chip bench.old) }
         requires channel { channel < 4 }
         requires there { is_open self.old.sessions channel ≡ true }
+        requires found { FindsAgain self.old (B.chip bench.old) }
+        requires mine { keeps_waiting for_others self.old.transaction channel ≡ false }
         requires changes { IsChange operation.now }
         requires formed { HasForm operation.now }
         requires fits { FitsCard self.old.store.row_limit operation.now }
-        ensures performs { (m : machine.Machine) → IsAt self.old (B.chip bench.old) m → keeps_waiting for_others self.old.transaction channel ≡ false
+        ensures performs { (m : machine.Machine) → IsAt self.old (B.chip bench.old) m
             → Performs m (stepping.answered m (stepping.changed m channel operation.now)) (or_nothing (octets_changed m channel operation.now)) [] result self.new (B.chip bench.old) (B.chip bench.new) }
         ensures ready { OnOk result (StandsOver self.new (B.chip bench.new)) }
+        // Rows are no part of what was found.
+        ensures found { changing.changes_rows (kind_of operation.now) ≡ true → OnOk result (FindsAgain self.new (B.chip bench.new)) }
         ensures cause { Counts (B.faults bench.old) (B.faults bench.new) result }
         ensures cells { OnOk result (self.new.store.chains.cells ≡ self.old.store.chains.cells) }
         ensures behind { Keeps (drop (image_size self.old.store.chains.cells)) (B.chip bench.old) (B.chip bench.new) }
     {
+        self.let_go_of_others(channel);
         let user = self.proved_user(channel);
         let Engine {
             store,
             index,
             sessions,
             transaction,
+            found,
             ..
         } = self;
         let sessions = &**sessions;
+        let scan = &found.scan;
         let Some(session) = &sessions[usize::from(channel)] else {
             unreachable!();
         };
         let word = match transaction {
-            None => change(store, bench, index, user, &session.cursor, operation)?,
-            Some(_) => change_within(store, bench, index, user, &session.cursor, operation)?,
+            None => change(store, bench, index, user, &session.cursor, operation, scan)?,
+            Some(_) => change_within(store, bench, index, user, &session.cursor, operation, scan)?,
         };
         self.settle(channel, word);
         Ok(word)
+    }
+
+    // What was found for another channel is let go.
+    fn let_go_of_others(&mut self, channel: u8)
+        ensures kept { self.new ≡ record self.old { found = self.new.found } }
+        ensures found { (chip : Chip) → FindsAgain self.old chip → FindsAgain self.new chip }
+        ensures right { (chip : Chip) (db : Database) → FindsAgain self.old chip → IsHeld self.old.store (side_of self.old.transaction channel) chip db
+            → IsRightFor db (acting db (proved_user (session_on self.old.sessions channel))) self.new.found.scan (cursor_on self.old.sessions channel) }
+    {
+        if self.found.actor_on(channel).is_none() {
+            self.found.forget();
+        }
     }
 
     // The stamp of a channel's user, where that one is proved.

@@ -169,37 +169,37 @@ pub Chooses-over : (store : Held) (side : Side) (chip : Chip) (db : Database) (a
     → Chooses db actor c (Tells (OfTable chosen) store side chip) (costs_of (OfTable chosen) (slots_of store side chip))
 Chooses-over store side chip db actor c p held cursor over chosen table places conditions filters =
     let all = over.seen.all in
-    Chooses-chosen store side chip db actor c over.object held cursor over.selects over.seen over.resolved chosen (table ∙ over.table)
+    Chooses-chosen store side chip db actor c p.object held cursor over.selects over.seen over.resolved chosen (table ∙ over.table)
     (subst (λ (x : List (List Placed)). AreBound x all over.seen.filters) (sym filters) over.filters) (subst (λ (x : List ℕ). ArePlaces x all c.columns) (sym places) over.places)
     (subst (λ (x : List Placed). Binds x all c.conditions) (sym conditions) over.conditions) over.few
 
 module _ (store : Held) (side : Side) (chip : Chip) (db : Database) (actor : Actor) (c : Cursor) (o : Object) (held : IsHeld store side chip db) (selects : selectable db actor (seen_stamped db actor c.object) ≡ Ok o) (p : TableRows) where
   -- what is found of a table
-  pub over-table : (columns : Columns) → o.kind ≡ Table columns → p.table ≡ o.stamp → p.filters ≡ [] → ArePlaces p.places columns c.columns → Binds p.conditions columns c.conditions → length c.columns ≤ 15 → GoesOver db actor c p
+  pub over-table : (columns : Columns) → o.kind ≡ Table columns → p.object ≡ o → p.table ≡ o.stamp → p.all ≡ columns → p.filters ≡ [] → ArePlaces p.places p.all c.columns → Binds p.conditions p.all c.conditions → length c.columns ≤ 15 → GoesOver db actor c p
   unfolding model.resolved_of
-  over-table columns kind table none places binds few = record {
-    object = o;
+  over-table columns kind object table all none places binds few = record {
     seen = record { table = o.stamp; all = columns; columns = columns; filters = [] };
-    selects = selects;
-    resolved = rw (stamp-found store side chip db actor c o held selects, kind) refl;
+    selects = selects ∙ ap Ok (sym object);
+    resolved = rw (object, stamp-found store side chip db actor c o held selects, kind) refl;
     table = table;
-    places = places;
-    conditions = binds;
+    all = all;
+    places = subst (λ (all : Columns). ArePlaces p.places all c.columns) all places;
+    conditions = subst (λ (all : Columns). Binds p.conditions all c.conditions) all binds;
     filters = subst (λ (filters : List (List Placed)). AreBound filters columns []) (sym none) tt;
     few = few;
   }
 
   -- what is found of the table under a view
-  pub over-view : (answer : Resolved) (resolves : Resolves db.objects o.stamp answer) → p.table ≡ answer.table → p.filters ≡ answer.filters.items → ArePlaces p.places answer.all c.columns → Binds p.conditions answer.all c.conditions → length c.columns ≤ 15
+  pub over-view : (answer : Resolved) (resolves : Resolves db.objects o.stamp answer) → p.object ≡ o → p.table ≡ answer.table → p.all ≡ answer.all → p.filters ≡ answer.filters.items → ArePlaces p.places p.all c.columns → Binds p.conditions p.all c.conditions → length c.columns ≤ 15
       → GoesOver db actor c p
-  over-view answer resolves table filters places binds few = record {
-    object = o;
+  over-view answer resolves object table all filters places binds few = record {
     seen = resolves.is;
-    selects = selects;
-    resolved = resolves.resolved;
+    selects = selects ∙ ap Ok (sym object);
+    resolved = rw object resolves.resolved;
     table = table ∙ resolves.stands.table;
-    places = subst (λ (all : Columns). ArePlaces p.places all c.columns) resolves.stands.all places;
-    conditions = subst (λ (all : Columns). Binds p.conditions all c.conditions) resolves.stands.all binds;
+    all = all ∙ resolves.stands.all;
+    places = subst (λ (all : Columns). ArePlaces p.places all c.columns) (all ∙ resolves.stands.all) places;
+    conditions = subst (λ (all : Columns). Binds p.conditions all c.conditions) (all ∙ resolves.stands.all) binds;
     filters = subst (λ (x : List (List Placed)). AreBound x resolves.is.all resolves.is.filters) (sym filters) resolves.stands.filters;
     few = few;
   }

@@ -15,7 +15,7 @@ ghost use Rattle.db_read.specs.Scan.{IsRight};
 ghost use Rattle.db_read.specs.Motion.{Stays, answer_of, asks_opened, command_of, least_by};
 
 use crate::finding::{find_selected, stopped};
-use crate::going::{go_on, go_over};
+use crate::going::{go_on, go_over, is_table_or_view};
 use crate::motion::Motion;
 use crate::scan::Scan;
 use eeprom::{Eeprom, EepromFault};
@@ -53,7 +53,7 @@ pub(crate) fn advance<B: Eeprom>(
         → IfOk result (λ word. Becomes (RisesAtLeast (least_by motion word out.new)) (B.octets_read bench.old) (B.octets_read bench.new)) }
     ensures frame { Reads each_error B.chip B.faults bench.old bench.new result }
 {
-    if scan.is_found {
+    if scan.has_found() {
         let Scan {
             selection,
             room,
@@ -98,13 +98,22 @@ fn find_and_go<B: Eeprom>(
         → IfOk result (λ word. Becomes (RisesAtLeast (least_by motion word out.new)) (B.octets_read bench.old) (B.octets_read bench.new)) }
     ensures frame { Reads each_error B.chip B.faults bench.old bench.new result }
 {
-    let mut at = None;
-    let object = match find_selected(store, bench, side, actor, cursor.object, &mut at) {
-        Ok(object) => object,
+    let Scan {
+        is_found,
+        object,
+        selection,
+        room,
+    } = scan;
+    *is_found = false;
+    match find_selected(store, bench, side, actor, cursor.object, object) {
+        Ok(()) => {}
         Err(stop) => return stopped(stop),
+    }
+    let Some(object) = &*object else {
+        unreachable!();
     };
     let mut reached = cursor.place;
-    match go_on(
+    let word = match go_on(
         store,
         bench,
         side,
@@ -114,12 +123,13 @@ fn find_and_go<B: Eeprom>(
         &mut reached,
         out,
         index,
-        scan,
+        selection,
+        room,
     ) {
-        Ok(word) => {
-            *place = reached;
-            Ok(word)
-        }
-        Err(stop) => stopped(stop),
-    }
+        Ok(word) => word,
+        Err(stop) => return stopped(stop),
+    };
+    *is_found = is_table_or_view(&object.kind);
+    *place = reached;
+    Ok(word)
 }

@@ -1,5 +1,5 @@
 // The object from which a cursor reads.
-ghost use Rattle.std.specs.Prelude.{◌≡◌, ◌+◌, ◌*◌, Ok, IfOk, IfErr, IfSome};
+ghost use Rattle.std.specs.Prelude.{◌≡◌, ◌+◌, ◌*◌, Ok, Some, IfOk, IfErr, IfSome, is_some, true};
 ghost use Rattle.std.proofs.lemmas.Map.Entries.{option_filter};
 ghost use Rattle.eeprom.specs.Chip.{Becomes, RisesAtMost};
 ghost use Rattle.eeprom.specs.Frame.{Reads};
@@ -21,17 +21,18 @@ use record_store::{Side, Store};
 use record_table::{Stop, refused};
 use scql_base::{Actor, Name, Object, StatusWord};
 
-/// The object of a stamp, from which the actor may select, or the first refusal. It is read into a place of the caller's.
-pub(crate) fn find_selected<'a, B: Eeprom>(
+/// Reads the object of a stamp, from which the actor may select, into a place of the caller's; or the first refusal.
+pub(crate) fn find_selected<B: Eeprom>(
     store: &Store,
     bench: &mut B,
     side: Side,
     actor: Actor,
     stamp: u32,
-    place: &'a mut Option<Object>,
-) -> Result<&'a Object, Stop>
+    place: &mut Option<Object>,
+) -> Result<(), Stop>
     requires over { IsOver store.now (B.chip bench.old) }
-    ensures found { (db : Database) → IsHeld store.now side (B.chip bench.old) db → IfOk result (λ object. selectable db actor (seen_stamped db actor stamp) ≡ Ok object.now) }
+    ensures found { (db : Database) → IsHeld store.now side (B.chip bench.old) db → IfOk result (λ _. IfSome place.new (λ object. selectable db actor (seen_stamped db actor stamp) ≡ Ok object)) }
+    ensures there { IfOk result (λ _. is_some place.new ≡ true) }
     ensures refused { (db : Database) → IsHeld store.now side (B.chip bench.old) db → IfErr result (Stops (selectable db actor (seen_stamped db actor stamp))) }
     ensures octets_read { WhereRead result (IfSome (slots_of store.now side (B.chip bench.old))
         (λ slots. Becomes (RisesAtMost (cell_size * cells_marked object_kind slots + cell_size * cells_marked grant_kind slots)) (B.octets_read bench.old) (B.octets_read bench.new))) }
@@ -39,7 +40,10 @@ pub(crate) fn find_selected<'a, B: Eeprom>(
     ensures frame { Reads is_stop_fault B.chip B.faults bench.old bench.new result }
 {
     find_stamp_into(store, bench, side, stamp, place)?;
-    select(store, bench, side, actor, place)
+    match select(store, bench, side, actor, place) {
+        Ok(_) => Ok(()),
+        Err(stop) => Err(stop),
+    }
 }
 
 /// The object of a name, from which the actor may select, or the first refusal. It is read into a place of the caller's.
@@ -75,6 +79,7 @@ fn select<'a, B: Eeprom>(
         → IfOk result (λ object. selectable db actor (option_filter (model.appears db actor) found.now) ≡ Ok object.now) }
     ensures refused { (db : Database) → IsHeld store.now side (B.chip bench.old) db
         → IfErr result (Stops (selectable db actor (option_filter (model.appears db actor) found.now))) }
+    ensures there { IfOk result (λ object. found.now ≡ Some object.now) }
     ensures octets_read { WhereRead result (IfSome (slots_of store.now side (B.chip bench.old))
         (λ slots. Becomes (RisesAtMost (cell_size * cells_marked grant_kind slots)) (B.octets_read bench.old) (B.octets_read bench.new))) }
     ensures rises { WhereRead result (NeverFalls (slots_of store.now side (B.chip bench.old)) (B.octets_read bench.old) (B.octets_read bench.new)) }

@@ -9,7 +9,9 @@ ghost use Rattle.scql_base.specs.declared.cursor.Place.{Place};
 ghost use Rattle.scql_base.specs.declared.words.Actor.{Actor};
 ghost use Rattle.scql_model.specs.Cursors.{IsCursorOf};
 ghost use Rattle.scql_model.specs.Database.{Database};
+ghost use Rattle.scql_model.specs.Defining as defining;
 ghost use Rattle.scql_model.specs.Defining.{is_table_or_view};
+ghost use Rattle.scql_base.specs.declared.records.Object.{Object};
 ghost use Rattle.scql_model.specs.Moves.{first_row, gave, gave_next, moved_to, row_behind, went_to};
 ghost use Rattle.scql_model.specs.Objects.{StampedRow};
 ghost use Rattle.scql_model.specs.ReadBound.{place_reached};
@@ -24,13 +26,13 @@ ghost use Rattle.cursor.specs.Moved.{AreStamped, fetched, refuses};
 ghost use Rattle.db_read.specs.Advanced.{Advances, way_cost};
 ghost use Rattle.db_read.specs.Answered.{selectable};
 ghost use Rattle.db_read.specs.Motion.{Goes, Stays, cost_by, least_by};
-ghost use Rattle.db_read.specs.Scan.{GoesOver, IsRight, rows_of};
+ghost use Rattle.db_read.specs.Scan.{GoesOver, rows_of};
 ghost use Rattle.db_read.specs.Told.{Tells, costs_of};
 
 use crate::choosing::{Choice, Chosen, place_all};
 use crate::feed::ChosenRows;
 use crate::motion::Motion;
-use crate::scan::{RowRoom, Scan, Selection};
+use crate::scan::{RowRoom, Selection};
 use crate::telling::tell;
 use cursor::{fetch, fetch_step, first, step};
 use eeprom::{Eeprom, EepromFault};
@@ -41,7 +43,14 @@ use scql_base::{Cursor, Object, ObjectKind, Place, Row, StatusWord};
 use search_cond::Bound;
 use views::resolve_into;
 
-/// A cursor on this object goes over the rows that it chooses. Those of a table or a view are found once, and kept for the next move.
+/// Whether rows of a table are under an object of this kind, and not those of a dictionary.
+pub(crate) fn is_table_or_view(kind: &ObjectKind) -> bool
+    ensures { result ≡ defining.is_table_or_view kind.now }
+{
+    !matches!(kind, ObjectKind::Dictionary { .. })
+}
+
+/// A cursor on this object goes over the rows that it chooses. Those of a table or a view are found once, for the next move too.
 pub(crate) fn go_on<B: Eeprom>(
     store: &Store,
     bench: &mut B,
@@ -52,33 +61,28 @@ pub(crate) fn go_on<B: Eeprom>(
     place: &mut Place,
     out: &mut Row,
     index: &RowIndex,
-    scan: &mut Scan,
+    selection: &mut Selection,
+    room: &mut RowRoom,
 ) -> Result<StatusWord, Stop>
     requires over { IsOver store.now (B.chip bench.old) }
     requires index { Indexes index.now store.now (B.chip bench.old) }
-    requires none { scan.old ≡ None }
     ensures advances { (db : Database) (actor : Actor) → IsHeld store.now side (B.chip bench.old) db → IsCursorOf db cursor.now → selectable db actor (seen_stamped db actor cursor.now.object) ≡ Ok object.now
         → IfOk result (λ word. IfSome (slots_of store.now side (B.chip bench.old))
         (λ slots. Advances db actor cursor.now motion place.old place.new word out.new slots (B.octets_read bench.old) (B.octets_read bench.new))) }
     ensures fault { (db : Database) (actor : Actor) → IsHeld store.now side (B.chip bench.old) db → IsCursorOf db cursor.now → selectable db actor (seen_stamped db actor cursor.now.object) ≡ Ok object.now
         → IfErr result (λ stop. stop ≡ Fault) }
-    // What is found, if anything, is right for the cursor.
-    ensures right { (db : Database) (actor : Actor) → IsHeld store.now side (B.chip bench.old) db → selectable db actor (seen_stamped db actor cursor.now.object) ≡ Ok object.now → IsRight db actor scan.new cursor.now }
+    // What is found is right for the cursor.
+    ensures right { (db : Database) (actor : Actor) → IsHeld store.now side (B.chip bench.old) db → selectable db actor (seen_stamped db actor cursor.now.object) ≡ Ok object.now
+        → is_table_or_view object.now.kind ≡ true → IfOk result (λ _. GoesOver db actor cursor.now (rows_of object.now selection.new)) }
     ensures stays { IfOk result (Stays motion place.old place.new) }
     ensures frame { Reads is_stop_fault B.chip B.faults bench.old bench.new result }
 {
-    let Scan {
-        is_found,
-        selection,
-        room,
-    } = scan;
-    if let ObjectKind::Dictionary { .. } = &object.kind {
+    if !is_table_or_view(&object.kind) {
         return go_on_dictionary(
             store, bench, side, object, cursor, motion, place, out, index, room,
         );
     }
     select(store, bench, side, object, cursor, selection)?;
-    *is_found = true;
     let choice = Choice::OfTable(Chosen::of(selection));
     Ok(go(store, bench, side, &choice, motion, place, out, index, room)?)
 }
@@ -97,7 +101,7 @@ pub(crate) fn go_over<B: Eeprom>(
 ) -> Result<StatusWord, EepromFault>
     requires over { IsOver store.now (B.chip bench.old) }
     requires index { Indexes index.now store.now (B.chip bench.old) }
-    ensures advances { (db : Database) (actor : Actor) (c : Cursor) → IsHeld store.now side (B.chip bench.old) db → IsCursorOf db c → GoesOver db actor c (rows_of selection.now)
+    ensures advances { (db : Database) (actor : Actor) (c : Cursor) (o : Object) → IsHeld store.now side (B.chip bench.old) db → IsCursorOf db c → GoesOver db actor c (rows_of o selection.now)
         → IfOk result (λ word. IfSome (slots_of store.now side (B.chip bench.old))
         (λ slots. Advances db actor c motion place.old place.new word out.new slots (B.octets_read bench.old) (B.octets_read bench.new))) }
     ensures stays { IfOk result (Stays motion place.old place.new) }
@@ -119,7 +123,7 @@ fn select<B: Eeprom>(
     requires over { IsOver store.now (B.chip bench.old) }
     requires rows { is_table_or_view object.now.kind ≡ true }
     ensures found { (db : Database) (actor : Actor) → IsHeld store.now side (B.chip bench.old) db → selectable db actor (seen_stamped db actor cursor.now.object) ≡ Ok object.now
-        → IfOk result (λ _. GoesOver db actor cursor.now (rows_of selection.new)) }
+        → IfOk result (λ _. GoesOver db actor cursor.now (rows_of object.now selection.new)) }
     ensures fault { (db : Database) (actor : Actor) → IsHeld store.now side (B.chip bench.old) db → IsCursorOf db cursor.now → selectable db actor (seen_stamped db actor cursor.now.object) ≡ Ok object.now
         → IfErr result (λ stop. stop ≡ Fault) }
     ensures octets_read { IfOk result (λ _. IfSome (slots_of store.now side (B.chip bench.old)) (λ slots. Becomes (RisesAtMost (way_cost slots)) (B.octets_read bench.old) (B.octets_read bench.new))) }
@@ -131,34 +135,23 @@ fn select<B: Eeprom>(
         places,
         conditions,
     } = selection;
-    match &object.kind {
-        ObjectKind::Table { columns } => {
-            resolved.table = object.stamp;
-            resolved.filters.clear();
-            if place_all(
-                columns,
-                &cursor.columns,
-                &cursor.conditions,
-                places,
-                conditions,
-            ) {
-                return Ok(());
-            }
-        }
-        _ => {
-            resolve_into(store, bench, side, object, resolved)?;
-            if place_all(
-                &resolved.all,
-                &cursor.columns,
-                &cursor.conditions,
-                places,
-                conditions,
-            ) {
-                return Ok(());
-            }
-        }
+    if let ObjectKind::Table { columns } = &object.kind {
+        resolved.table = object.stamp;
+        resolved.all = columns.copy();
+        resolved.filters.clear();
+    } else {
+        resolve_into(store, bench, side, object, resolved)?;
     }
-    refused(StatusWord::NOT_FOUND)
+    if !place_all(
+        &resolved.all,
+        &cursor.columns,
+        &cursor.conditions,
+        places,
+        conditions,
+    ) {
+        return refused(StatusWord::NOT_FOUND);
+    }
+    Ok(())
 }
 
 fn go_on_dictionary<B: Eeprom>(

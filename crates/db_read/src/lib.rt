@@ -19,4 +19,4 @@ mod telling;
 pub use declaring::declare;
 pub use fetching::{fetch_next_row, fetch_row};
 pub use moving::{next_row, open_cursor};
-pub use scan::Scan;
+pub use scan::{FoundRows, Scan};

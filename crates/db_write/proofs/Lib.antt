@@ -1,3 +1,4 @@
+pub mod FoundThrough
 pub mod IndexFollows
 pub mod RowAssigned
 pub mod RowChanged

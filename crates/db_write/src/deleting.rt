@@ -11,8 +11,10 @@ ghost use Rattle.scql_model.specs.Database.{Database};
 ghost use Rattle.scql_model.specs.Writing.{row_deleted};
 ghost use Rattle.record_table.specs.Making.{Ends, GoesOn, IsHeld, is_stop_fault};
 ghost use Rattle.row_index.specs.Index.{Indexes};
+ghost use Rattle.db_read.specs.Scan.{IsRightFor};
 
 use crate::reaching::{find_row, find_written, opened};
+use db_read::Scan;
 use eeprom::Eeprom;
 use privilege_table::Privilege;
 use record_store::Store;
@@ -27,11 +29,13 @@ pub fn delete<B: Eeprom>(
     actor: Actor,
     cursor: &Option<Cursor>,
     index: &mut RowIndex,
+    scan: &Scan,
 ) -> Result<(), Stop>
     requires begun { IsTrue store.old.begun }
     requires over { IsOver store.old (B.chip bench.old) }
     requires index_begun { IsTrue index.old.begun }
     requires index { Indexes index.old store.old (B.chip bench.old) }
+    requires right { (db : Database) → IsHeld store.old Working (B.chip bench.old) db → IsRightFor db actor scan.now cursor.now }
     ensures ends { (db : Database) → IsHeld store.old Working (B.chip bench.old) db → IfSome cursor.now (IsCursorOf db)
         → Ends db (row_deleted db actor cursor.now) result store.old store.new (B.chip bench.old) (B.chip bench.new) }
     // Whatever the cursor is, it ends as through some cursor.
@@ -50,9 +54,17 @@ pub fn delete<B: Eeprom>(
         return refused(StatusWord::CONDITIONS_NOT_SATISFIED);
     };
     let mut place = None;
-    let object = find_written(store, bench, actor, cursor, Privilege::Delete, &mut place)?;
+    let object = find_written(
+        store,
+        bench,
+        actor,
+        cursor,
+        Privilege::Delete,
+        scan,
+        &mut place,
+    )?;
     let mut row = None;
-    let Some(reached) = find_row(store, bench, cursor, object, index, &mut row)? else {
+    let Some(reached) = find_row(store, bench, cursor, object, index, scan, &mut row)? else {
         return refused(StatusWord::RECORD_NOT_FOUND);
     };
     remove(store, reached.slot);

@@ -6,6 +6,7 @@ ghost use Rattle.eeprom.specs.Frame.{Reads};
 ghost use Rattle.record_store.specs.Held.{IsOver};
 ghost use Rattle.record_store.specs.declared.side.Side.TheVariants.{Working};
 ghost use Rattle.scql_base.specs.Words.{conditions_not_satisfied};
+ghost use Rattle.scql_base.specs.declared.words.Actor as model;
 ghost use Rattle.scql_model.specs.Cursors.{IsCursorOf};
 ghost use Rattle.scql_model.specs.Database.{Database, object_stamped};
 ghost use Rattle.scql_model.specs.Defining as defining;
@@ -16,10 +17,12 @@ ghost use Rattle.privilege_table.specs.Rights.{privilege_bit};
 ghost use Rattle.record_table.specs.Listed.{at_slot, slots_of};
 ghost use Rattle.record_table.specs.Making.{IsHeld, is_stop_fault};
 ghost use Rattle.row_index.specs.Index.{Indexes};
-ghost use Rattle.search_cond.specs.Bound.{passes};
+ghost use Rattle.search_cond.specs.Bound.{Binds, passes};
+ghost use Rattle.db_read.specs.Scan.{IsRight};
 ghost use Rattle.db_write.specs.Reached.{IsRowOfObject, IsStopOf, RestsOn, is_reached};
 ghost use Rattle.db_write.specs.Reached as reached;
 
+use db_read::Scan;
 use eeprom::{Eeprom, EepromFault};
 use object_table::find_stamp_into;
 use privilege_table::{Privilege, appears, holds};
@@ -27,7 +30,7 @@ use record_store::{Side, Store};
 use record_table::{Stop, refused};
 use row_index::RowIndex;
 use scql_base::{Actor, Cursor, NameList, Object, ObjectKind, Place, Row, RowRecord, StatusWord};
-use search_cond::{Bound, bind_into};
+use search_cond::{Bound, Placed, bind_into, meets_each};
 use views::{Resolved, resolve_into};
 
 /// The row of a table that a cursor reaches, its slot, and all columns of the table.
@@ -59,8 +62,36 @@ fn is_opened(place: Place) -> bool
     }
 }
 
-/// The table or view whose rows the actor may change through a cursor, or the first refusal. It is read into a place of the caller's.
+/// The table or view whose rows the actor may change through a cursor, or the first refusal: what a scan found, or else what is found of the cursor's object, which is
+/// read into a place of the caller's.
 pub(crate) fn find_written<'a, B: Eeprom>(
+    store: &Store,
+    bench: &mut B,
+    actor: Actor,
+    cursor: &Cursor,
+    privilege: Privilege,
+    scan: &'a Scan,
+    place: &'a mut Option<Object>,
+) -> Result<&'a Object, Stop>
+    requires over { IsOver store.now (B.chip bench.old) }
+    requires right { (db : Database) → IsHeld store.now Working (B.chip bench.old) db → IsRight db actor scan.now cursor.now }
+    ensures written { (db : Database) → IsHeld store.now Working (B.chip bench.old) db → IfOk result (λ object. written_through db actor (privilege_bit privilege) cursor.now ≡ Ok object.now) }
+    ensures there { (db : Database) → IsHeld store.now Working (B.chip bench.old) db
+        → IfOk result (λ object. (object_stamped db.objects cursor.now.object ≡ Some object.now) × (defining.is_table_or_view object.now.kind ≡ true)) }
+    ensures refused { (db : Database) → IsHeld store.now Working (B.chip bench.old) db → IfErr result (IsStopOf (written_through db actor (privilege_bit privilege) cursor.now)) }
+    ensures frame { Reads is_stop_fault B.chip B.faults bench.old bench.new result }
+{
+    let Some(found) = scan.found() else {
+        return find_written_anew(store, bench, actor, cursor, privilege, place);
+    };
+    if !holds(store, bench, Side::Working, actor, found.object, privilege)? {
+        return refused(StatusWord::SECURITY_NOT_SATISFIED);
+    }
+    Ok(found.object)
+}
+
+// The same, where nothing was found.
+fn find_written_anew<'a, B: Eeprom>(
     store: &Store,
     bench: &mut B,
     actor: Actor,
@@ -100,9 +131,45 @@ fn is_table_or_view(kind: &ObjectKind) -> bool
     }
 }
 
-/// The row at which a cursor on this object stands, where it is among the cursor's rows. It is read into a place of the caller's. What only a view needs room for is in a
-/// function of its own, so that a table doesn't pay for it.
+/// The row at which a cursor on this object stands, where it is among the cursor's rows. It is read into a place of the caller's.
 pub(crate) fn find_row<'a, B: Eeprom>(
+    store: &Store,
+    bench: &mut B,
+    cursor: &Cursor,
+    object: &Object,
+    index: &RowIndex,
+    scan: &Scan,
+    place: &'a mut Option<Reached>,
+) -> Result<Option<&'a Reached>, EepromFault>
+    requires over { IsOver store.now (B.chip bench.old) }
+    requires index { Indexes index.now store.now (B.chip bench.old) }
+    requires right { (db : Database) → IsHeld store.now Working (B.chip bench.old) db → (actor : model.Actor) × IsRight db actor scan.now cursor.now }
+    ensures there { IfOk result (λ reached. IfSome reached (λ reached. reached.now.slot < store.now.chains.cells)) }
+    ensures at { IfOk result (λ reached. IfSome reached (λ reached. IfSome (slots_of store.now Working (B.chip bench.old)) (λ slots. Some reached.now.row ≡ at_slot row_kind reached.now.slot slots))) }
+    ensures row { (db : Database) → IsHeld store.now Working (B.chip bench.old) db → IsCursorOf db cursor.now → object_stamped db.objects cursor.now.object ≡ Some object.now
+        → defining.is_table_or_view object.now.kind ≡ true → IfOk result (λ reached. option_map (λ reached. reached.now.row) reached ≡ record_at_cursor db cursor.now) }
+    ensures of_object { (db : Database) → IsHeld store.now Working (B.chip bench.old) db → object_stamped db.objects cursor.now.object ≡ Some object.now
+        → defining.is_table_or_view object.now.kind ≡ true → IfOk result (λ reached. IfSome reached (λ reached. IsRowOfObject db cursor.now reached.now)) }
+    ensures frame { Reads each_error B.chip B.faults bench.old bench.new result }
+{
+    let Some(found) = scan.found() else {
+        return find_row_anew(store, bench, cursor, object, index, place);
+    };
+    find_in_table(
+        store,
+        bench,
+        cursor,
+        found.table,
+        found.all,
+        found.conditions,
+        found.filters,
+        index,
+        place,
+    )
+}
+
+// The same, where nothing was found. What only a view needs room for is in a function of its own, so that a table doesn't pay for it.
+fn find_row_anew<'a, B: Eeprom>(
     store: &Store,
     bench: &mut B,
     cursor: &Cursor,
@@ -122,7 +189,7 @@ pub(crate) fn find_row<'a, B: Eeprom>(
 {
     match &object.kind {
         ObjectKind::Table { columns } => {
-            find_in_table(
+            bind_and_find(
                 store,
                 bench,
                 cursor,
@@ -159,7 +226,7 @@ fn find_under_view<'a, B: Eeprom>(
 {
     let mut resolved = Resolved::default();
     resolve_into(store, bench, Side::Working, object, &mut resolved)?;
-    find_in_table(
+    bind_and_find(
         store,
         bench,
         cursor,
@@ -171,8 +238,8 @@ fn find_under_view<'a, B: Eeprom>(
     )
 }
 
-// The row at which a cursor stands in the table under its object, which these columns and filters describe.
-fn find_in_table<'a, B: Eeprom>(
+// The row at which a cursor stands in the table under its object, which these columns and filters describe. The cursor's conditions are bound to the columns.
+fn bind_and_find<'a, B: Eeprom>(
     store: &Store,
     bench: &mut B,
     cursor: &Cursor,
@@ -192,18 +259,53 @@ fn find_in_table<'a, B: Eeprom>(
         → IfOk result (λ reached. IfSome reached (λ reached. IsRowOfObject db cursor.now reached.now)) }
     ensures frame { Reads each_error B.chip B.faults bench.old bench.new result }
 {
-    let Some(stamp) = stamp_at(cursor.place) else {
-        return Ok(None);
-    };
     let mut conditions = Bound::default();
     // A cursor's conditions are on columns of its object.
     let Ok(()) = bind_into(columns, &cursor.conditions, &mut conditions) else {
         return Ok(None);
     };
+    find_in_table(
+        store,
+        bench,
+        cursor,
+        table,
+        columns,
+        conditions.as_slice(),
+        filters,
+        index,
+        place,
+    )
+}
+
+// The row at which a cursor stands in the table under its object, which these columns and filters describe, where it meets these conditions.
+fn find_in_table<'a, B: Eeprom>(
+    store: &Store,
+    bench: &mut B,
+    cursor: &Cursor,
+    table: u32,
+    columns: &NameList,
+    conditions: &[Placed],
+    filters: &[Bound],
+    index: &RowIndex,
+    place: &'a mut Option<Reached>,
+) -> Result<Option<&'a Reached>, EepromFault>
+    requires over { IsOver store.now (B.chip bench.old) }
+    requires index { Indexes index.now store.now (B.chip bench.old) }
+    ensures there { IfOk result (λ reached. IfSome reached (λ reached. reached.now.slot < store.now.chains.cells)) }
+    ensures at { IfOk result (λ reached. IfSome reached (λ reached. IfSome (slots_of store.now Working (B.chip bench.old)) (λ slots. Some reached.now.row ≡ at_slot row_kind reached.now.slot slots))) }
+    ensures row { (db : Database) → IsHeld store.now Working (B.chip bench.old) db → IsCursorOf db cursor.now → RestsOn db.objects cursor.now.object table columns.now filters.now
+        → Binds conditions.now columns.now cursor.now.conditions → IfOk result (λ reached. option_map (λ reached. reached.now.row) reached ≡ record_at_cursor db cursor.now) }
+    ensures of_object { (db : Database) → IsHeld store.now Working (B.chip bench.old) db → RestsOn db.objects cursor.now.object table columns.now filters.now
+        → IfOk result (λ reached. IfSome reached (λ reached. IsRowOfObject db cursor.now reached.now)) }
+    ensures frame { Reads each_error B.chip B.faults bench.old bench.new result }
+{
+    let Some(stamp) = stamp_at(cursor.place) else {
+        return Ok(None);
+    };
     let Some(found) = row_table::find_stamp(store, bench, Side::Working, stamp, index)? else {
         return Ok(None);
     };
-    if !is_row_reached(table, filters, &conditions, &found.value) {
+    if !is_row_reached(table, filters, conditions, &found.value) {
         return Ok(None);
     }
     Ok(Some(place.insert(Reached {
@@ -224,10 +326,10 @@ fn stamp_at(place: Place) -> Option<u32>
 }
 
 // Whether a row is one of the table, and meets the cursor's conditions and those of each view.
-fn is_row_reached(table: u32, filters: &[Bound], conditions: &Bound, row: &RowRecord) -> bool
+fn is_row_reached(table: u32, filters: &[Bound], conditions: &[Placed], row: &RowRecord) -> bool
     ensures { result ≡ is_reached table filters.now conditions.now row.now }
 {
-    row.table == table && conditions.matches(&row.row) && passes_each(filters, &row.row)
+    row.table == table && meets_each(&row.row, conditions) && passes_each(filters, &row.row)
 }
 
 fn passes_each(filters: &[Bound], row: &Row) -> bool

@@ -25,12 +25,14 @@ ghost use Rattle.catalog_codec.specs.Kinds.{FitsChain};
 ghost use Rattle.record_table.specs.Listed.{slots_of};
 ghost use Rattle.record_table.specs.Making.{Ends, GoesOn, IsHeld, is_stop_fault};
 ghost use Rattle.row_index.specs.Index.{Indexes};
+ghost use Rattle.db_read.specs.Scan.{IsRightFor};
 ghost use Rattle.row_table.specs.Found.{HasRowLike};
 ghost use Rattle.db_write.specs.Assigned.{within_limit};
 ghost use Rattle.db_write.specs.Reached.{Answers};
 
 use crate::assigning::row_after;
 use crate::reaching::{find_row, find_written, opened};
+use db_read::Scan;
 use eeprom::Eeprom;
 use privilege_table::Privilege;
 use record_store::Store;
@@ -46,10 +48,12 @@ pub fn update<B: Eeprom>(
     cursor: &Option<Cursor>,
     changes: &PackedChanges,
     index: &mut RowIndex,
+    scan: &Scan,
 ) -> Result<(), Stop>
     requires begun { IsTrue store.old.begun }
     requires over { IsOver store.old (B.chip bench.old) }
     requires index { Indexes index.old store.old (B.chip bench.old) }
+    requires right { (db : Database) → IsHeld store.old Working (B.chip bench.old) db → IsRightFor db actor scan.now cursor.now }
     ensures ends { (db : Database) → IsHeld store.old Working (B.chip bench.old) db → IfSome cursor.now (IsCursorOf db) → HasForm (operation.Update changes.now)
         → Ends db (row_updated db actor cursor.now changes.now) result store.old store.new (B.chip bench.old) (B.chip bench.new) }
     // Whatever the cursor is, it ends as through some cursor.
@@ -68,7 +72,16 @@ pub fn update<B: Eeprom>(
         table: 0,
         row: Row::new(),
     };
-    let slot = find_updated(store, bench, actor, cursor, changes, index, &mut updated)?;
+    let slot = find_updated(
+        store,
+        bench,
+        actor,
+        cursor,
+        changes,
+        index,
+        scan,
+        &mut updated,
+    )?;
     change(store, bench, slot, &updated)?;
     Ok(())
 }
@@ -81,10 +94,12 @@ fn find_updated<B: Eeprom>(
     cursor: &Option<Cursor>,
     changes: &PackedChanges,
     index: &RowIndex,
+    scan: &Scan,
     updated: &mut RowRecord,
 ) -> Result<u16, Stop>
     requires over { IsOver store.now (B.chip bench.old) }
     requires index { Indexes index.now store.now (B.chip bench.old) }
+    requires right { (db : Database) → IsHeld store.now Working (B.chip bench.old) db → IsRightFor db actor scan.now cursor.now }
     ensures there { IfOk result (λ slot. slot < store.now.chains.cells) }
     ensures like { IfOk result (λ slot. IfSome (slots_of store.now Working (B.chip bench.old)) (HasRowLike updated.new slot)) }
     ensures short { IfOk result (λ _. FitsChain row_kind updated.new) }
@@ -99,12 +114,20 @@ fn find_updated<B: Eeprom>(
         return refused(StatusWord::CONDITIONS_NOT_SATISFIED);
     };
     let mut place = None;
-    let object = find_written(store, bench, actor, cursor, Privilege::Update, &mut place)?;
+    let object = find_written(
+        store,
+        bench,
+        actor,
+        cursor,
+        Privilege::Update,
+        scan,
+        &mut place,
+    )?;
     if !are_columns(&object.kind, changes) {
         return refused(StatusWord::NOT_FOUND);
     }
     let mut row = None;
-    let Some(reached) = find_row(store, bench, cursor, object, index, &mut row)? else {
+    let Some(reached) = find_row(store, bench, cursor, object, index, scan, &mut row)? else {
         return refused(StatusWord::RECORD_NOT_FOUND);
     };
     let limit = store.row_limit();

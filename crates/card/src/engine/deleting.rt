@@ -11,7 +11,7 @@ ghost use Rattle.scql_model.specs.Sessions.{left_by};
 ghost use Rattle.scql_model.specs.Step as stepping;
 ghost use Rattle.scql_model.specs.WellFormed.{HasForm, FitsCard};
 ghost use Rattle.card.specs.Answering.{Performs};
-ghost use Rattle.card.specs.Card.{StandsOver, IsAt};
+ghost use Rattle.card.specs.Card.{FindsAgain, StandsOver, IsAt};
 ghost use Rattle.card.specs.Sessions.{is_open, left_session};
 
 use crate::engine::Engine;
@@ -31,6 +31,7 @@ impl Engine {
         operation: &Operation,
     ) -> Result<StatusWord, EepromFault>
         requires ready { StandsOver self.old (B.chip bench.old) }
+        requires found { FindsAgain self.old (B.chip bench.old) }
         requires channel { channel < 4 }
         requires closed { self.old.transaction ≡ None }
         requires there { is_open self.old.sessions channel ≡ true }

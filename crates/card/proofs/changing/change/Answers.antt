@@ -5,6 +5,7 @@ use Rattle.eeprom.specs.StoreOf.{store_of}
 use Rattle.record_store.specs.Held.{Held}
 use Rattle.record_store.specs.declared.side.Side.TheVariants.{Committed, Working}
 use Rattle.scql_base.specs.declared.cursor.Cursor.{Cursor}
+use Rattle.scql_base.specs.declared.words.Actor.{Actor}
 use Rattle.scql_model.specs.Changing.{edits_of}
 use Rattle.scql_model.specs.Creating.{IsActorOf}
 use Rattle.scql_model.specs.Cursors.{IsCursorOf}
@@ -16,12 +17,14 @@ use Rattle.std.specs.Prelude.{IfSome, IsErrOf, Ok}
 use Rattle.eeprom.proofs.Leaves.{Keeps-none}
 use Rattle.scql_base.specs.Words.{done}
 use Rattle.record_table.specs.AtRest.{IsAtRest}
+use Rattle.db_read.specs.Scan.{IsRightFor}
 use Rattle.card.specs.Acting.{acting}
 use Rattle.card.specs.Changing.{Changes}
 use Rattle.row_index.specs.Index.{Index, Indexes, is_above}
 use Rattle.card.proofs.IndexedStore.{HoldsSome-changed, Indexes-begun, Indexes-ended, Indexes-held, last-held, rest-concluded}
 use Rattle.record_table.proofs.AtRest.{held-begun, held-before, slots-committed, slots-rolled_back, over-begun, opens-rest, committed-begun, behind-changed}
 use Rattle.card.proofs.ChangedStore.{rest-rolled_back, Changes-failed, Changes-refused, Changes-half_committed, Changes-committed}
+use Rattle.card.proofs.CatalogKept.{catalog-concluded, catalog-kept}
 use Rattle.card.proofs.ChangingOperations.{IsActorOf-acting}
 use Rattle.card.proofs.changing.change.Goals.{After-commit-in-Ok, After-make, After-rollback-in-Err-Refused}
 use Rattle.card.proofs.changing.change.Goals as goal
@@ -200,3 +203,25 @@ returns-in-Err-Refused-clause-index g c =
     Indexes-ended c.args.index.now c.rollback-in-Err-Refused.new.self Committed c.args.store.now c.rollback.new.self old (g.B.Eeprom.chip c.make.new.bench) c.requires.index is c.rollback.ensures.ended cells
     (slots-rolled_back c.args.store.now c.begin.new.self c.make.new.store c.rollback.new.self old (g.B.Eeprom.chip c.actor_of.new.bench) (g.B.Eeprom.chip c.make.new.bench) c.in_ok-actor.ensures.frame.same
     c.begin.ensures.committed refused.0 refused.1 c.rollback.ensures.committed))
+
+pub returns-in_ok-commit-in-Ok-clause-catalog : goal.returns-in_ok-commit-in-Ok-clause-catalog
+returns-in_ok-commit-in-Ok-clause-catalog g c = λ rows.
+    let new = g.B.Eeprom.chip c.commit.new.bench in
+    catalog-kept c.commit.new.self c.args.store.now Committed new (g.B.Eeprom.chip c.args.bench.now) c.requires.holds
+    (c.in_ok-commit-in-Ok.ensures.told ∙ ((c.in-Ok.ensures.goes_on (λ wrong. cc)).told ∙ ap (λ (chip : Chip). is_some chip.image) c.in_ok-actor.ensures.frame.same)) (λ db next rest after.
+    let ends = through g (goal.at.returns-in_ok-commit-in-Ok-clause-changes g c).After-make db rest in
+    catalog-concluded c.commit.new.self new db next (acting db c.args.user) ends.0 c.args.operation.now done rows (done-through g c db ends.0 rest ends.1).step after)
+
+pub returns-in-Err-Refused-clause-catalog : goal.returns-in-Err-Refused-clause-catalog
+returns-in-Err-Refused-clause-catalog g c = λ rows.
+    let new = g.B.Eeprom.chip c.make.new.bench in
+    catalog-kept c.rollback.new.self c.args.store.now Committed new (g.B.Eeprom.chip c.args.bench.now) c.requires.holds
+    ((c.in-Err-Refused.ensures.goes_on (λ wrong. cc)).told ∙ ap (λ (chip : Chip). is_some chip.image) c.in_ok-actor.ensures.frame.same) (λ db next rest after.
+    let ends = through g (goal.at.returns-in-Err-Refused-clause-changes g c).After-make db rest in
+    catalog-concluded c.rollback.new.self new db next (acting db c.args.user) ends.0 c.args.operation.now c.in-Err-Refused.word rows (refused-through g c db ends.0 rest ends.1).step after)
+
+pub make-requires-clause-right : goal.make-requires-clause-right
+make-requires-clause-right g c = λ db held.
+    let rest : IsHeld c.args.store.now Committed (g.B.Eeprom.chip c.args.bench.now) db = held-before c.args.store.now c.begin.new.self (g.B.Eeprom.chip c.args.bench.now) (g.B.Eeprom.chip c.actor_of.new.bench) db held
+    c.in_ok-actor.ensures.frame.same c.begin.ensures.begun c.begin.ensures.starts in
+    subst (λ (actor : Actor). IsRightFor db actor c.args.scan.now c.args.cursor.now) (sym (c.in_ok-actor.ensures.actor db rest)) (c.requires.right db rest)

@@ -5,6 +5,7 @@ use Rattle.eeprom.specs.Chip.{Chip}
 use Rattle.record_store.specs.Held.{Held}
 use Rattle.record_store.specs.declared.side.Side.TheVariants.{Working}
 use Rattle.scql_base.specs.declared.cursor.Cursor.{Cursor}
+use Rattle.scql_base.specs.declared.words.Actor.{Actor}
 use Rattle.scql_base.specs.declared.words.StatusWord.{StatusWord}
 use Rattle.scql_model.specs.Changing.{edits_of, with_edits}
 use Rattle.scql_model.specs.Edits.{Edit}
@@ -18,7 +19,9 @@ use Rattle.record_table.specs.Making.{Ends, IsHeld, Makes}
 use Rattle.record_table.specs.declared.stop.Stop.{Stop}
 use Rattle.record_table.specs.declared.stop.Stop.TheVariants.{Fault, Refused}
 use Rattle.row_index.specs.Index.{Indexes}
+use Rattle.db_read.specs.Scan.{IsRightFor}
 use Rattle.card.specs.Acting.{acting}
+use Rattle.card.proofs.CatalogKept.{catalog-kept, catalog-made, same-catalog}
 use Rattle.card.proofs.ChangingOperations.{IsActorOf-acting}
 use Rattle.card.proofs.IndexedStore.{HoldsSome-changed, Indexes-held}
 use Rattle.card.proofs.Sides.{stamps-held}
@@ -119,3 +122,28 @@ returns-in-Ok-clause-index g c = followed g (goal.at.returns-in-Ok-clause-change
 
 pub returns-in-Err-Refused-clause-index : goal.returns-in-Err-Refused-clause-index
 returns-in-Err-Refused-clause-index g c = followed g (goal.at.returns-in-Err-Refused-clause-changes g c).After-make (λ wrong. cc)
+
+pub returns-in-Ok-clause-catalog : goal.returns-in-Ok-clause-catalog
+returns-in-Ok-clause-catalog g c = λ rows.
+    let new = g.B.Eeprom.chip c.make.new.bench in
+    catalog-kept c.make.new.store c.args.store.now Working new (g.B.Eeprom.chip c.args.bench.now) c.requires.works
+    ((c.in-Ok.ensures.goes_on (λ wrong. cc)).told ∙ ap (λ (chip : Chip). is_some chip.image) c.in_ok-actor.ensures.frame.same) (λ db next held after.
+    let ends = through g (goal.at.returns-in-Ok-clause-catalog g c).After-make db held in
+    let made = of-ok db _ c.make.result _ c.args.store.now c.make.new.store (g.B.Eeprom.chip c.actor_of.new.bench) new c.in-Ok.is ends.1 in
+    catalog-made c.make.new.store Working new db next (acting db c.args.user) ends.0 c.args.operation.now made.0 rows made.1 made.2.held after)
+
+pub returns-in-Err-Refused-clause-catalog : goal.returns-in-Err-Refused-clause-catalog
+returns-in-Err-Refused-clause-catalog g c = λ rows.
+    let old = g.B.Eeprom.chip c.args.bench.now in
+    let new = g.B.Eeprom.chip c.make.new.bench in
+    catalog-kept c.make.new.store c.args.store.now Working new old c.requires.works
+    ((c.in-Err-Refused.ensures.goes_on (λ wrong. cc)).told ∙ ap (λ (chip : Chip). is_some chip.image) c.in_ok-actor.ensures.frame.same) (λ db next held after.
+    let ends = through g (goal.at.returns-in-Err-Refused-clause-catalog g c).After-make db held in
+    let refused = of-refused db _ c.make.result c.in-Err-Refused.word c.args.store.now c.make.new.store (g.B.Eeprom.chip c.actor_of.new.bench) new (c.in-Err-Refused.is ∙ ap Err c.in-Err-Refused.field-0-is) ends.1 in
+    let back = subst (λ (chip : Chip). IsHeld c.args.store.now Working chip next) (refused.2 ∙ c.in_ok-actor.ensures.frame.same) (subst (λ (store : Held). IsHeld store Working new next) refused.1 after) in
+    same-catalog c.args.store.now c.args.store.now Working Working old old db next refl held back)
+
+pub make-requires-clause-right : goal.make-requires-clause-right
+make-requires-clause-right g c = λ db held.
+    let before = subst (λ (chip : Chip). IsHeld c.args.store.now Working chip db) c.in_ok-actor.ensures.frame.same held in
+    subst (λ (actor : Actor). IsRightFor db actor c.args.scan.now c.args.cursor.now) (sym (c.in_ok-actor.ensures.actor db before)) (c.requires.right db before)

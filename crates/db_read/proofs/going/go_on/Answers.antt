@@ -1,8 +1,6 @@
 -- The rows are those of the table under the object, as they were found.
 use Rattle.std.proofs.Common.{◌≡◌, Bool, true, false, None, ap}
 use Rattle.std.specs.Prelude.{IfSome}
-use Rattle.db_read.specs.Scan.{TableRows, found_rows}
-use Rattle.db_read.specs.declared.scan.Selection.{Selection}
 use Rattle.db_read.proofs.Chooses.{Chooses-over}
 use Rattle.db_read.proofs.MotionLaws.{Advances-below, of-slots}
 use Rattle.db_read.proofs.going.go_on.Goals as goal
@@ -17,6 +15,3 @@ returns-clause-advances g c = λ db actor held cursor selects.
     let read = rw c.in_ok-select.ensures.frame.same at c.in_ok-go.ensures.read in
     of-slots c.args.store.now c.args.side chip db held _
     (Advances-below c.args.store.now c.args.side chip db held actor c.args.cursor.now _ _ chooses _ _ _ _ _ _ _ goes read _ c.in_ok-select.ensures.octets_read c.in_ok-select.ensures.rises)
-
-pub returns-clause-right : goal.returns-clause-right
-returns-clause-right g c = λ db actor held selects. c.in_ok-select.ensures.found db actor held selects

@@ -5,7 +5,7 @@ use Rattle.db_read.proofs.MotionLaws.{Advances-ok}
 use Rattle.db_read.proofs.going.go_over.Goals as goal
 
 pub returns-clause-advances : goal.returns-clause-advances
-returns-clause-advances g c = λ db actor on held cursor over.
+returns-clause-advances g c = λ db actor on o held cursor over.
     let chip = g.B.Eeprom.chip c.args.bench.now in
     let e = c.of.ensures in
     let chooses = Chooses-over c.args.store.now c.args.side chip db actor on _ held cursor over c.of.result e.table (ap (λ places. places.items) e.places) e.conditions e.filters in

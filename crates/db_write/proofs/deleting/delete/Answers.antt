@@ -13,6 +13,7 @@ use Rattle.record_table.proofs.Ending.{Ends-stopped}
 use Rattle.row_index.specs.Index.{Indexes}
 use Rattle.row_table.proofs.Followed.{Indexes-removed}
 use Rattle.db_write.specs.Reached.{without_conditions}
+use Rattle.db_write.proofs.FoundThrough.{right-for}
 use Rattle.db_write.proofs.RowDeleted.{Ends-deleted, deletes, deletes-closed, deletes-none, deletes-stopped, opened-some, opened-without_conditions}
 use Rattle.db_write.proofs.deleting.delete.Goals as goal
 
@@ -100,3 +101,15 @@ returns-clause-index g c =
     rw c.removed.ensures.removed
     (Indexes-removed c.args.index.now store c.remove.new.store (g.B.Eeprom.chip c.find_row.new.bench) c.in-Some-2.reached.now.slot over.stands c.remove.ensures.cells there c.remove.ensures.removed
     (subst (λ chip. Indexes c.args.index.now store chip) (sym still) c.requires.index))
+
+-- what was found is right for the cursor
+pub find_written-requires-clause-right : goal.find_written-requires-clause-right
+find_written-requires-clause-right g c = λ db held.
+    right-for db c.args.actor c.args.scan.now c.args.cursor.now c.in-Some.cursor.now (opened-some c.args.cursor.now c.in-Some.cursor.now c.in-Some.ensures) (c.requires.right db held)
+
+pub find_row-requires-clause-right : goal.find_row-requires-clause-right
+find_row-requires-clause-right g c = λ db held. (
+  c.args.actor,
+  right-for db c.args.actor c.args.scan.now c.args.cursor.now c.in-Some.cursor.now (opened-some c.args.cursor.now c.in-Some.cursor.now c.in-Some.ensures)
+      (c.requires.right db (rw c.in_ok-object.ensures.frame.same at held)),
+)

@@ -8,6 +8,7 @@ use Rattle.scql_model.specs.Cursors.{IsCursorOf}
 use Rattle.scql_model.specs.Database.{Database}
 use Rattle.record_table.specs.Making.{IsHeld}
 use Rattle.db_write.specs.Reached.{without_conditions}
+use Rattle.db_write.proofs.FoundThrough.{right-for}
 use Rattle.db_write.proofs.RowDeleted.{opened-some, opened-without_conditions}
 use Rattle.db_write.proofs.RowUpdated.{Answers-stopped, IsUpdated, fits-kept, updates-closed, updates-kept, updates-none, updates-not_kept, updates-stopped, updates-unnamed}
 use Rattle.db_write.proofs.updating.find_updated.Goals.{After-record_after}
@@ -125,3 +126,15 @@ returns-in-Some-record_after-clause-fits g c = λ db held.
     let any = without_conditions c.in-Some.cursor.now in
     let is = found-so g (goal.at.returns-in-Some-record_after-clause-fits g c).After-record_after db held in
     fits-kept db _ (Some any) _ any _ _ c.in-Some-2.reached.now.columns c.row_limit-limit.result c.record_after.new.updated.row c.record_after.new.updated is (rw c.in-Some-record_after.is at c.record_after.ensures.after) (rw c.in-Some-record_after.is at c.record_after.ensures.record) (rw c.in-Some-record_after.is at c.record_after.ensures.is_row)
+
+-- what was found is right for the cursor
+pub find_written-requires-clause-right : goal.find_written-requires-clause-right
+find_written-requires-clause-right g c = λ db held.
+    right-for db c.args.actor c.args.scan.now c.args.cursor.now c.in-Some.cursor.now (opened-some c.args.cursor.now c.in-Some.cursor.now c.in-Some.ensures) (c.requires.right db held)
+
+pub find_row-requires-clause-right : goal.find_row-requires-clause-right
+find_row-requires-clause-right g c = λ db held. (
+  c.args.actor,
+  right-for db c.args.actor c.args.scan.now c.args.cursor.now c.in-Some.cursor.now (opened-some c.args.cursor.now c.in-Some.cursor.now c.in-Some.ensures)
+      (c.requires.right db (rw c.in_ok-object.ensures.frame.same at held)),
+)

@@ -26,18 +26,9 @@ not_twice m c (Err fault) old new other = tt
 pub returns-then-is_reading-clause-lowered : goal.returns-then-is_reading-clause-lowered
 returns-then-is_reading-clause-lowered g c = λ m at. not_twice m c.args.command.now c.read.result _ _ (λ secret is. let reads = sym c.is_reading.ensures ∙ c.if-is_reading.true in let wrong = rw is at reads in absurd cc)
 
-pub returns-clause-octets_read : goal.returns-clause-octets_read
-returns-clause-octets_read g c = λ m at command is. absurd (reads-none c.args.command.now.operation c.args.command.now.le command (sym c.is_reading.ensures ∙ c.if-is_reading.false) is)
-
-pub returns-clause-performs : goal.returns-clause-performs
-returns-clause-performs g c = λ m at.
-    let old = g.B.Eeprom.chip c.args.bench.now in
-    let new = g.B.Eeprom.chip c.carry_out_otherwise.new.bench in
-    subst (λ (kept : Kept). Performs m (answered m (carried_out m c.args.command.now)) (or_nothing (octets_carried_out m c.args.command.now)) c.carry_out_otherwise.new.reply.body (Ok c.in_ok-word.word) (record kept { found = c.forget.new.self }) old new) (sym c.self.view_is)
-    (Performs-found m _ _ c.carry_out_otherwise.new.reply.body c.in_ok-word.word c.carry_out_otherwise.new.self c.forget.new.self old new (c.in_ok-word.ensures.performs m at))
-
-pub returns-clause-ready : goal.returns-clause-ready
-returns-clause-ready g c =
+-- What was found is let go.
+pub returns-then-not-changes_rows-clause-ready : goal.returns-then-not-changes_rows-clause-ready
+returns-then-not-changes_rows-clause-ready g c =
     let new = g.B.Eeprom.chip c.carry_out_otherwise.new.bench in
     subst (λ (kept : Kept). IsReady (record kept { found = c.forget.new.self }) new) (sym c.self.view_is)
     (IsReady-none c.carry_out_otherwise.new.self c.forget.new.self new (ap (λ (f : Found). f.last) c.forget.ensures) c.in_ok-word.ensures.ready)

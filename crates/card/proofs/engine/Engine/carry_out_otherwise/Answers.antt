@@ -15,7 +15,7 @@ use Rattle.scql_model.proofs.FewCommits.{one-answered}
 use Rattle.scql_model.specs.Machine.{Machine}
 use Rattle.scql_model.specs.Operations.{kind_of}
 use Rattle.scql_model.specs.Step.{Answer, answered, carried_out, changed, user_and_sessions_deleted, user_presented, verified, channel_opened, channel_closed, transaction_begun, transaction_committed, transaction_rolled_back}
-use Rattle.scql_model.specs.Transactions.{Waits, is_kept_waiting, waits}
+use Rattle.scql_model.specs.Transactions.{Waits, for_others, is_kept_waiting, waits}
 use Rattle.scql_model.specs.WellFormed.{HasForm}
 use Rattle.card.specs.Answering.{HoldsAnswer, LeavesFirstOfTwo, Performs, replied}
 use Rattle.card.specs.Card.{Kept, HoldsMachine, IsAt, StandsOver}
@@ -148,9 +148,16 @@ none g c = record {
   not_rolls_back = c.in_default.not-Rollback;
 }
 
+-- and it isn't kept waiting
+others-wait : (g : _) (c : In_default g) → keeps_waiting for_others c.args.self.now.transaction c.args.command.now.channel ≡ false
+others-wait g c = subst (λ (w : Waits). keeps_waiting w c.args.self.now.transaction c.args.command.now.channel ≡ false)
+    (waits-changes c.args.command.now.operation (IsChange-others c.args.command.now.operation (none g c)) c.in_default.not-DeleteUser) (sym c.keeps_waiting.ensures ∙ c.if-keeps_waiting.false)
+
 pub change-requires : goal.change-requires
 change-requires g c = record {
   ready = c.requires.ready;
+  found = c.requires.found;
+  mine = others-wait g (goal.at.change-requires g c).In_default;
   channel = omega (arith, c.requires.formed.channel);
   there = c.requires.open;
   changes = IsChange-others c.args.command.now.operation (none g (goal.at.change-requires g c).In_default);
@@ -166,9 +173,8 @@ returns-in_default-clause-performs g c = λ m at.
     let old = g.B.Eeprom.chip c.args.bench.now in
     let new = g.B.Eeprom.chip c.change.new.bench in
     let free = told-waiting c.args.self.now old m c.args.command.now c.keeps_waiting.result false at.held c.keeps_waiting.ensures c.if-keeps_waiting.false in
-    let others = subst (λ (w : Waits). keeps_waiting w c.args.self.now.transaction channel ≡ false) (waits-changes operation changes c.in_default.not-DeleteUser) (sym c.keeps_waiting.ensures ∙ c.if-keeps_waiting.false) in
     as_outcome m c.args.command.now (changed m channel operation) _ _ [] c.change.result c.change.new.self old new
-    (carried_out-changes m channel operation c.args.command.now.le changes c.in_default.not-DeleteUser free) (octets-carried_out m channel operation c.args.command.now.le changes free) c.requires.empty (c.change.ensures.performs m at others)
+    (carried_out-changes m channel operation c.args.command.now.le changes c.in_default.not-DeleteUser free) (octets-carried_out m channel operation c.args.command.now.le changes free) c.requires.empty (c.change.ensures.performs m at)
 
 -- VERIFY and DELETE USER wait for any transaction, so none is open.
 pub verify-requires-clause-closed : goal.verify-requires-clause-closed

@@ -54,7 +54,7 @@ named-user g c m from =
 
 -- what the change does, from before the search
 from_before : (g : _) (c : After-change g) (m : Machine) (result : Result StatusWord EepromFault) → IsAt c.args.self.now (g.B.Eeprom.chip c.args.bench.now) m
-    → ((m : Machine) → IsAt c.args.self.now (g.B.Eeprom.chip c.find_name.new.bench) m → keeps_waiting for_others c.args.self.now.transaction c.args.channel ≡ false
+    → ((m : Machine) → IsAt c.args.self.now (g.B.Eeprom.chip c.find_name.new.bench) m
     → Performs m (answered m (changed m c.args.channel c.args.operation.now)) (or_nothing (octets_changed m c.args.channel c.args.operation.now)) [] result c.change.new.self (g.B.Eeprom.chip c.find_name.new.bench) (g.B.Eeprom.chip c.change.new.bench))
     → Performs m (answered m (changed m c.args.channel (DeleteUser c.args.name))) (or_nothing (octets_changed m c.args.channel c.args.operation.now)) [] result c.change.new.self (g.B.Eeprom.chip c.args.bench.now) (g.B.Eeprom.chip c.change.new.bench)
 from_before g c m result from performs =
@@ -63,7 +63,7 @@ from_before g c m result from performs =
     let same = c.in_ok-user.ensures.frame.same in
     subst (λ (operation : Operation). Performs m (answered m (changed m c.args.channel operation)) most [] result c.change.new.self (g.B.Eeprom.chip c.args.bench.now) new) c.requires.deletes
     (subst (λ (chip : Chip). Performs m (answered m (changed m c.args.channel c.args.operation.now)) most [] result c.change.new.self chip new) same
-    (performs m (subst (λ (chip : Chip). IsAt c.args.self.now chip m) (sym same) from) (ap (λ (own : Option ℕ). keeps_waiting for_others own c.args.channel) c.requires.closed)))
+    (performs m (subst (λ (chip : Chip). IsAt c.args.self.now chip m) (sym same) from)))
 
 pub returns-in_err-word-clause-performs : goal.returns-in_err-word-clause-performs
 returns-in_err-word-clause-performs g c = λ m from.
