@@ -1,5 +1,5 @@
 -- What a host has that makes the writes of a command's log.
-use Rattle.std.proofs.Common.{Box, Global, Result, Ok, Err, IfOk, ◌≡◌, inl, inr, ℕ, List, [], ◌∷◌, Some, ap, length, refl, subst, sym, ◌∙◌}
+use Rattle.std.proofs.Common.{Box, Result, Ok, Err, IfOk, ◌≡◌, inl, inr, ℕ, List, [], ◌∷◌, Some, ap, length, refl, subst, sym, ◌∙◌}
 use Rattle.std.proofs.lemmas.Option.{same_Some}
 use Rattle.eeprom.specs.Chip.{Keeps, Throughout}
 use Rattle.eeprom.specs.StoreOf.{store_of}
@@ -70,6 +70,6 @@ opening-cuts image begun new db same none keeps opens =
     }
 
 -- what is so of a card is so of that which was put into a box, if it was
-pub boxed-so : (boxed : Result (Box HeldCard Global) ℕ) (held made : HeldCard) (P : HeldCard → Type 0) → held ≡ made → IfOk boxed (λ b. b.value ≡ held) → P made → IfOk boxed (λ b. P b.value)
+pub boxed-so : {A : Type 0} (boxed : Result (Box HeldCard A) ℕ) (held made : HeldCard) (P : HeldCard → Type 0) → held ≡ made → IfOk boxed (λ b. b.value ≡ held) → P made → IfOk boxed (λ b. P b.value)
 boxed-so (Ok b) held made P same is so = subst P (sym (is ∙ same)) so
 boxed-so (Err e) held made P same is so = tt

@@ -7,7 +7,7 @@ ghost use Rattle.card_c.specs.declared.held.Held.{Held};
 
 use crate::held::Held;
 use crate::loose::Loose;
-use std::alloc::Global;
+use eeprom::Heap;
 use std::marker::Model;
 
 /// The address of what is held, or null.
@@ -30,14 +30,14 @@ impl Bare {
         }
     }
 
-    pub(crate) fn of(loose: Loose<Held, Global>) -> Bare
+    pub(crate) fn of(loose: Loose<Held, Heap>) -> Bare
         ensures { result.held ≡ Some loose.value }
     {
         let Loose { at, alloc: _ } = loose;
         Bare { at: at as *mut u8 }
     }
 
-    pub(crate) fn into_loose(self, alloc: Global) -> Loose<Held, Global>
+    pub(crate) fn into_loose(self, alloc: Heap) -> Loose<Held, Heap>
         requires { is_some self.held ≡ true }
         ensures { Some result.value ≡ self.held }
     {

@@ -4,7 +4,7 @@ ghost use Rattle.std.specs.Prelude.{◌≡◌, is_some};
 use crate::bare::Bare;
 use crate::held::Held;
 use crate::loose::Loose;
-use std::alloc::Global;
+use eeprom::Heap;
 
 /// What C holds: nothing, as long as its octets are 00.
 #[repr(C)]
@@ -24,7 +24,7 @@ impl Handle {
     }
 
     /// What is held, taken out.
-    pub(crate) fn take(&mut self, alloc: Global) -> Option<Box<Held>>
+    pub(crate) fn take(&mut self, alloc: Heap) -> Option<Box<Held, Heap>>
         ensures was { option_map (λ b. b.value) result ≡ self.old.bare.held }
         ensures none { self.new.bare.held ≡ None }
     {
@@ -42,7 +42,7 @@ impl Handle {
     }
 
     /// Puts something into an empty handle.
-    pub(crate) fn put(&mut self, held: Box<Held>)
+    pub(crate) fn put(&mut self, held: Box<Held, Heap>)
         requires { self.old.bare.held ≡ None }
         ensures { self.new.bare.held ≡ Some held.value }
     {

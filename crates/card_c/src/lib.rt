@@ -21,12 +21,11 @@ ghost use Rattle.card_c.specs.declared.status.TheConstants.{DONE, WRONG_HANDLE, 
 use crate::handle::Handle;
 use crate::opening::{made, opened};
 use crate::status::{DONE, NO_MEMORY, TOO_SHORT, WRONG_CELLS, WRONG_HANDLE};
-use eeprom::{FEWEST_CELLS, MOST_CELLS};
-use std::alloc::Global;
+use eeprom::{FEWEST_CELLS, Heap, MOST_CELLS};
 
 /// Makes a card of so many cells, whose database has the user OWNER alone.
 #[unsafe(no_mangle)]
-pub extern "C" fn huwapire_new(alloc: Global, card: &mut Handle, cells: u16) -> u32
+pub extern "C" fn huwapire_new(alloc: Heap, card: &mut Handle, cells: u16) -> u32
     ensures done { result ≡ DONE → HoldsMachine card.new.bare.held (start (fresh cells)) }
     ensures handle { (result ≡ WRONG_HANDLE) ↔ (is_some card.old.bare.held ≡ true) }
     ensures cells { result ≡ WRONG_CELLS → (cells < fewest_cells) ⊎ (most_cells < cells) }
@@ -50,7 +49,7 @@ pub extern "C" fn huwapire_new(alloc: Global, card: &mut Handle, cells: u16) -> 
 
 /// Opens the card of an image.
 #[unsafe(no_mangle)]
-pub extern "C" fn huwapire_open(alloc: Global, card: &mut Handle, image: &[u8]) -> u32
+pub extern "C" fn huwapire_open(alloc: Heap, card: &mut Handle, image: &[u8]) -> u32
     ensures opens { result ≡ DONE → (db : Database) × Opens image.now db }
     ensures done { (db : Database) → Opens image.now db → result ≡ DONE → HoldsMachine card.new.bare.held (start db) }
     // Whoever makes the writes of the log to the image, in their order, has its database at each moment.
@@ -75,7 +74,7 @@ pub extern "C" fn huwapire_open(alloc: Global, card: &mut Handle, image: &[u8]) 
 /// Answers a command, and leaves the card where the table machine goes.
 #[unsafe(no_mangle)]
 pub extern "C" fn huwapire_answer(
-    alloc: Global,
+    alloc: Heap,
     card: &mut Handle,
     command: &[u8],
     reply: &mut [u8],
@@ -107,7 +106,7 @@ pub extern "C" fn huwapire_answer(
 
 /// Ends all sessions, and undoes an open transaction. Channel 0 is then open, without a user.
 #[unsafe(no_mangle)]
-pub extern "C" fn huwapire_reset(alloc: Global, card: &mut Handle) -> u32
+pub extern "C" fn huwapire_reset(alloc: Heap, card: &mut Handle) -> u32
     ensures done { (m : Machine) → HoldsMachine card.old.bare.held m → result ≡ DONE → HoldsMachine card.new.bare.held (reset m) }
     ensures handle { (result ≡ WRONG_HANDLE) ↔ (card.old.bare.held ≡ None) }
     ensures mute { result ≡ MUTE → IsMute card.old.bare.held }
@@ -126,7 +125,7 @@ pub extern "C" fn huwapire_reset(alloc: Global, card: &mut Handle) -> u32
 
 /// How many octets the image has.
 #[unsafe(no_mangle)]
-pub extern "C" fn huwapire_size(alloc: Global, card: &mut Handle, size: &mut usize) -> u32
+pub extern "C" fn huwapire_size(alloc: Heap, card: &mut Handle, size: &mut usize) -> u32
     ensures done { result ≡ DONE → HasSize card.old.bare.held size.new }
     ensures same { card.new.bare.held ≡ card.old.bare.held }
     ensures handle { (result ≡ WRONG_HANDLE) ↔ (card.old.bare.held ≡ None) }
@@ -145,7 +144,7 @@ pub extern "C" fn huwapire_size(alloc: Global, card: &mut Handle, size: &mut usi
 
 /// Gives the image, into as many octets as it has.
 #[unsafe(no_mangle)]
-pub extern "C" fn huwapire_image(alloc: Global, card: &mut Handle, image: &mut [u8]) -> u32
+pub extern "C" fn huwapire_image(alloc: Heap, card: &mut Handle, image: &mut [u8]) -> u32
     ensures done { result ≡ DONE → HasImage card.old.bare.held image.new }
     ensures same { card.new.bare.held ≡ card.old.bare.held }
     ensures handle { (result ≡ WRONG_HANDLE) ↔ (card.old.bare.held ≡ None) }
@@ -165,7 +164,7 @@ pub extern "C" fn huwapire_image(alloc: Global, card: &mut Handle, image: &mut [
 
 /// How many writes the last call made, to be made to the lasting image before its reply goes out.
 #[unsafe(no_mangle)]
-pub extern "C" fn huwapire_writes(alloc: Global, card: &mut Handle, count: &mut usize) -> u32
+pub extern "C" fn huwapire_writes(alloc: Heap, card: &mut Handle, count: &mut usize) -> u32
     ensures done { result ≡ DONE → HasWritten card.old.bare.held count.new }
     ensures same { card.new.bare.held ≡ card.old.bare.held }
     ensures handle { (result ≡ WRONG_HANDLE) ↔ (card.old.bare.held ≡ None) }
@@ -185,7 +184,7 @@ pub extern "C" fn huwapire_writes(alloc: Global, card: &mut Handle, count: &mut 
 /// The write of that number, the first being 0: its place, and its octets.
 #[unsafe(no_mangle)]
 pub extern "C" fn huwapire_write(
-    alloc: Global,
+    alloc: Heap,
     card: &mut Handle,
     write: usize,
     at: &mut usize,
@@ -212,7 +211,7 @@ pub extern "C" fn huwapire_write(
 
 /// Lets go of the card. The handle is empty then.
 #[unsafe(no_mangle)]
-pub extern "C" fn huwapire_close(alloc: Global, card: &mut Handle)
+pub extern "C" fn huwapire_close(alloc: Heap, card: &mut Handle)
     ensures { card.new.bare.held ≡ None }
 {
     let _ = card.take(alloc);

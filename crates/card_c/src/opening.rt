@@ -10,9 +10,8 @@ ghost use Rattle.card_c.specs.declared.status.TheConstants.{NO_MEMORY, NOT_A_CAR
 use crate::held::Held;
 use crate::status::{NO_MEMORY, NOT_A_CARD};
 use card::{Card, OpenRefusal};
-use eeprom::{SteadyBench, image_size};
+use eeprom::{Heap, image_size};
 use log_bench::LogBench;
-use std::alloc::Global;
 
 /// For how many writes of a command, and how many octets of them, room is taken beforehand. More is taken where a command makes more.
 const WRITES: usize = 64;
@@ -20,28 +19,29 @@ const WRITES: usize = 64;
 const OCTETS: usize = 2048;
 
 /// A new card of so many cells, or none where there is no memory.
-pub fn made(alloc: Global, cells: u16) -> Option<Box<Held>>
+pub fn made(alloc: Heap, cells: u16) -> Option<Box<Held, Heap>>
     requires few { fewest_cells ≤ cells }
     requires many { cells ≤ most_cells }
     ensures { IfSome result (λ held. IsCardAt held.value (start (fresh cells))) }
 {
-    let Ok(octets) = Vec::from_elem(alloc, 0xFF_u8, image_size(cells)) else {
+    let size = image_size(cells);
+    let Ok(octets) = Vec::from_elem(alloc, 0xFF_u8, size) else {
         return None;
     };
-    let Ok(mut bench) = SteadyBench::new(alloc, octets, 0, 0) else {
+    let Ok(mut bench) = LogBench::new(alloc, octets, WRITES, size) else {
         return None;
     };
     let Ok(()) = Card::format(&mut bench, cells) else {
         return None;
     };
-    match opened(alloc, bench.image()) {
+    match opened_over(alloc, bench.into_image()) {
         Ok(held) => Some(held),
         Err(_) => None,
     }
 }
 
 /// The card of an image, or the status that says why there is none.
-pub fn opened(alloc: Global, image: &[u8]) -> Result<Box<Held>, u32>
+pub fn opened(alloc: Heap, image: &[u8]) -> Result<Box<Held, Heap>, u32>
     ensures opens { IfOk result (λ held. (db : Database) × Opens image.now db) }
     ensures done { IfOk result (λ held. (db : Database) → Opens image.now db → IsCardAt held.value (start db)) }
     ensures cuts { IfOk result (λ held. (db : Database) → Opens image.now db → OpensByCuts db image.now held.value.bench) }
@@ -51,7 +51,18 @@ pub fn opened(alloc: Global, image: &[u8]) -> Result<Box<Held>, u32>
     let Ok(octets) = Vec::from_slice(alloc, image) else {
         return Err(NO_MEMORY);
     };
-    let Ok(mut bench) = LogBench::new(alloc, octets, WRITES, OCTETS) else {
+    opened_over(alloc, octets)
+}
+
+// The same of an image that the card takes for its own.
+fn opened_over(alloc: Heap, image: Vec<u8, Heap>) -> Result<Box<Held, Heap>, u32>
+    ensures opens { IfOk result (λ held. (db : Database) × Opens image.items db) }
+    ensures done { IfOk result (λ held. (db : Database) → Opens image.items db → IsCardAt held.value (start db)) }
+    ensures cuts { IfOk result (λ held. (db : Database) → Opens image.items db → OpensByCuts db image.items held.value.bench) }
+    ensures not_a_card { IsErrOf result NOT_A_CARD → (db : Database) → Opens image.items db → ⊥ }
+    ensures ends { OnErr result (IsErrOf result NOT_A_CARD ⊎ IsErrOf result NO_MEMORY) }
+{
+    let Ok(mut bench) = LogBench::new(alloc, image, WRITES, OCTETS) else {
         return Err(NO_MEMORY);
     };
     match Card::open(alloc, &mut bench) {
@@ -61,7 +72,7 @@ pub fn opened(alloc: Global, image: &[u8]) -> Result<Box<Held>, u32>
     }
 }
 
-fn boxed(alloc: Global, held: Held) -> Result<Box<Held>, u32>
+fn boxed(alloc: Heap, held: Held) -> Result<Box<Held, Heap>, u32>
     ensures held { IfOk result (λ boxed. boxed.value ≡ held) }
     ensures ends { OnErr result (IsErrOf result NO_MEMORY) }
 {

@@ -55,6 +55,20 @@ impl LogBench {
         &self.image
     }
 
+    /// The image, when the log is let go.
+    pub fn into_image(self) -> Vec<u8, Heap>
+        ensures { result.items ≡ image_of self }
+    {
+        let LogBench {
+            image,
+            log: _,
+            octets_read: _,
+            octets_written: _,
+            faults: _,
+        } = self;
+        image
+    }
+
     /// How many writes were made since the log was begun.
     pub fn writes(&self) -> usize
         ensures { result ≡ length (log_of self.now) }

@@ -1,30 +1,15 @@
-use Rattle.std.proofs.Common.{Err, ℕ, List, ap, subst, sym, ◌∙◌}
+use Rattle.std.proofs.Common.{IfOk, IsErrOf, ℕ, List, subst}
 use Rattle.scql_model.specs.Opens.{Opens}
 use Rattle.scql_model.specs.Database.{Database}
 use Rattle.scql_model.specs.Machine.{start}
-use Rattle.card_c.specs.HeldCard.{HeldCard, IsCardAt, OpensByCuts}
-use Rattle.card_c.proofs.Cuts.{boxed-so, opening-cuts}
+use Rattle.card_c.specs.HeldCard.{IsCardAt}
+use Rattle.card_c.specs.declared.status.TheConstants.{NOT_A_CARD}
 use Rattle.card_c.proofs.opening.opened.Goals as goal
 
-pub returns-in-Err-NotACard-clause-not_a_card : goal.returns-in-Err-NotACard-clause-not_a_card
-returns-in-Err-NotACard-clause-not_a_card c is db opens =
-    c.in-Err-NotACard.ensures.not_a_card (ap Err c.in-Err-NotACard.field-0-is) db (subst (λ (image : List ℕ). Opens image db) (sym (c.in-Ok-new.ensures.image ∙ c.in-Ok.ensures.items)) opens)
+pub returns-clause-done : goal.returns-clause-done
+returns-clause-done c =
+    subst (λ (image : List ℕ). IfOk c.opened_over.result (λ held. (db : Database) → Opens image db → IsCardAt held.value (start db))) c.in-Ok.ensures.items c.opened_over.ensures.done
 
-pub returns-in-Ok-open-clause-opens : goal.returns-in-Ok-open-clause-opens
-returns-in-Ok-open-clause-opens c =
-    let opened : HeldCard = record { card = c.in-Ok-open.card; bench = c.open.new.bench } in
-    let opens = c.in-Ok-open.ensures.opens in
-    boxed-so c.boxed.result c.new-in-Ok-open.result opened (λ held. (db : Database) × Opens c.args.image.now db) c.new-in-Ok-open.ensures c.boxed.ensures.held
-    (opens.0, subst (λ (image : List ℕ). Opens image opens.0) (c.in-Ok-new.ensures.image ∙ c.in-Ok.ensures.items) opens.1)
-
-pub returns-in-Ok-open-clause-done : goal.returns-in-Ok-open-clause-done
-returns-in-Ok-open-clause-done c =
-    let opened : HeldCard = record { card = c.in-Ok-open.card; bench = c.open.new.bench } in
-    boxed-so c.boxed.result c.new-in-Ok-open.result opened (λ held. (db : Database) → Opens c.args.image.now db → IsCardAt held (start db)) c.new-in-Ok-open.ensures c.boxed.ensures.held (λ db opens.
-    (c.in-Ok-open.ensures.starts db (subst (λ (image : List ℕ). Opens image db) (sym (c.in-Ok-new.ensures.image ∙ c.in-Ok.ensures.items)) opens), c.in-Ok-open.ensures.ready))
-
-pub returns-in-Ok-open-clause-cuts : goal.returns-in-Ok-open-clause-cuts
-returns-in-Ok-open-clause-cuts c =
-    let opened : HeldCard = record { card = c.in-Ok-open.card; bench = c.open.new.bench } in
-    boxed-so c.boxed.result c.new-in-Ok-open.result opened (λ held. (db : Database) → Opens c.args.image.now db → OpensByCuts db c.args.image.now held.bench) c.new-in-Ok-open.ensures c.boxed.ensures.held (λ db opens.
-    opening-cuts c.args.image.now c.in-Ok-new.bench c.open.new.bench db (c.in-Ok-new.ensures.image ∙ c.in-Ok.ensures.items) c.in-Ok-new.ensures.none c.in-Ok-open.ensures.recovers.store.keeps opens)
+pub returns-clause-not_a_card : goal.returns-clause-not_a_card
+returns-clause-not_a_card c =
+    subst (λ (image : List ℕ). IsErrOf c.opened_over.result NOT_A_CARD → (db : Database) → Opens image db → ⊥) c.in-Ok.ensures.items c.opened_over.ensures.not_a_card
