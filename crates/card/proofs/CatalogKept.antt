@@ -15,7 +15,7 @@ use Rattle.scql_base.specs.Words.{no_space}
 use Rattle.scql_base.specs.declared.words.StatusWord.{StatusWord}
 use Rattle.scql_model.specs.Changing.{edits_of}
 use Rattle.scql_model.specs.Database.{Database}
-use Rattle.scql_model.specs.Edits.{Edit, applied, lacks_room, with_edits}
+use Rattle.scql_model.specs.Edits.{Edit, applied, lacks_room}
 use Rattle.scql_model.specs.Operations.{kind_of}
 use Rattle.scql_model.specs.Writing.{Assignment, row_deleted, row_inserted, row_updated}
 use Rattle.scql_model.proofs.RightEdits.{Gives, bound-gives, done-gives}

@@ -1,10 +1,9 @@
 -- What was found is found again while the catalog stays.
-use Rattle.std.proofs.Common.{◌≡◌, ◌==◌, ℕ, zero, suc, Bool, true, false, List, [], ◌∷◌, Option, Some, None, is_some, option_map, if◌then◌else◌, refl, sym, ap, subst, ◌∙◌, inl, inr}
+use Rattle.std.proofs.Common.{◌≡◌, ◌==◌, ℕ, zero, suc, Bool, true, false, List, [], ◌∷◌, Option, Some, None, option_map, if◌then◌else◌, refl, sym, ap, subst, ◌∙◌, inl, inr}
 use Rattle.std.specs.Prelude.{IfSome, option_and_then, slice_set}
 use Rattle.std.proofs.lemmas.Bool.{cases_Bool}
 use Rattle.eeprom.specs.Chip.{Chip}
 use Rattle.record_store.specs.Held.{Held}
-use Rattle.record_store.specs.declared.side.Side.{Side}
 use Rattle.record_store.specs.declared.side.Side.TheVariants.{Committed, Working}
 use Rattle.row_index.specs.Index.{Index}
 use Rattle.scql_base.specs.Words.{done}
@@ -18,9 +17,9 @@ use Rattle.scql_model.specs.Resolving.{resolved_of}
 use Rattle.scql_model.specs.Rights.{appears, holds}
 use Rattle.scql_model.specs.Sessions.{without_pending}
 use Rattle.record_table.specs.Listed.{slots_of}
-use Rattle.record_table.specs.Making.{GoesOn, IsHeld}
+use Rattle.record_table.specs.Making.{GoesOn}
 use Rattle.record_table.proofs.AtRest.{held-same}
-use Rattle.db_read.specs.Scan.{GoesOver, IsRightFor, TableRows}
+use Rattle.db_read.specs.Scan.{Found, GoesOver, GoesOverTold, IsFor, IsRightFor}
 use Rattle.card.specs.Acting.{acting}
 use Rattle.card.specs.Answering.{changing_session, settled}
 use Rattle.card.specs.Card.{FindsAgain, IsStillFound, Kept}
@@ -35,7 +34,7 @@ acts-same db next None same = refl
 acts-same db next (Some stamp) same = rw same.users refl
 
 -- and so is what a cursor goes over.
-goes-on : (db next : Database) (actor : Actor) (c : Cursor) (p : TableRows) → HaveSameCatalog db next → GoesOver db actor c p → GoesOver next actor c p
+goes-on : (db next : Database) (actor : Actor) (c : Cursor) (p : Found) → HaveSameCatalog db next → GoesOver db actor c p → GoesOver next actor c p
 unfolding holds appears
 goes-on db next actor c p same is = record {
   seen = is.seen;
@@ -49,10 +48,26 @@ goes-on db next actor c p same is = record {
   few = is.few;
 }
 
-still-right : (db next : Database) (actor : Actor) (scan : Option TableRows) (cursor : Option Cursor) → HaveSameCatalog db next → IsRightFor db actor scan cursor → IsRightFor next actor scan cursor
+goes-on-told : (db next : Database) (actor : Actor) (c : Cursor) (p : Found) → HaveSameCatalog db next → GoesOverTold db actor c p → GoesOverTold next actor c p
+unfolding holds appears
+goes-on-told db next actor c p same is = record {
+  selects = rw (same.objects, same.grants) is.selects;
+  all = is.all;
+  places = is.places;
+  conditions = is.conditions;
+  few = is.few;
+}
+
+still-for : (db next : Database) (actor : Actor) (c : Cursor) (p : Found) → HaveSameCatalog db next → IsFor db actor c p → IsFor next actor c p
+still-for db next actor c p same is = record {
+  table = λ rows. goes-on db next actor c p same (is.table rows);
+  told = λ told. goes-on-told db next actor c p same (is.told told);
+}
+
+still-right : (db next : Database) (actor : Actor) (scan : Option Found) (cursor : Option Cursor) → HaveSameCatalog db next → IsRightFor db actor scan cursor → IsRightFor next actor scan cursor
 still-right db next actor scan None same is = is
 still-right db next actor None (Some c) same is = is
-still-right db next actor (Some p) (Some c) same is = goes-on db next actor c p same is
+still-right db next actor (Some p) (Some c) same is = still-for db next actor c p same is
 
 -- A store whose every side keeps its catalog takes the place of a card's.
 found-stored : (card : Kept) (store : Held) (index : Index) (old new : Chip) → ((channel : ℕ) → KeepsCatalog (side_of card.transaction channel) card.store store old new)

@@ -1,9 +1,8 @@
 -- What a reading command reads, from what its parts read.
 use Rattle.std.proofs.Common.{◌≡◌, ◌≤◌, ◌==◌, ◌+◌, ◌*◌, ℕ, true, false, List, [], ◌∷◌, length, take, drop, Option, Some, Result, Ok, Err, if◌then◌else◌, refl, sym, ap, subst, ◌∙◌, arith, inl, inr}
-use Rattle.std.specs.Prelude.{IfOk, IfSome, OnOk}
-use Rattle.std.proofs.lemmas.Bool.{cases_Bool, false≢true}
+use Rattle.std.specs.Prelude.{IfSome, OnOk}
+use Rattle.std.proofs.lemmas.Bool.{cases_Bool}
 use Rattle.std.proofs.lemmas.List.{length-append, take-append-drop}
-use Rattle.std.proofs.lemmas.Option.{same_Some}
 use Rattle.eeprom.specs.Chip.{Becomes, Chip, RisesAtMost}
 use Rattle.eeprom.specs.StoreOf.{cell_size}
 use Rattle.eeprom.specs.declared.fault.EepromFault.{EepromFault}
@@ -24,8 +23,8 @@ use Rattle.scql_model.specs.Machine.{Machine, Reading, actor, base, open_channel
 use Rattle.scql_model.specs.Matching.{Values}
 use Rattle.scql_model.specs.Moves.{move_of}
 use Rattle.scql_model.specs.Operations.{operations, kind_of}
-use Rattle.scql_model.specs.ReadBound.{IsOnTableOrView, RisesAtLeast, octets_for_operation, octets_for_reading}
-use Rattle.scql_model.specs.ReadingCommands.{Move, ReadingCommand, declare, open_cursor, next, get_response, or_stays, reading_command, row_octets}
+use Rattle.scql_model.specs.ReadBound.{RisesAtLeast, octets_for_operation, octets_for_reading}
+use Rattle.scql_model.specs.ReadingCommands.{Move, ReadingCommand, get_response, or_stays, reading_command, row_octets}
 use Rattle.scql_model.specs.Sessions.{changing_session, command_chain, reading_of, without_chain}
 use Rattle.scql_model.specs.Step.{reading_done}
 use Rattle.scql_model.specs.Transactions.{is_kept_waiting, waits}
@@ -41,8 +40,8 @@ use Rattle.cursor.specs.Moved.{refuses}
 use Rattle.apdu_chain.proofs.TakenForms.{taken_at}
 use Rattle.db_read.specs.Answered.{given}
 use Rattle.db_read.proofs.HeldCosts.{catalogue-held}
-use Rattle.card.specs.ReadCosts.{GoesWithin, ReadsAsked, ReadsFor, ReadsOctets, ReadsOn, ReadsWithin, asks_for_row, goes_over_rows, row_answered, size_given}
-use Rattle.card.specs.Reading.{is_going, is_reading}
+use Rattle.card.specs.ReadCosts.{ReadsAsked, ReadsFor, ReadsOctets, ReadsOn, row_answered, size_given}
+use Rattle.card.specs.Reading.{is_reading}
 use Rattle.apdu_chain.proofs.CarriedOut.{carried_out-reads, carried_out-waits}
 use Rattle.card.proofs.ReadingMoves.{given-word, stays-answered}
 
@@ -54,15 +53,15 @@ pub rises-more : (few most : ℕ) (a b : Option ℕ) → few ≤ most → Become
 rises-more few most a b le rises = λ after told. (let r = rises after told in (r.0, r.1, omega (arith, le, r.2)))
 
 module _ (store : Held) (side : Side) (chip : Chip) (db : Database) (held : IsHeld store side chip db) where
-  -- the search of GET RESPONSE for its object, and twice the grants on it
+  -- the search of GET RESPONSE for its object, and the grants on it
   pub asked-read : (actor : Actor) (cursor : Option Cursor) (le : ℕ) (a b : Option ℕ)
-      → IfSome (slots_of store side chip) (λ slots. Becomes (RisesAtMost (cell_size * cells_marked object_kind slots + 2 * (cell_size * cells_marked grant_kind slots))) a b)
+      → IfSome (slots_of store side chip) (λ slots. Becomes (RisesAtMost (cell_size * cells_marked object_kind slots + cell_size * cells_marked grant_kind slots)) a b)
       → Becomes (RisesAtMost (octets_for_operation db actor cursor (get_response le))) a b
   asked-read actor cursor le a b read =
       let objects = catalogue-held object_kind held.slots db HaveOtherMarks-row-object held.holds in
       let grants = catalogue-held grant_kind held.slots db HaveOtherMarks-row-grant held.holds in
-      rises-more (cell_size * cells_marked object_kind held.slots + 2 * (cell_size * cells_marked grant_kind held.slots)) (octets_for_operation db actor cursor (get_response le)) a b (omega (arith, objects, grants))
-      (told-held store side chip db (λ slots. Becomes (RisesAtMost (cell_size * cells_marked object_kind slots + 2 * (cell_size * cells_marked grant_kind slots))) a b) held read)
+      rises-more (cell_size * cells_marked object_kind held.slots + cell_size * cells_marked grant_kind held.slots) (octets_for_operation db actor cursor (get_response le)) a b (omega (arith, objects, grants))
+      (told-held store side chip db (λ slots. Becomes (RisesAtMost (cell_size * cells_marked object_kind slots + cell_size * cells_marked grant_kind slots)) a b) held read)
 
   -- the search for the actor, and then an operation
   pub acted-read : (actor : Actor) (reading : Reading) (command : ReadingCommand) (a b c : Option ℕ) → IfSome (slots_of store side chip) (λ slots. Becomes (RisesBetween 0 (cell_size * cells_marked user_kind slots)) a b)
@@ -111,25 +110,6 @@ row-read db actor reading command le word cursor values move a b moves gives rea
     let least = given-least le word cursor values reading.pending in
     let same = ap row_answered (moves ∙ sym gives) in
     (r.0, r.1, omega (arith, same, least, r.2))
-
--- a command that is another one asks for no row where that one doesn't
-other : (x command : ReadingCommand) → Some x ≡ Some command → asks_for_row x ≡ false → asks_for_row command ≡ true → ⊥
-other x command is none asked = false≢true (sym none ∙ (ap asks_for_row (same_Some x command is) ∙ asked))
-
--- What moves a cursor and gives no octets is one command, whatever its Le is,
-pub goes-within : (db : Database) (actor : Actor) (operation : Operation) (r : Result StatusWord EepromFault) (cursor : Option Cursor) (command : ReadingCommand) (a b : Option ℕ)
-    → ((le : Option ℕ) (other : ReadingCommand) → reading_command operation le ≡ Some other → command ≡ other)
-    → ((goes_over_rows command ≡ true → IfSome cursor (IsOnTableOrView db)) → IfOk r (λ _. Becomes (RisesAtMost (octets_for_operation db actor cursor command)) a b)) → OnOk r (GoesWithin db actor operation cursor a b)
-goes-within db actor operation (Ok word) cursor command a b each reads = λ le other is.
-    subst (λ (command : ReadingCommand). ReadsWithin (octets_for_operation db actor cursor command) db cursor command a b) (each le other is) reads
-goes-within db actor operation (Err fault) cursor command a b each reads = tt
-
--- and asks for no row
-pub asks-none : (operation : Operation) (le : Option ℕ) (command : ReadingCommand) → is_going (kind_of operation) ≡ true → reading_command operation le ≡ Some command → asks_for_row command ≡ true → ⊥
-asks-none (asks.DeclareCursor object columns conditions) le command goes is = other (declare object columns conditions) command is refl
-asks-none asks.OpenCursor le command goes is = other open_cursor command is refl
-asks-none asks.Next le command goes is = other next command is refl
-asks-none operation le command goes is = absurd cc
 
 -- What doesn't read is no reading command.
 pub reads-none : (operation : Operation) (le : Option ℕ) (command : ReadingCommand) → is_reading (kind_of operation) ≡ false → reading_command operation le ≡ Some command → ⊥

@@ -1,8 +1,7 @@
 -- What a reading command's word, row and cursor make of a session, as the model's move.
-use Rattle.std.proofs.Common.{◌≡◌, ◌≤◌, ◌==◌, ℕ, true, false, List, [], ◌∷◌, length, Option, Some, None, option_map, Result, Ok, Err, if◌then◌else◌, refl, sym, ap, subst, ◌∙◌, arith, inl, inr}
+use Rattle.std.proofs.Common.{◌≡◌, ◌≤◌, ◌==◌, ℕ, true, false, List, [], ◌∷◌, length, Option, Some, None, is_some, option_map, Result, Ok, Err, if◌then◌else◌, refl, sym, ap, subst, ◌∙◌, arith, inl, inr}
 use Rattle.std.specs.Prelude.{IfOk, IfSome, IsTrue, unwrap_or}
-use Rattle.std.proofs.lemmas.Bool.{cases_Bool, eqb-true}
-use Rattle.std.proofs.lemmas.Map.Entries.{option_filter}
+use Rattle.std.proofs.lemmas.Bool.{cases_Bool, eqb-true, false≢true}
 use Rattle.std.proofs.lemmas.Option.{none-some, same_Some}
 use Rattle.eeprom.specs.declared.fault.EepromFault.{EepromFault}
 use Rattle.scql_base.specs.declared.cursor.Cursor.{Cursor}
@@ -12,7 +11,7 @@ use Rattle.scql_base.specs.declared.operation.Operation.TheVariants as asks
 use Rattle.scql_base.specs.declared.records.Object.{Object}
 use Rattle.scql_base.specs.declared.words.Actor.{Actor}
 use Rattle.scql_base.specs.declared.words.StatusWord.{StatusWord}
-use Rattle.scql_base.specs.Words.{conditions_not_satisfied, done, not_found, security_not_satisfied}
+use Rattle.scql_base.specs.Words.{conditions_not_satisfied, done}
 use Rattle.scql_model.specs.Database.{Database}
 use Rattle.scql_model.specs.Machine.{Reading}
 use Rattle.scql_model.specs.Matching.{Values}
@@ -20,13 +19,12 @@ use Rattle.scql_model.specs.Contents.{Contents, contents_of}
 use Rattle.scql_model.specs.Moves.{chosen, gave_more, giving, move_of, moved, rows_under}
 use Rattle.scql_model.specs.Objects.{StampedRow}
 use Rattle.scql_model.specs.Refusals.{◌>>=◌, or_refused}
-use Rattle.scql_model.specs.Rights.{appears, holds, seen_stamped, select_privilege}
+use Rattle.scql_model.specs.Rights.{holds, seen_stamped}
 use Rattle.scql_model.specs.ReadingCommands.{Move, ReadingCommand, fetch, fetch_next, get_response, or_stays, reading_command}
 use Rattle.cursor.specs.Moved.{refuses}
 use Rattle.db_read.specs.Answered.{answered, given, selectable}
 use Rattle.db_read.proofs.Sighted.{asked-Ok}
-use Rattle.scql_model.specs.Operations.{kind_of}
-use Rattle.card.specs.Reading.{Goes, MovesSo, is_going, is_reading, move_to}
+use Rattle.card.specs.Reading.{MovesSo, move_to}
 
 -- a word without a row, as a move
 pub stays-answered : (word : StatusWord) (cursor : Option Cursor) (old pending : List ℕ) → pending ≡ (if refuses word then old else [])
@@ -71,22 +69,10 @@ unfolding move_of
 move-given db actor before command le word cursor values move is stays same =
     ap (or_stays before) is ∙ (from-after-given le word before cursor values stays ∙ same)
 
--- An operation that moves a cursor and gives no octets moves a session so.
-pub MovesSo-goes : (db : Database) (actor : Actor) (c : Command) (before : Reading) (word : StatusWord) (cursor : Option Cursor) (pending : List ℕ) → Goes db actor c.operation word before.cursor cursor
-    → pending ≡ (if refuses word then before.pending else []) → MovesSo db actor c before (move_to [] word cursor pending)
-MovesSo-goes db actor c before word cursor pending goes dropped command is =
-    move-answered db actor before command word cursor pending (goes.moves c.le command before.pending is) goes.stays dropped
-
--- what is said of each pending octets makes it so
-pub Goes-ok : (db : Database) (actor : Actor) (operation : Operation) (r : Result StatusWord EepromFault) (old new : Option Cursor) (command : ReadingCommand)
-    → ((le : Option ℕ) (other : ReadingCommand) → reading_command operation le ≡ Some other → command ≡ other)
-    → ((pending : List ℕ) → IfOk r (λ word. moved db actor (record { cursor = old; pending = pending }) command ≡ answered word new))
-    → IfOk r (λ word. IsTrue (refuses word) → new ≡ old) → IfOk r (λ word. Goes db actor operation word old new)
-Goes-ok db actor operation (Ok word) old new command each moves stays = record {
-  moves = λ le other pending is. subst (λ (command : ReadingCommand). moved db actor (record { cursor = old; pending = pending }) command ≡ answered word new) (each le other is) (moves pending);
-  stays = stays;
-}
-Goes-ok db actor operation (Err fault) old new command each moves stays = tt
+-- what holds of the reading command that an operation is, whatever its Le is
+pub as-said : (P : ReadingCommand → Type 0) (c : Command) (operation : Operation) (said : ReadingCommand) → ((le : Option ℕ) → reading_command operation le ≡ Some said) → c.operation ≡ operation → P said
+    → (command : ReadingCommand) → reading_command c.operation c.le ≡ Some command → P command
+as-said P c operation said reads is holds command asked = subst P (same_Some said command (sym (reads c.le) ∙ (ap (λ (operation : Operation). reading_command operation c.le) (sym is) ∙ asked))) holds
 
 -- A command that gives octets has an Le.
 with_le : (P : ReadingCommand → Type 0) (f : ℕ → ReadingCommand) (operation : Operation) (c : Command) (le : ℕ) → ((o : Option ℕ) → reading_command operation o ≡ option_map f o) → c.operation ≡ operation → le ≡ unwrap_or c.le 256
@@ -131,15 +117,11 @@ le-bounds (Some n) le said is = (omega (arith, said, is.0), omega (arith, said, 
 pub rows_under-may : (db : Database) (actor : Actor) (c : Cursor) (o : Object) → selectable db actor (seen_stamped db actor c.object) ≡ Ok o → rows_under db actor c ≡ Ok (chosen (contents_of db o.stamp) c)
 rows_under-may db actor c o may = asked-Ok db actor (seen_stamped db actor c.object) (λ (x : Object) (contents : Contents). Ok (chosen contents c)) o may
 
--- who may select from an object that was found, and who may not
-pub may-open : (db : Database) (actor : Actor) (o : Object) → appears db actor o ≡ true → holds db actor o select_privilege ≡ true → selectable db actor (option_filter (appears db actor) (Some o)) ≡ Ok o
-may-open db actor o seen may = rw (seen, may) refl
-
-pub may-closed : (db : Database) (actor : Actor) (o : Object) → appears db actor o ≡ true → holds db actor o select_privilege ≡ false → selectable db actor (option_filter (appears db actor) (Some o)) ≡ Err security_not_satisfied
-may-closed db actor o seen may = rw (seen, may) refl
-
-pub may-hidden : (db : Database) (actor : Actor) (o : Object) → appears db actor o ≡ false → selectable db actor (option_filter (appears db actor) (Some o)) ≡ Err not_found
-may-hidden db actor o seen = rw seen refl
+-- and so where it was found
+pub rows_under-found : (db : Database) (actor : Actor) (c : Cursor) (found : Option Object) → is_some found ≡ true → IfSome found (λ (o : Object). selectable db actor (seen_stamped db actor c.object) ≡ Ok o)
+    → (rows : List StampedRow) × (rows_under db actor c ≡ Ok rows)
+rows_under-found db actor c (Some o) there may = (chosen (contents_of db o.stamp) c, rows_under-may db actor c o may)
+rows_under-found db actor c None there may = absurd (false≢true there)
 
 -- GET RESPONSE, by what it finds.
 module _ (db : Database) (actor : Actor) (before : Reading) (le : ℕ) where
@@ -176,13 +158,3 @@ some-pending octets is none = let wrong : true ≡ false = rw none at is in absu
 pub gives-more : (c : Cursor) (le : ℕ) (octets : List ℕ) → (octets ≡ [] → ⊥) → gave_more c le octets ≡ Ok (giving c.place c le octets)
 gives-more c le [] some = absurd (some refl)
 gives-more c le (octet ∷ octets) some = refl
-
--- what reads and gives no octets moves a cursor
-pub going : (operation : Operation) → is_reading (kind_of operation) ≡ true → (operation ≡ asks.GetResponse → ⊥) → (operation ≡ asks.Fetch → ⊥) → (operation ≡ asks.FetchNext → ⊥) → is_going (kind_of operation) ≡ true
-going (asks.DeclareCursor object columns conditions) reads not_more not_fetch not_next = refl
-going asks.OpenCursor reads not_more not_fetch not_next = refl
-going asks.Next reads not_more not_fetch not_next = refl
-going asks.Fetch reads not_more not_fetch not_next = absurd (not_fetch refl)
-going asks.FetchNext reads not_more not_fetch not_next = absurd (not_next refl)
-going asks.GetResponse reads not_more not_fetch not_next = absurd (not_more refl)
-going operation reads not_more not_fetch not_next = absurd cc

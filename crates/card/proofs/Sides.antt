@@ -23,7 +23,8 @@ use Rattle.scql_model.specs.Sessions.{without_pending}
 use Rattle.scql_model.specs.Machine.{Machine, Session, Transaction, base, base_of}
 use Rattle.scql_model.specs.ValidMachine.{IsValidWork}
 use Rattle.card.specs.Answering.{changing_session, settled}
-use Rattle.db_read.specs.Scan.{IsRightFor, TableRows}
+use Rattle.db_read.specs.Scan as scans
+use Rattle.db_read.specs.Scan.{IsRightFor}
 use Rattle.scql_base.specs.declared.words.Actor.{Actor}
 use Rattle.scql_model.specs.Sessions.{reading_so}
 use Rattle.scql_model.specs.Machine.{Reading}
@@ -197,7 +198,7 @@ IsReady-sessions card chip sessions users cursors ready = record { stands = Stan
     }
 
 -- A card is ready whose channel has read, for who acts on it, where what was found is right for the cursor.
-pub IsReady-read : (card : Kept) (chip : Chip) (channel : ℕ) (reading : Reading) (actor : Actor) (scan : Option TableRows) → StandsOver card chip
+pub IsReady-read : (card : Kept) (chip : Chip) (channel : ℕ) (reading : Reading) (actor : Actor) (scan : Option scans.Found) → StandsOver card chip
     → ((db : Database) → IsHeld card.store (side_of card.transaction channel) chip db → actor ≡ acting db (proved_user (session_on card.sessions channel)))
     → ((db : Database) → IsHeld card.store (side_of card.transaction channel) chip db → IsRightFor db actor scan reading.cursor)
     → IsReady (record (changing_session (reading_so reading) card channel) { found = record { last = Some (record { channel = channel; actor = actor }); scan = scan } }) chip

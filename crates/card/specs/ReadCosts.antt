@@ -3,7 +3,6 @@ use Rattle.std.specs.Prelude.{◌≡◌, ℕ, ◌+◌, Bool, true, false, List, 
 use Rattle.eeprom.specs.Chip.{Becomes, RisesAtMost}
 use Rattle.scql_base.specs.declared.cursor.Cursor.{Cursor}
 use Rattle.scql_base.specs.declared.operation.Command.{Command}
-use Rattle.scql_base.specs.declared.operation.Operation.{Operation}
 use Rattle.scql_base.specs.declared.words.Actor.{Actor}
 use Rattle.scql_model.specs.Accepting.{channel_named}
 use Rattle.scql_model.specs.Database.{Database}
@@ -53,11 +52,6 @@ ReadsRow db cursor command move before after = asks_for_row command ≡ true →
 pub record ReadsOctets (most : ℕ) (db : Database) (actor : Actor) (reading : Reading) (command : ReadingCommand) (before after : Option ℕ) : Type 0 where
   pub within : ReadsWithin most db reading.cursor command before after
   pub row : ReadsRow db reading.cursor command (move_of db actor reading command) before after
-
--- for the operation that it is, which moves a cursor and gives no octets
-abbrev pub GoesWithin : Database → Actor → Operation → Option Cursor → Option ℕ → Option ℕ → Type 0
-GoesWithin db actor operation cursor before after = (le : Option ℕ) (command : ReadingCommand) → reading_command operation le ≡ Some command
-    → ReadsWithin (octets_for_operation db actor cursor command) db cursor command before after
 
 -- for the reading command that a command is, without the search for the actor
 abbrev pub OperatesWithin : Database → Actor → Command → Reading → Option ℕ → Option ℕ → Type 0

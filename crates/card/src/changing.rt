@@ -46,12 +46,14 @@ pub(crate) fn changes_rows(operation: &Operation) -> bool
 }
 
 /// Changes the database by an operation, for the user of this stamp or for the public, through a cursor where it is UPDATE or DELETE,
-/// and commits it. Where the operation is refused nothing is written, and the word of the refusal is answered.
+/// and commits it. Where the operation is refused nothing is written, and the word of the refusal is answered. For whom the user acts
+/// isn't looked for where it is known.
 pub(crate) fn change<B: Eeprom>(
     store: &mut Store,
     bench: &mut B,
     index: &mut RowIndex,
     user: Option<u32>,
+    known: Option<Actor>,
     cursor: &Option<Cursor>,
     operation: &Operation,
     scan: &Scan,
@@ -61,6 +63,7 @@ pub(crate) fn change<B: Eeprom>(
     requires holds { HoldsSome store.old Committed (B.chip bench.old) }
     requires index_idle { index.old.begun ≡ false }
     requires index { Indexes index.old store.old (B.chip bench.old) }
+    requires known { (db : Database) → IsHeld store.old Committed (B.chip bench.old) db → IfSome known (λ actor. actor ≡ acting db user) }
     requires right { (db : Database) → IsHeld store.old Committed (B.chip bench.old) db → IsRightFor db (acting db user) scan.now cursor.now }
     requires changes { IsChange operation.now }
     requires formed { HasForm operation.now }
@@ -77,7 +80,7 @@ pub(crate) fn change<B: Eeprom>(
     ensures behind { Keeps (drop (image_size store.old.chains.cells)) (B.chip bench.old) (B.chip bench.new) }
     ensures cause { Counts (B.faults bench.old) (B.faults bench.new) result }
 {
-    let actor = actor_of(store, bench, Side::Committed, user)?;
+    let actor = actor_known(store, bench, Side::Committed, user, known)?;
     store.begin();
     index.begin();
     match make(store, bench, index, actor, cursor, operation, scan) {
@@ -101,6 +104,7 @@ pub(crate) fn change_within<B: Eeprom>(
     bench: &mut B,
     index: &mut RowIndex,
     user: Option<u32>,
+    known: Option<Actor>,
     cursor: &Option<Cursor>,
     operation: &Operation,
     scan: &Scan,
@@ -111,6 +115,7 @@ pub(crate) fn change_within<B: Eeprom>(
     requires index_begun { IsTrue index.old.begun }
     requires index { Indexes index.old store.old (B.chip bench.old) }
     requires last { (db : Database) → IsHeld store.old Working (B.chip bench.old) db → is_above db.next index.old.committed ≡ true }
+    requires known { (db : Database) → IsHeld store.old Working (B.chip bench.old) db → IfSome known (λ actor. actor ≡ acting db user) }
     requires right { (db : Database) → IsHeld store.old Working (B.chip bench.old) db → IsRightFor db (acting db user) scan.now cursor.now }
     requires changes { IsChange operation.now }
     requires formed { HasForm operation.now }
@@ -129,7 +134,7 @@ pub(crate) fn change_within<B: Eeprom>(
     ensures behind { Keeps (drop (image_size store.old.chains.cells)) (B.chip bench.old) (B.chip bench.new) }
     ensures cause { Counts (B.faults bench.old) (B.faults bench.new) result }
 {
-    let actor = actor_of(store, bench, Side::Working, user)?;
+    let actor = actor_known(store, bench, Side::Working, user, known)?;
     match make(store, bench, index, actor, cursor, operation, scan) {
         Ok(()) => Ok(StatusWord::DONE),
         Err(Stop::Refused { word }) => Ok(word),
@@ -263,6 +268,25 @@ fn make_without_cursor<B: Eeprom>(
         } => create_user(store, bench, actor, name.copy(), *profile, secret),
         Operation::DeleteUser { name } => delete_user(store, bench, actor, name.copy()),
         _ => unreachable!(),
+    }
+}
+
+// For whom the user of a stamp acts, which isn't looked for where it is known.
+fn actor_known<B: Eeprom>(
+    store: &Store,
+    bench: &mut B,
+    side: Side,
+    user: Option<u32>,
+    known: Option<Actor>,
+) -> Result<Actor, EepromFault>
+    requires over { IsOver store.now (B.chip bench.old) }
+    requires known { (db : Database) → IsHeld store.now side (B.chip bench.old) db → IfSome known (λ actor. actor ≡ acting db user) }
+    ensures actor { (db : Database) → IsHeld store.now side (B.chip bench.old) db → IfOk result (λ actor. actor ≡ acting db user) }
+    ensures frame { Reads each_error B.chip B.faults bench.old bench.new result }
+{
+    match known {
+        Some(actor) => Ok(actor),
+        None => actor_of(store, bench, side, user),
     }
 }
 

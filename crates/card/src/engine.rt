@@ -46,6 +46,7 @@ use crate::session::Session;
 use apdu::Reply;
 use apdu_chain::{Chains, Taken};
 use db_access::present;
+use db_read::Reader;
 use eeprom::{Eeprom, EepromFault, Heap};
 use record_store::Store;
 use row_index::RowIndex;
@@ -288,17 +289,21 @@ impl Engine {
         let Some(session) = &mut self.sessions[usize::from(channel)] else {
             unreachable!();
         };
-        let word = read(
-            &self.store,
+        let mut reader = Reader {
+            store: &self.store,
+            index: &self.index,
             bench,
-            &self.index,
             side,
+        };
+        let scan = &mut self.found.scan;
+        let word = read(
+            &mut reader,
             session,
             actor,
             command,
             reply,
             &mut *self.row,
-            &mut self.found.scan,
+            scan,
         )?;
         self.found.last = Some(ChannelActor { channel, actor });
         Ok(word)
@@ -387,7 +392,7 @@ impl Engine {
         ensures cells { OnOk result (self.new.store.chains.cells ≡ self.old.store.chains.cells) }
         ensures behind { Keeps (drop (image_size self.old.store.chains.cells)) (B.chip bench.old) (B.chip bench.new) }
     {
-        self.let_go_of_others(channel);
+        let known = self.known_actor(channel);
         let user = self.proved_user(channel);
         let Engine {
             store,
@@ -403,23 +408,45 @@ impl Engine {
             unreachable!();
         };
         let word = match transaction {
-            None => change(store, bench, index, user, &session.cursor, operation, scan)?,
-            Some(_) => change_within(store, bench, index, user, &session.cursor, operation, scan)?,
+            None => change(
+                store,
+                bench,
+                index,
+                user,
+                known,
+                &session.cursor,
+                operation,
+                scan,
+            )?,
+            Some(_) => change_within(
+                store,
+                bench,
+                index,
+                user,
+                known,
+                &session.cursor,
+                operation,
+                scan,
+            )?,
         };
         self.settle(channel, word);
         Ok(word)
     }
 
-    // What was found for another channel is let go.
-    fn let_go_of_others(&mut self, channel: u8)
+    // Who acts on a channel, where that was found. What was found for another channel is let go.
+    fn known_actor(&mut self, channel: u8) -> Option<Actor>
         ensures kept { self.new ≡ record self.old { found = self.new.found } }
         ensures found { (chip : Chip) → FindsAgain self.old chip → FindsAgain self.new chip }
+        ensures actor { (chip : Chip) (db : Database) → FindsAgain self.old chip → IsHeld self.old.store (side_of self.old.transaction channel) chip db
+            → IfSome result (λ actor. actor ≡ acting db (proved_user (session_on self.old.sessions channel))) }
         ensures right { (chip : Chip) (db : Database) → FindsAgain self.old chip → IsHeld self.old.store (side_of self.old.transaction channel) chip db
             → IsRightFor db (acting db (proved_user (session_on self.old.sessions channel))) self.new.found.scan (cursor_on self.old.sessions channel) }
     {
-        if self.found.actor_on(channel).is_none() {
+        let known = self.found.actor_on(channel);
+        if known.is_none() {
             self.found.forget();
         }
+        known
     }
 
     // The stamp of a channel's user, where that one is proved.

@@ -1,9 +1,9 @@
 -- What is chosen of the table under a cursor is what the rows under the cursor are.
-use Rattle.std.proofs.Common.{◌≡◌, ℕ, ◌≤◌, ◌==◌, nat_le, nat_lt, Bool, true, false, ◌&&◌, List, [], ◌∷◌, length, map, Option, Some, Ok, refl, sym, ap, subst, ◌∙◌, inl, inr, arith}
-use Rattle.std.specs.Prelude.{IfSome}
+use Rattle.std.proofs.Common.{◌≡◌, ℕ, ◌≤◌, ◌==◌, nat_le, nat_lt, Bool, true, false, ◌&&◌, List, [], ◌∷◌, length, map, Option, Some, None, is_some, Ok, refl, sym, ap, subst, ◌∙◌, inl, inr, arith}
+use Rattle.std.specs.Prelude.{IfSome, if◌then◌else◌, option_map}
 use Rattle.std.specs.List.{filter, list_all}
 use Rattle.std.specs.Option.{option_map_or}
-use Rattle.std.proofs.lemmas.Bool.{and_parts, and_from, cases_Bool, eqb-true, leb-true, ltb-true, lt-ltb}
+use Rattle.std.proofs.lemmas.Bool.{and_parts, and_from, cases_Bool, eqb-true, false≢true, leb-true, ltb-true, lt-ltb}
 use Rattle.std.proofs.lemmas.List.Folds.{list_all-map}
 use Rattle.std.proofs.lemmas.Option.{same_Some}
 use Rattle.eeprom.specs.Chip.{Chip}
@@ -12,6 +12,7 @@ use Rattle.record_store.specs.declared.side.Side.{Side}
 use Rattle.scql_base.specs.Row.{is_narrow, row_size}
 use Rattle.scql_base.specs.declared.condition.Condition.{Condition}
 use Rattle.scql_base.specs.declared.cursor.Cursor.{Cursor}
+use Rattle.scql_base.specs.declared.cursor.Place.{Place}
 use Rattle.scql_base.specs.declared.records.Object.{Object}
 use Rattle.scql_base.specs.declared.records.ObjectKind.TheVariants.{Table}
 use Rattle.scql_base.specs.declared.records.RowRecord.{RowRecord}
@@ -19,6 +20,7 @@ use Rattle.scql_base.specs.declared.words.Actor.{Actor}
 use Rattle.scql_model.specs.Contents.{Contents, contents_of, narrowed}
 use Rattle.scql_model.specs.Cursors.{IsCursorOf}
 use Rattle.scql_model.specs.Database.{Database, are_among, are_named_among, is_table, object_stamped}
+use Rattle.scql_model.specs.Defining.{is_table_or_view}
 use Rattle.scql_model.specs.Matching.{Columns}
 use Rattle.scql_model.specs.Moves as moves
 use Rattle.scql_model.specs.Objects.{StampedRow, columns_of}
@@ -38,10 +40,9 @@ use Rattle.scql_model.proofs.KnownNames.{IsKnown, IsKnown-resolved_of, among-wit
 use Rattle.db_read.specs.Answered.{AreCostsOf, Chooses, selectable}
 use Rattle.db_read.specs.Chosen.{are_rising, can_cut, can_show, chosen_rows, costs_shown, is_chosen, is_shown, rows_shown, shown_row}
 use Rattle.db_read.specs.Costs.{row_costs}
-use Rattle.db_read.specs.Scan.{GoesOver, TableRows}
-use Rattle.db_read.specs.Told.{Tells, costs_of}
-use Rattle.db_read.specs.declared.choosing.Choice.TheVariants.{OfTable}
-use Rattle.db_read.specs.declared.choosing.Chosen.{Chosen}
+use Rattle.db_read.specs.Scan.{Found, GoesOver, IsChosenFor, IsFor, IsResolved, IsRight, found_in, found_of}
+use Rattle.db_read.specs.declared.chosen.Chosen.{Chosen}
+use Rattle.db_read.specs.declared.scan.Choice.{Choice}
 use Rattle.db_read.proofs.HeldCosts.{costs-held}
 use Rattle.db_read.proofs.Sighted.{asked-Ok, object-stamped, own-stamp, selectable-parts}
 use Rattle.db_read.proofs.Through.{are_rising-rises, chosen-through, cut-fits}
@@ -153,7 +154,7 @@ module _ (store : Held) (side : Side) (chip : Chip) (db : Database) (actor : Act
         cells = λ passes. costs-held chosen.table passes held.slots db held.holds ∙ rw (base, of_model) refl;
       }
 
-      pub Chooses-chosen : Chooses db actor c (Tells (OfTable chosen) store side chip) (costs_of (OfTable chosen) (slots_of store side chip))
+      pub Chooses-chosen : Chooses db actor c (λ rows. rows_shown chosen (slots_of store side chip) ≡ Some rows) (costs_shown chosen (slots_of store side chip))
       Chooses-chosen = record {
         rows = chosen_rows chosen db.rows;
         under = asked-Ok db actor (seen_stamped db actor c.object) (λ (x : Object) (contents : Contents). Ok (moves.chosen contents c)) o selects ∙ ap Ok through;
@@ -164,42 +165,125 @@ module _ (store : Held) (side : Side) (chip : Chip) (db : Database) (actor : Act
       }
 
 -- what was found for a cursor is what it chooses
-pub Chooses-over : (store : Held) (side : Side) (chip : Chip) (db : Database) (actor : Actor) (c : Cursor) (p : TableRows) → IsHeld store side chip db → IsCursorOf db c → GoesOver db actor c p
+pub Chooses-over : (store : Held) (side : Side) (chip : Chip) (db : Database) (actor : Actor) (c : Cursor) (p : Found) → IsHeld store side chip db → IsCursorOf db c → GoesOver db actor c p
     → (chosen : Chosen) → chosen.table ≡ p.table → chosen.places.now.items ≡ p.places → chosen.conditions.now ≡ p.conditions → chosen.filters.now ≡ p.filters
-    → Chooses db actor c (Tells (OfTable chosen) store side chip) (costs_of (OfTable chosen) (slots_of store side chip))
+    → Chooses db actor c (λ rows. rows_shown chosen (slots_of store side chip) ≡ Some rows) (costs_shown chosen (slots_of store side chip))
 Chooses-over store side chip db actor c p held cursor over chosen table places conditions filters =
     let all = over.seen.all in
     Chooses-chosen store side chip db actor c p.object held cursor over.selects over.seen over.resolved chosen (table ∙ over.table)
     (subst (λ (x : List (List Placed)). AreBound x all over.seen.filters) (sym filters) over.filters) (subst (λ (x : List ℕ). ArePlaces x all c.columns) (sym places) over.places)
     (subst (λ (x : List Placed). Binds x all c.conditions) (sym conditions) over.conditions) over.few
 
-module _ (store : Held) (side : Side) (chip : Chip) (db : Database) (actor : Actor) (c : Cursor) (o : Object) (held : IsHeld store side chip db) (selects : selectable db actor (seen_stamped db actor c.object) ≡ Ok o) (p : TableRows) where
-  -- what is found of a table
-  pub over-table : (columns : Columns) → o.kind ≡ Table columns → p.object ≡ o → p.table ≡ o.stamp → p.all ≡ columns → p.filters ≡ [] → ArePlaces p.places p.all c.columns → Binds p.conditions p.all c.conditions → length c.columns ≤ 15 → GoesOver db actor c p
-  unfolding model.resolved_of
-  over-table columns kind object table all none places binds few = record {
-    seen = record { table = o.stamp; all = columns; columns = columns; filters = [] };
-    selects = selects ∙ ap Ok (sym object);
-    resolved = rw (object, stamp-found store side chip db actor c o held selects, kind) refl;
-    table = table;
-    all = all;
-    places = subst (λ (all : Columns). ArePlaces p.places all c.columns) all places;
-    conditions = subst (λ (all : Columns). Binds p.conditions all c.conditions) all binds;
-    filters = subst (λ (filters : List (List Placed)). AreBound filters columns []) (sym none) tt;
-    few = few;
-  }
+-- what was chosen of a table
+pub chooses-table : (store : Held) (side : Side) (chip : Chip) (db : Database) (actor : Actor) (c : Cursor) (k : Choice) → IsHeld store side chip db → IsCursorOf db c → IsChosenFor db actor c k → IfSome k.object (λ (o : Object). is_table_or_view o.kind ≡ true)
+    → (chosen : Chosen) → chosen.table ≡ k.resolved.table → chosen.places.now ≡ k.places → chosen.conditions.now ≡ k.conditions → chosen.filters.now ≡ k.resolved.filters.items
+    → Chooses db actor c (λ rows. rows_shown chosen (slots_of store side chip) ≡ Some rows) (costs_shown chosen (slots_of store side chip))
+chooses-table store side chip db actor c k held cursor is kind chosen table places conditions filters = of k.object is kind
+  where
+    of : (object : Option Object) → (is_some object ≡ true) × IfSome object (λ (o : Object). IsFor db actor c (found_of o k)) → IfSome object (λ (o : Object). is_table_or_view o.kind ≡ true)
+        → Chooses db actor c (λ rows. rows_shown chosen (slots_of store side chip) ≡ Some rows) (costs_shown chosen (slots_of store side chip))
+    of (Some o) is kind = Chooses-over store side chip db actor c (found_of o k) held cursor (is.1.table kind) chosen table (ap (λ places. places.items) places) conditions filters
+    of None is kind = absurd (false≢true is.0)
 
-  -- what is found of the table under a view
-  pub over-view : (answer : Resolved) (resolves : Resolves db.objects o.stamp answer) → p.object ≡ o → p.table ≡ answer.table → p.all ≡ answer.all → p.filters ≡ answer.filters.items → ArePlaces p.places p.all c.columns → Binds p.conditions p.all c.conditions → length c.columns ≤ 15
-      → GoesOver db actor c p
-  over-view answer resolves object table all filters places binds few = record {
-    seen = resolves.is;
+-- what was found of an object is for the cursor on it
+pub is-for : (db : Database) (actor : Actor) (c : Cursor) (o : Object) (answer : Resolved) (p : Found) → selectable db actor (seen_stamped db actor c.object) ≡ Ok o → IsResolved db.objects o answer
+    → p.object ≡ o → p.table ≡ answer.table → p.all ≡ answer.all → p.filters ≡ answer.filters.items → ArePlaces p.places p.all c.columns → Binds p.conditions p.all c.conditions → length c.columns ≤ 15 → IsFor db actor c p
+is-for db actor c o answer p selects resolves object table all filters places binds few = record {
+  table = λ is. let rests = resolves.table (subst (λ (x : Object). is_table_or_view x.kind ≡ true) object is) in record {
+    seen = rests.seen;
     selects = selects ∙ ap Ok (sym object);
-    resolved = rw object resolves.resolved;
-    table = table ∙ resolves.stands.table;
-    all = all ∙ resolves.stands.all;
-    places = subst (λ (all : Columns). ArePlaces p.places all c.columns) (all ∙ resolves.stands.all) places;
-    conditions = subst (λ (all : Columns). Binds p.conditions all c.conditions) (all ∙ resolves.stands.all) binds;
-    filters = subst (λ (x : List (List Placed)). AreBound x resolves.is.all resolves.is.filters) (sym filters) resolves.stands.filters;
+    resolved = ap (λ (x : Object). model.resolved_of db.objects x.stamp) object ∙ rests.resolved;
+    table = table ∙ rests.reaches.table;
+    all = all ∙ rests.reaches.all;
+    places = subst (λ (all : Columns). ArePlaces p.places all c.columns) (all ∙ rests.reaches.all) places;
+    conditions = subst (λ (all : Columns). Binds p.conditions all c.conditions) (all ∙ rests.reaches.all) binds;
+    filters = subst (λ (x : List (List Placed)). AreBound x rests.seen.all rests.seen.filters) (sym filters) rests.reaches.filters;
     few = few;
-  }
+  };
+  told = λ is. record {
+    selects = selects ∙ ap Ok (sym object);
+    all = all ∙ (resolves.told (subst (λ (x : Object). is_table_or_view x.kind ≡ false) object is) ∙ ap (λ (x : Object). columns_of x.kind) (sym object));
+    places = places;
+    conditions = binds;
+    few = few;
+  };
+}
+
+-- a table rests on itself,
+pub resolved-table : (objects : List Object) (o : Object) (columns : Columns) (answer : Resolved) → object_stamped objects o.stamp ≡ Some o → o.kind ≡ Table columns → answer.table ≡ o.stamp → answer.all ≡ columns → answer.filters.items ≡ []
+    → IsResolved objects o answer
+unfolding model.resolved_of
+resolved-table objects o columns answer at kind table all none = record {
+  table = λ is. record {
+    seen = record { table = o.stamp; all = columns; columns = columns; filters = [] };
+    resolved = rw (at, kind) refl;
+    reaches = record {
+      table = table;
+      all = all;
+      filters = subst (λ (filters : List (List Placed)). AreBound filters columns []) (sym none) tt;
+    };
+  };
+  told = λ is. absurd (false≢true (sym is ∙ ap is_table_or_view kind));
+}
+
+-- a view on what it shows,
+pub resolved-view : (objects : List Object) (o : Object) (answer : Resolved) → is_table_or_view o.kind ≡ true → Resolves objects o.stamp answer → IsResolved objects o answer
+resolved-view objects o answer kind resolves = record {
+  table = λ is. record {
+    seen = resolves.is;
+    resolved = resolves.resolved;
+    reaches = record { table = resolves.stands.table; all = resolves.stands.all; filters = resolves.stands.filters };
+  };
+  told = λ is. absurd (false≢true (sym is ∙ kind));
+}
+
+-- and a dictionary has its own columns
+pub resolved-told : (objects : List Object) (o : Object) (answer : Resolved) → is_table_or_view o.kind ≡ false → answer.all ≡ columns_of o.kind → IsResolved objects o answer
+resolved-told objects o answer kind all = record {
+  table = λ is. absurd (false≢true (sym kind ∙ is));
+  told = λ is. all;
+}
+
+-- the cursor's names are among all of its object's columns
+pub named-resolved : (store : Held) (side : Side) (chip : Chip) (db : Database) (actor : Actor) (c : Cursor) (o : Object) (answer : Resolved) → IsHeld store side chip db → IsCursorOf db c
+    → selectable db actor (seen_stamped db actor c.object) ≡ Ok o → IsResolved db.objects o answer → are_named_among answer.all c.columns c.conditions ≡ true
+named-resolved store side chip db actor c o answer held cursor selects resolves =
+    elim (cases_Bool (is_table_or_view o.kind)) [
+      | inl t ↦ (let rests = resolves.table t in named-all store side chip db actor c o held cursor selects rests.seen rests.resolved answer.all rests.reaches.all)
+      | inr f ↦ named-columns store side chip db actor c o held cursor selects answer.all (resolves.told f)
+    ]
+
+-- what a scan has found was chosen
+pub found-chosen : (db : Database) (actor : Actor) (c : Cursor) (is_found : Bool) (k : Choice) (scan : Option Found) → found_in is_found k ≡ scan → is_some scan ≡ true → IsRight db actor scan c → IsChosenFor db actor c k
+found-chosen db actor c is_found k scan is some right =
+    of is_found k.object (subst (λ (o : Option Found). IfSome o (IsFor db actor c)) (sym is) right) (ap is_some is ∙ some)
+  where
+    of : (is_found : Bool) (object : Option Object) → IfSome (if is_found then option_map (λ (o : Object). found_of o k) object else None) (IsFor db actor c) → is_some (if is_found then option_map (λ (o : Object). found_of o k) object else None) ≡ true
+        → (is_some object ≡ true) × IfSome object (λ (o : Object). IsFor db actor c (found_of o k))
+    of true (Some o) right some = (refl, right)
+    of true None right some = absurd (false≢true some)
+    of false object right some = absurd (false≢true some)
+
+-- wherever the cursor stands
+pub right-moved : (db : Database) (actor : Actor) (c : Cursor) (to : Place) (scan : Option Found) → IsRight db actor scan c → IsRight db actor scan (record c { place = to })
+right-moved db actor c to None right = tt
+right-moved db actor c to (Some p) right = record {
+  table = λ is. let over = right.table is in record {
+    seen = over.seen;
+    selects = over.selects;
+    resolved = over.resolved;
+    table = over.table;
+    all = over.all;
+    places = over.places;
+    conditions = over.conditions;
+    filters = over.filters;
+    few = over.few;
+  };
+  told = λ is. let over = right.told is in record {
+    selects = over.selects;
+    all = over.all;
+    places = over.places;
+    conditions = over.conditions;
+    few = over.few;
+  };
+}

@@ -33,11 +33,14 @@ use Rattle.scql_model.proofs.ContentsRise.{Rises-contents_of}
 use Rattle.scql_model.proofs.ReadingIsShown.{IsReadable-valid}
 use Rattle.record_table.specs.Making.{IsHeld}
 use Rattle.search_cond.specs.Bound.{Binds}
+use Rattle.search_cond.specs.declared.placed.Placed.{Placed}
 use Rattle.views.specs.Resolved.{ArePlaces}
 use Rattle.cursor.specs.Moved.{AreStamped}
 use Rattle.db_read.specs.Answered.{Chooses, selectable}
 use Rattle.db_read.specs.Chosen.{values_at}
+use Rattle.db_read.specs.Scan.{IsChosenFor, IsFor, found_of}
 use Rattle.db_read.specs.Told.{TellsRows, as_shown, chosen_told, meets}
+use Rattle.db_read.specs.declared.scan.Choice.{Choice}
 use Rattle.db_read.specs.declared.telling.Told.{Told}
 use Rattle.db_read.proofs.Chooses.{all-kept}
 use Rattle.db_read.proofs.Sighted.{asked-Ok, object-stamped, own-stamp, selectable-parts}
@@ -55,14 +58,14 @@ unfolding contents_of
 dictionary-contents db stamp o subject is kind = rw (is, kind) refl
 
 -- the rows of a dictionary under columns and conditions
-told-narrowed : (told : Told) (all wanted : Columns) (conditions : List Condition) (rows : List StampedRow) → ArePlaces told.places.items all wanted → Binds told.conditions.now all conditions
+told-narrowed : (told : Told) (all wanted : Columns) (conditions : List Condition) (rows : List StampedRow) → ArePlaces told.places.now.items all wanted → Binds told.conditions.now all conditions
     → narrowed wanted conditions (record { columns = all; rows = rows }) ≡ chosen_told told rows
 told-narrowed told all wanted conditions [] places binds = refl
 told-narrowed told all wanted conditions (r ∷ rows) places binds =
     let rest = told-narrowed told all wanted conditions rows places binds in
     elim (cases_Bool (meets told r)) [
       | inl t ↦ (let own = sym (binds r.values) ∙ t in
-          rw (t, own) (ap (λ (v : Values). let row : StampedRow = record { stamp = r.stamp; values = v } in row ∷ narrowed wanted conditions (record { columns = all; rows = rows })) (sym (values-placed told.places.items all wanted r.values places))
+          rw (t, own) (ap (λ (v : Values). let row : StampedRow = record { stamp = r.stamp; values = v } in row ∷ narrowed wanted conditions (record { columns = all; rows = rows })) (sym (values-placed told.places.now.items all wanted r.values places))
           ∙ ap (λ (more : List StampedRow). as_shown told r ∷ more) rest))
       | inr f ↦ (let own = sym (binds r.values) ∙ f in rw (f, own) rest)
     ]
@@ -119,11 +122,7 @@ module _ (store : Held) (side : Side) (chip : Chip) (db : Database) (actor : Act
   named : are_named_among (columns_of o.kind) c.columns c.conditions ≡ true
   named = subst (λ (found : Option Object). IfSome found (λ x. are_named_among (columns_of x.kind) c.columns c.conditions ≡ true)) at cursor.named
 
-  -- the cursor's names are columns of the dictionary
-  pub named-told : (all : Columns) → all ≡ columns_of o.kind → are_named_among all c.columns c.conditions ≡ true
-  named-told all is = subst (λ (x : Columns). are_named_among x c.columns c.conditions ≡ true) (sym is) named
-
-  module _ (told : Told) (dictionary : told.dictionary.now ≡ o) (places : ArePlaces told.places.items (columns_of o.kind) c.columns) (binds : Binds told.conditions.now (columns_of o.kind) c.conditions)
+  module _ (told : Told) (dictionary : told.dictionary.now ≡ o) (places : ArePlaces told.places.now.items (columns_of o.kind) c.columns) (binds : Binds told.conditions.now (columns_of o.kind) c.conditions)
       (few : length c.columns ≤ 15) (subject : Subject) (kind : o.kind ≡ Dictionary subject) where
     columns : columns_of o.kind ≡ dictionary_columns subject
     columns = ap columns_of kind
@@ -141,11 +140,11 @@ module _ (store : Held) (side : Side) (chip : Chip) (db : Database) (actor : Act
         list_all-map (λ (r : StampedRow). nat_lt 0 r.stamp) (as_shown told) (filter (meets told) (rows_told db told.dictionary.now.owner subject))
         ∙ kept-above (λ (r : StampedRow). nat_lt 0 r.stamp) (meets told) (rows_told db told.dictionary.now.owner subject) (stamped-told db told.dictionary.now.owner subject held.valid)
 
-    cuts : (values : Values) → IsRow values → length values ≡ length (dictionary_columns subject) → are_a_row (values_at told.places.items values) ≡ true
+    cuts : (values : Values) → IsRow values → length values ≡ length (dictionary_columns subject) → are_a_row (values_at told.places.now.items values) ≡ true
     cuts values row wide =
         let among = (and_parts (are_among c.columns (columns_of o.kind)) (are_among (map (λ (x : Condition). x.column) c.conditions) (columns_of o.kind)) named).0 in
-        let shown_values = values_at told.places.items values in
-        (and_parts (are_a_row shown_values) (nat_le (row_size shown_values) (row_size values)) (cut-fits told.places.items (columns_of o.kind) c.columns values places few cursor.different among (ap (length {A = List ℕ}) columns ∙ sym wide) row.widths row.size)).0
+        let shown_values = values_at told.places.now.items values in
+        (and_parts (are_a_row shown_values) (nat_le (row_size shown_values) (row_size values)) (cut-fits told.places.now.items (columns_of o.kind) c.columns values places few cursor.different among (ap (length {A = List ℕ}) columns ∙ sym wide) row.widths row.size)).0
 
     pub Chooses-told : Chooses db actor c (TellsRows told store side chip) None
     Chooses-told = record {
@@ -164,3 +163,16 @@ module _ (store : Held) (side : Side) (chip : Chip) (db : Database) (actor : Act
       stamped = are-stamped;
       costs_are = λ on_table. absurd (false≢true (sym other ∙ subst (λ (found : Option Object). IfSome found (λ x. is_table_or_view x.kind ≡ true)) at on_table));
     }
+
+-- what was chosen of a dictionary
+pub chooses-told : (store : Held) (side : Side) (chip : Chip) (db : Database) (actor : Actor) (c : Cursor) (k : Choice) → IsHeld store side chip db → IsCursorOf db c → IsChosenFor db actor c k
+    → (told : Told) → k.object ≡ Some told.dictionary.now → is_table_or_view told.dictionary.now.kind ≡ false → told.places.now ≡ k.places → told.conditions.now ≡ k.conditions → Chooses db actor c (TellsRows told store side chip) None
+chooses-told store side chip db actor c k held cursor is told there other places conditions =
+    let o = told.dictionary.now in
+    let chosen : IfSome (Some o) (λ (o : Object). IsFor db actor c (found_of o k)) = subst (λ (object : Option Object). IfSome object (λ (o : Object). IsFor db actor c (found_of o k))) there is.1 in
+    let goes = chosen.told other in
+    let kind = dictionary-kind o.kind other in
+    let own : ArePlaces k.places.items (columns_of o.kind) c.columns = subst (λ (all : Columns). ArePlaces k.places.items all c.columns) goes.all goes.places in
+    let binds : Binds k.conditions (columns_of o.kind) c.conditions = subst (λ (all : Columns). Binds k.conditions all c.conditions) goes.all goes.conditions in
+    Chooses-told store side chip db actor c o held cursor goes.selects other told refl (subst (λ (places : List ℕ). ArePlaces places (columns_of o.kind) c.columns) (sym (ap (λ places. places.items) places)) own)
+    (subst (λ (bound : List Placed). Binds bound (columns_of o.kind) c.conditions) (sym conditions) binds) goes.few kind.0 kind.1

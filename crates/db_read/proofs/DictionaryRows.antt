@@ -85,7 +85,7 @@ stamp-shown told None values found is = ap (option_map (λ (row : StampedRow). r
 stamp-shown told (Some stamp) values found is = ap (option_map (λ (row : StampedRow). row.stamp)) is
 
 -- and is handed out so
-pub handed-shown : (told : Told) (next : ℕ) (values cut : Values) (found : Option StampedRow) → shown_told told (Some next) values ≡ found → cut ≡ values_at told.places.items values → row_handed (Some next) cut ≡ found
+pub handed-shown : (told : Told) (next : ℕ) (values cut : Values) (found : Option StampedRow) → shown_told told (Some next) values ≡ found → cut ≡ values_at told.places.now.items values → row_handed (Some next) cut ≡ found
 handed-shown told next values cut found is same = ap (row_handed (Some next)) same ∙ is
 
 -- the chosen rows behind a stamp
@@ -160,9 +160,9 @@ stamp-behind stamp before (x ∷ rows) is rises =
 -- what is shown of the row that comes next, if it has this stamp and is chosen
 abbrev pub shown_at : Told → ℕ → Option ℕ → Values → Option Values
 shown_at told stamp next values =
-    option_map (λ (r : StampedRow). values_at told.places.items r.values) (option_filter (meets told) (option_filter (has row_stamp stamp) (option_map (λ found. record { stamp = found; values = values }) next)))
+    option_map (λ (r : StampedRow). values_at told.places.now.items r.values) (option_filter (meets told) (option_filter (has row_stamp stamp) (option_map (λ found. record { stamp = found; values = values }) next)))
 
-values-shown : (told : Told) (o : Option StampedRow) → option_map (λ (row : StampedRow). row.values) (option_map (as_shown told) o) ≡ option_map (λ (r : StampedRow). values_at told.places.items r.values) o
+values-shown : (told : Told) (o : Option StampedRow) → option_map (λ (row : StampedRow). row.values) (option_map (as_shown told) o) ≡ option_map (λ (r : StampedRow). values_at told.places.now.items r.values) o
 values-shown told None = refl
 values-shown told (Some r) = refl
 
@@ -225,7 +225,7 @@ module _ (told : Told) (store : Held) (side : Side) (chip : Chip) where
 
   -- a row that comes next is as wide as its dictionary, so it can be cut
   pub next-cuts : (before next : ℕ) (values : Values) → NextIs told store side chip before (Some next) values → IsRow values
-      → (rows : List StampedRow) → TellsRows told store side chip rows → are_a_row (values_at told.places.items values) ≡ true
+      → (rows : List StampedRow) → TellsRows told store side chip rows → are_a_row (values_at told.places.now.items values) ≡ true
   next-cuts before next values is row rows t =
       let r : StampedRow = record { stamp = next; values = values } in
       let all = rows_told t.db told.dictionary.now.owner t.subject in
@@ -233,7 +233,7 @@ module _ (told : Told) (store : Held) (side : Side) (chip : Chip) where
       t.cuts values row wide
 
   pub there-shown : (stamp before next : ℕ) (values cut : Values) → before + 1 ≡ stamp → NextIs told store side chip before (Some next) values → next ≡ stamp → passes values told.conditions.now ≡ true → IsRow values
-      → (are_a_row (values_at told.places.items values) ≡ true → cut ≡ values_at told.places.items values)
+      → (are_a_row (values_at told.places.now.items values) ≡ true → cut ≡ values_at told.places.now.items values)
       → (rows : List StampedRow) → TellsRows told store side chip rows → Some cut ≡ option_map (λ row. row.values) (row_at stamp rows)
   there-shown stamp before next values cut one is same shown row cuts rows t =
       let there = there-next stamp before (Some next) values one is rows t in

@@ -7,6 +7,7 @@ pub mod DictionaryRows
 pub mod Went
 pub mod HeldCosts
 pub mod MotionLaws
+pub mod ReadingOn
 pub mod RowReads
 pub mod ShownRows
 pub mod Sighted

@@ -2,9 +2,7 @@
 use Rattle.std.proofs.Common.{◌≡◌, ℕ, ◌+◌, ◌*◌, ◌≤◌, ◌==◌, true, List, Option, Some, Result, Ok, Err, refl, sym, ap, subst, ◌∙◌, inl, inr, arith}
 use Rattle.std.specs.Prelude.{IfOk, IfSome}
 use Rattle.std.proofs.lemmas.Bool.{cases_Bool, false≢true, not-true, or_parts}
-use Rattle.std.proofs.lemmas.Option.{same_Some}
 use Rattle.eeprom.specs.Chip.{Becomes, Chip, RisesAtMost}
-use Rattle.eeprom.specs.StoreOf.{Slots, cell_size}
 use Rattle.eeprom.specs.declared.fault.EepromFault.{EepromFault}
 use Rattle.record_store.specs.Held.{Held}
 use Rattle.record_store.specs.declared.side.Side.{Side}
@@ -19,17 +17,16 @@ use Rattle.scql_model.specs.Matching.{Values}
 use Rattle.scql_model.specs.Moves.{first_row, moved, row_behind, rows_under}
 use Rattle.scql_model.specs.Objects.{StampedRow}
 use Rattle.scql_model.specs.ReadBound.{IsOnTableOrView, RisesAtLeast, cells_moved, is_passed, octets_for_operation, place_reached, row_cells}
-use Rattle.catalog_codec.specs.Catalog.{grant_kind, object_kind}
 use Rattle.privilege_table.proofs.Seen.{told-held}
-use Rattle.record_table.specs.Listed.{cells_marked, slots_of}
+use Rattle.record_table.specs.Listed.{slots_of}
 use Rattle.record_table.specs.Making.{IsHeld}
-use Rattle.record_table.specs.Reading.{NeverFalls}
 use Rattle.record_table.specs.declared.stop.Stop.{Stop}
 use Rattle.record_table.specs.declared.stop.Stop.TheVariants.{Refused, Fault}
 use Rattle.cursor.specs.Costs.{Cost, RisesBetween, cost_between, cost_where}
 use Rattle.cursor.specs.Moved.{AreStamped, fetched, refuses}
-use Rattle.db_read.specs.Advanced.{Advances, way_cost}
+use Rattle.db_read.specs.Advanced.{Advances}
 use Rattle.db_read.specs.Answered.{Chooses, Stops, WhereStopped, given, stop_answer}
+use Rattle.db_read.specs.Costs.{catalogue_cost}
 use Rattle.db_read.specs.Motion.{Goes, Stays, answer_of, asks_opened, command_of, cost_by, is_on_way, least_by}
 use Rattle.db_read.specs.declared.motion.Motion.{Motion}
 use Rattle.db_read.specs.declared.motion.Motion.TheVariants.{Open, Next, Fetch, FetchNext}
@@ -50,38 +47,13 @@ given-fetched place c le word values =
 
 -- a motion is the model's command
 pub moved-by : (motion : Motion) (db : Database) (actor : Actor) (c : Cursor) (to : Place) (word : StatusWord) (values : Values) (pending : List ℕ) (rows : List StampedRow) → rows_under db actor c ≡ Ok rows
-    → asks_opened motion c.place ≡ true → Goes motion c.place to word values rows c
-    → moved db actor (record { cursor = Some c; pending = pending }) (command_of motion) ≡ answer_of motion word c to values
-moved-by Open db actor c to word values pending rows under asks goes = rw (under, went-word to c word (first_row rows) goes) (ap Ok (sym goes))
-moved-by Next db actor c to word values pending rows under asks goes = rw (asks, under, went-word to c word (row_behind c.place rows) goes) (ap Ok (sym goes))
-moved-by (Fetch le) db actor c to word values pending rows under asks goes =
-    rw (asks, under) (sym goes ∙ sym (given-fetched c.place c le word values))
-moved-by (FetchNext le) db actor c to word values pending rows under asks goes = rw (asks, under) (sym goes ∙ sym (given-fetched to c le word values))
-
--- what stops the rows under a cursor stops a motion
-pub stops-by : (motion : Motion) (db : Database) (actor : Actor) (c : Cursor) (pending : List ℕ) (stop : Stop) → asks_opened motion c.place ≡ true → Stops (rows_under db actor c) stop
-    → Stops (moved db actor (record { cursor = Some c; pending = pending }) (command_of motion)) stop
-stops-by Open db actor c pending (Refused word) asks stops = (rw stops.0 refl, stops.1)
-stops-by Next db actor c pending (Refused word) asks stops = (rw (asks, stops.0) refl, stops.1)
-stops-by (Fetch le) db actor c pending (Refused word) asks stops = (rw (asks, stops.0) refl, stops.1)
-stops-by (FetchNext le) db actor c pending (Refused word) asks stops = (rw (asks, stops.0) refl, stops.1)
-stops-by motion db actor c pending Fault asks stops = tt
-
--- the answer of a motion that is refused
-answer-refused : (motion : Motion) (word : StatusWord) (c : Cursor) (to : Place) (values : Values) → refuses word ≡ true → answer_of motion word c to values ≡ Err word
-answer-refused Open word c to values is = rw is refl
-answer-refused Next word c to values is = rw is refl
-answer-refused (Fetch le) word c to values is = (let parts = or_parts (word.word == done.word) (word.word == end_reached.word) (not-true _ is) in rw (parts.0, parts.1) refl)
-answer-refused (FetchNext le) word c to values is = (let parts = or_parts (word.word == done.word) (word.word == end_reached.word) (not-true _ is) in rw (parts.0, parts.1) refl)
-
-pub stopped-by : (motion : Motion) (db : Database) (actor : Actor) (c : Cursor) (to : Place) (values : Values) (pending : List ℕ) (stop : Stop) (result : Result StatusWord EepromFault) → result ≡ stop_answer stop → asks_opened motion c.place ≡ true
-    → Stops (rows_under db actor c) stop → IfOk result (λ word. moved db actor (record { cursor = Some c; pending = pending }) (command_of motion) ≡ answer_of motion word c to values)
-stopped-by motion db actor c to values pending (Refused word) result is asks stops =
-    let given_up = stops-by motion db actor c pending (Refused word) asks stops in
-    subst (λ r. IfOk r (λ word. moved db actor (record { cursor = Some c; pending = pending }) (command_of motion) ≡ answer_of motion word c to values)) (sym is)
-    (given_up.0 ∙ sym (answer-refused motion word c to values given_up.1))
-stopped-by motion db actor c to values pending Fault result is asks stops =
-    subst (λ r. IfOk r (λ word. moved db actor (record { cursor = Some c; pending = pending }) (command_of motion) ≡ answer_of motion word c to values)) (sym is) tt
+    → asks_opened motion c.place ≡ true → Goes motion c.place to word values rows c → Stays motion c.place to word
+    → moved db actor (record { cursor = Some c; pending = pending }) (command_of motion) ≡ answer_of motion word (Some (record c { place = to })) values
+moved-by Open db actor c to word values pending rows under asks goes stays = rw (under, went-word to c word (first_row rows) goes) (ap Ok (sym goes))
+moved-by Next db actor c to word values pending rows under asks goes stays = rw (asks, under, went-word to c word (row_behind c.place rows) goes) (ap Ok (sym goes))
+moved-by (Fetch le) db actor c to word values pending rows under asks goes stays =
+    rw (asks, under, stays) (sym goes ∙ sym (given-fetched c.place c le word values))
+moved-by (FetchNext le) db actor c to word values pending rows under asks goes stays = rw (asks, under) (sym goes ∙ sym (given-fetched to c le word values))
 
 -- a motion that is refused leaves the place
 pub refused-stays : (motion : Motion) (from to : Place) (word : StatusWord) (values : Values) (rows : List StampedRow) (c : Cursor) → Goes motion from to word values rows c → Stays motion from to word → refuses word ≡ true → to ≡ from
@@ -89,15 +61,6 @@ refused-stays Open from to word values rows c goes stays refusing = absurd (fals
 refused-stays Next from to word values rows c goes stays refusing = absurd (false≢true (sym (went-word to c word (row_behind from rows) goes) ∙ refusing))
 refused-stays (Fetch le) from to word values rows c goes stays refusing = stays
 refused-stays (FetchNext le) from to word values rows c goes stays refusing = stays refusing
-
--- whatever is said of an operation's word, if there is none
-pub fault-said : (P : StatusWord → Type 0) (stop : Stop) (result : Result StatusWord EepromFault) → result ≡ stop_answer stop → stop ≡ Fault → IfOk result P
-fault-said P stop result is fault = subst (λ r. IfOk r P) (sym is) (subst (λ (s : Stop). IfOk (stop_answer s) P) (sym fault) tt)
-
--- what an answer says for two reasons
-pub said-by : {P Q R : StatusWord → Type 0} (r : Result StatusWord EepromFault) → ((word : StatusWord) → P word → Q word → R word) → IfOk r P → IfOk r Q → IfOk r R
-said-by (Ok word) then' one other = then' word one other
-said-by (Err fault) then' one other = tt
 
 -- a motion that is refused gives no row
 refused-least : (motion : Motion) (word : StatusWord) (values : Values) → refuses word ≡ true → least_by motion word values ≡ 0
@@ -127,10 +90,6 @@ cost-on-way (Fetch le) from to word values rows c list stamped goes = (let here 
 cost-on-way (FetchNext le) from to word values rows c list stamped goes = (let passed = between-passed from (place_reached (row_behind from rows)) list in omega (arith, passed))
 
 module _ (store : Held) (side : Side) (chip : Chip) (db : Database) (held : IsHeld store side chip db) where
-  -- what holds of the slots that hold a database
-  pub of-slots : (P : Slots → Type 0) → P held.slots → IfSome (slots_of store side chip) P
-  of-slots P is = subst (λ (o : Option Slots). IfSome o P) (sym held.told) is
-
   module _ (actor : Actor) (c : Cursor) (tells : List StampedRow → Type 0) (costs : Option (List Cost)) (chooses : Chooses db actor c tells costs) (motion : Motion) (from to : Place) (word : StatusWord) (values : Values) (a b : Option ℕ)
       (goes : (rows : List StampedRow) → tells rows → AreStamped rows → (on : Cursor) → Goes motion from to word values rows on)
       (read : (rows : List StampedRow) → tells rows → IfSome costs (λ list. Becomes (RisesBetween (least_by motion word values) (cost_by motion from to rows list)) a b)) where
@@ -146,42 +105,22 @@ module _ (store : Held) (side : Side) (chip : Chip) (db : Database) (held : IsHe
         let greatest : after ≤ h.0 + 64 * row_cells db c.object (is_on_way motion from chooses.rows) = omega (arith, h.2.1, most, cells) in
         (h.0, h.1, (least, greatest))
 
-    -- a motion over what is chosen, where nothing was read before
-    pub Advances-at-once : (slots : Slots) → Advances db actor c motion from to word values slots a b
-    Advances-at-once slots = record {
+    -- a motion over what is chosen
+    advances-so : Advances db actor c motion from to word values a b
+    advances-so = record {
       rows = chooses.rows;
       under = chooses.under;
       stamped = chooses.stamped;
       goes = λ on. goes chooses.rows chooses.told chooses.stamped on;
-      reads = λ kind after told. let h = reads-rows kind after told in
-          let least : h.0 + least_by motion word values ≤ after = h.2.0 in
-          let greatest : after ≤ h.0 + (way_cost slots + 64 * row_cells db c.object (is_on_way motion from chooses.rows)) = omega (arith, h.2.1) in
-          (h.0, h.1, (least, greatest));
-    }
-
-    -- and where the way down to the table was read
-    pub Advances-below : (z : Option ℕ) → IfSome (slots_of store side chip) (λ slots. Becomes (RisesAtMost (way_cost slots)) z a) → NeverFalls (slots_of store side chip) z a → Advances db actor c motion from to word values held.slots z b
-    Advances-below z way rises = record {
-      rows = chooses.rows;
-      under = chooses.under;
-      stamped = chooses.stamped;
-      goes = λ on. goes chooses.rows chooses.told chooses.stamped on;
-      reads = λ kind after told. let h = reads-rows kind after told in
-          let s = told-held store side chip db (λ slots. Becomes (RisesAtMost (way_cost slots)) z a) held way h.0 h.1 in
-          let r = told-held store side chip db (λ _. Becomes (RisesAtLeast 0) z a) held rises h.0 h.1 in
-          let same : r.0 ≡ s.0 = same_Some r.0 s.0 (sym r.1 ∙ s.1) in
-          let least : s.0 + least_by motion word values ≤ after = omega (arith, h.2.0, r.2, same) in
-          let greatest : after ≤ s.0 + (way_cost held.slots + 64 * row_cells db c.object (is_on_way motion from chooses.rows)) = omega (arith, h.2.1, s.2) in
-          (s.0, s.1, (least, greatest));
+      reads = reads-rows;
     }
 
   -- what a motion answers that moves over what is chosen
   pub Advances-ok : (actor : Actor) (c : Cursor) (tells : List StampedRow → Type 0) (costs : Option (List Cost)) → Chooses db actor c tells costs → (motion : Motion) (from to : Place) (values : Values) (a b : Option ℕ) (r : Result StatusWord EepromFault)
       → IfOk r (λ word. (rows : List StampedRow) → tells rows → AreStamped rows → (on : Cursor) → Goes motion from to word values rows on)
       → IfOk r (λ word. (rows : List StampedRow) → tells rows → IfSome costs (λ list. Becomes (RisesBetween (least_by motion word values) (cost_by motion from to rows list)) a b))
-      → IfOk r (λ word. IfSome (slots_of store side chip) (λ slots. Advances db actor c motion from to word values slots a b))
-  Advances-ok actor c tells costs chooses motion from to values a b (Ok word) goes read =
-      of-slots (λ slots. Advances db actor c motion from to word values slots a b) (Advances-at-once actor c tells costs chooses motion from to word values a b goes read held.slots)
+      → IfOk r (λ word. Advances db actor c motion from to word values a b)
+  Advances-ok actor c tells costs chooses motion from to values a b (Ok word) goes read = advances-so actor c tells costs chooses motion from to word values a b goes read
   Advances-ok actor c tells costs chooses motion from to values a b (Err fault) goes read = tt
 
 -- the cells of the rows on the way are those of the command
@@ -192,19 +131,31 @@ cells-by (Fetch le) db actor c rows under = rw under refl
 cells-by (FetchNext le) db actor c rows under = rw under refl
 
 module _ (store : Held) (side : Side) (chip : Chip) (db : Database) (held : IsHeld store side chip db) (actor : Actor) (c : Cursor) (motion : Motion) (to : Place) (word : StatusWord) (values : Values) (z a b : Option ℕ) (kind : IsOnTableOrView db c)
-    (advances : Advances db actor c motion c.place to word values held.slots a b) where
-  -- the search for the object, and the motion
-  pub advanced-most : IfSome (slots_of store side chip) (λ slots. Becomes (RisesAtMost (cell_size * cells_marked object_kind slots + cell_size * cells_marked grant_kind slots)) z a)
-      → Becomes (RisesAtMost (octets_for_operation db actor (Some c) (command_of motion))) z b
-  advanced-most found = λ after told.
+    (chose : IfSome (slots_of store side chip) (λ slots. Becomes (RisesBetween 0 (catalogue_cost slots)) z a)) (advances : Advances db actor c motion c.place to word values a b) where
+  -- what was read to choose, and the motion
+  pub advanced-most : Becomes (RisesAtMost (octets_for_operation db actor (Some c) (command_of motion))) z b
+  advanced-most = λ after told.
       let h = advances.reads kind after told in
-      let s = told-held store side chip db (λ slots. Becomes (RisesAtMost (cell_size * cells_marked object_kind slots + cell_size * cells_marked grant_kind slots)) z a) held found h.0 h.1 in
+      let s = told-held store side chip db (λ slots. Becomes (RisesBetween 0 (catalogue_cost slots)) z a) held chose h.0 h.1 in
       let cells = cells-by motion db actor c advances.rows advances.under in
       let searches = catalogue-searched held.slots db held.holds in
-      (s.0, s.1, omega (arith, h.2.1, s.2, searches, cells))
+      (s.0, s.1, omega (arith, h.2.1, s.2.1, searches, cells))
 
-  pub advanced-least : NeverFalls (slots_of store side chip) z a → Becomes (RisesAtLeast (least_by motion word values)) z b
-  advanced-least rises = λ after told.
+  pub advanced-least : Becomes (RisesAtLeast (least_by motion word values)) z b
+  advanced-least = λ after told.
       let h = advances.reads kind after told in
-      let r = told-held store side chip db (λ _. Becomes (RisesAtLeast 0) z a) held rises h.0 h.1 in
-      (r.0, r.1, omega (arith, h.2.0, r.2))
+      let s = told-held store side chip db (λ slots. Becomes (RisesBetween 0 (catalogue_cost slots)) z a) held chose h.0 h.1 in
+      (s.0, s.1, omega (arith, h.2.0, s.2.0))
+
+module _ (store : Held) (side : Side) (chip : Chip) (db : Database) (held : IsHeld store side chip db) where
+  -- what was read to choose, where that was refused
+  pub chosen-most : (actor : Actor) (c : Cursor) (motion : Motion) (a b : Option ℕ) → IfSome (slots_of store side chip) (λ slots. Becomes (RisesBetween 0 (catalogue_cost slots)) a b)
+      → Becomes (RisesAtMost (octets_for_operation db actor (Some c) (command_of motion))) a b
+  chosen-most actor c motion a b chose = λ after told.
+      let s = told-held store side chip db (λ slots. Becomes (RisesBetween 0 (catalogue_cost slots)) a b) held chose after told in
+      let searches = catalogue-searched held.slots db held.holds in
+      (s.0, s.1, omega (arith, s.2.1, searches))
+
+  pub chosen-least : (stop : Stop) (a b : Option ℕ) → WhereStopped stop (IfSome (slots_of store side chip) (λ slots. Becomes (RisesBetween 0 (catalogue_cost slots)) a b)) → WhereStopped stop (Becomes (RisesAtLeast 0) a b)
+  chosen-least (Refused word) a b chose = λ after told. let s = told-held store side chip db (λ slots. Becomes (RisesBetween 0 (catalogue_cost slots)) a b) held chose after told in (s.0, s.1, s.2.0)
+  chosen-least Fault a b chose = tt

@@ -23,7 +23,7 @@ use Rattle.cursor.specs.Costs.{RisesBetween, cost_behind, cost_of, size_handed}
 use Rattle.cursor.specs.Moved.{row_handed}
 use Rattle.db_read.specs.Chosen.{IsNextShown, are_rising, can_cut, can_show, costs_shown, is_chosen, is_shown, rows_shown, shown_row, values_at}
 use Rattle.db_read.specs.Costs.{cost_passed, least_of, row_costs}
-use Rattle.db_read.specs.declared.choosing.Chosen.{Chosen}
+use Rattle.db_read.specs.declared.chosen.Chosen.{Chosen}
 use Rattle.db_read.proofs.RowReads.{of_table}
 use Rattle.db_read.proofs.Sighted.{one-rising}
 use Rattle.db_read.proofs.Skipping.{is_wanted, costs-told, rises-are_rising, shown-told}

@@ -1,7 +1,6 @@
 -- What an actor sees of an object, and what that makes of a search for it.
 use Rattle.std.proofs.Common.{◌≡◌, ℕ, ◌≤◌, ◌==◌, Bool, true, false, List, [], ◌∷◌, count_by, Option, Some, None, Result, Ok, Err, refl, lit≤, sym, ap, subst, ◌∙◌, arith, inl, inr}
 use Rattle.std.specs.Prelude.{IfSome}
-use Rattle.std.specs.List.{list_any}
 use Rattle.std.proofs.lemmas.Bool.{cases_Bool, eqb-true}
 use Rattle.std.proofs.lemmas.Map.Entries.{option_filter}
 use Rattle.std.proofs.lemmas.Option.{none-some}
@@ -19,7 +18,7 @@ use Rattle.scql_model.specs.Database.{Database, IsValid, object_stamped}
 use Rattle.scql_model.specs.Moves.{selected}
 use Rattle.scql_model.specs.Objects.{columns_of}
 use Rattle.scql_model.specs.Refusals.{◌>>=◌, or_refused}
-use Rattle.scql_model.specs.Rights.{all_privileges, appears, has_bit, holds, select_privilege, seen_named, seen_stamped}
+use Rattle.scql_model.specs.Rights.{appears, holds, select_privilege, seen_named, seen_stamped}
 use Rattle.scql_model.proofs.FoundAgain.{seen_stamped-named}
 use Rattle.scql_model.proofs.LongerLists.{find-passes}
 use Rattle.scql_model.proofs.ReadingIsShown.{IsReadable-valid}
@@ -28,42 +27,16 @@ use Rattle.record_table.specs.Making.{IsHeld}
 use Rattle.privilege_table.proofs.Seen.{find-both}
 use Rattle.views.proofs.Stamped.{IsOfStamp, stamped-held}
 use Rattle.db_read.specs.Answered.{selectable}
-use Rattle.db_read.specs.Sight.{sight_of}
-use Rattle.db_read.specs.declared.sight.Sight.TheVariants.{Hidden, Closed, Open}
 
--- an object is seen by what is known of it
-pub seen-as : (a h appears selects : Bool) → a ≡ appears → h ≡ selects → sight_of a h ≡ sight_of appears selects
-seen-as a h appears selects same likewise = rw (same, likewise) refl
+-- who may select from an object that is seen, and who may not
+pub selects-open : (db : Database) (actor : Actor) (o : Object) → appears db actor o ≡ true → holds db actor o select_privilege ≡ true → selectable db actor (option_filter (appears db actor) (Some o)) ≡ Ok o
+selects-open db actor o seen may = rw (seen, may) refl
 
--- who may select sees
-pub select-seen : (bits : ℕ) → has_bit select_privilege bits ≡ true → true ≡ list_any (λ bit. has_bit bit bits) all_privileges
-select-seen bits set = rw set refl
+pub selects-closed : (db : Database) (actor : Actor) (o : Object) → appears db actor o ≡ true → holds db actor o select_privilege ≡ false → selectable db actor (option_filter (appears db actor) (Some o)) ≡ Err security_not_satisfied
+selects-closed db actor o seen may = rw (seen, may) refl
 
-pub open-parts : (a h : Bool) → Open ≡ sight_of a h → (a ≡ true) × (h ≡ true)
-open-parts true true is = (refl, refl)
-open-parts true false is = absurd (cc)
-open-parts false h is = absurd (cc)
-
-pub closed-parts : (a h : Bool) → Closed ≡ sight_of a h → (a ≡ true) × (h ≡ false)
-closed-parts true true is = absurd (cc)
-closed-parts true false is = (refl, refl)
-closed-parts false h is = absurd (cc)
-
-pub hidden-part : (a h : Bool) → Hidden ≡ sight_of a h → a ≡ false
-hidden-part true true is = absurd (cc)
-hidden-part true false is = absurd (cc)
-hidden-part false h is = refl
-
-pub selects-open : (db : Database) (actor : Actor) (o : Object) → Open ≡ sight_of (appears db actor o) (holds db actor o select_privilege) → selectable db actor (option_filter (appears db actor) (Some o)) ≡ Ok o
-selects-open db actor o is = (let parts = open-parts (appears db actor o) (holds db actor o select_privilege) is in rw (parts.0, parts.1) refl)
-
-pub selects-closed : (db : Database) (actor : Actor) (o : Object) → Closed ≡ sight_of (appears db actor o) (holds db actor o select_privilege)
-    → selectable db actor (option_filter (appears db actor) (Some o)) ≡ Err security_not_satisfied
-selects-closed db actor o is = (let parts = closed-parts (appears db actor o) (holds db actor o select_privilege) is in rw (parts.0, parts.1) refl)
-
-pub selects-hidden : (db : Database) (actor : Actor) (o : Object) → Hidden ≡ sight_of (appears db actor o) (holds db actor o select_privilege)
-    → selectable db actor (option_filter (appears db actor) (Some o)) ≡ Err not_found
-selects-hidden db actor o is = (let hidden = hidden-part (appears db actor o) (holds db actor o select_privilege) is in rw hidden refl)
+pub selects-hidden : (db : Database) (actor : Actor) (o : Object) → appears db actor o ≡ false → selectable db actor (option_filter (appears db actor) (Some o)) ≡ Err not_found
+selects-hidden db actor o seen = rw seen refl
 
 -- at most one element has a key where keys rise
 pub one-rising : {X : Type 0} (key : X → ℕ) (k : ℕ) (xs : List X) → Rises key xs → count_by (has key k) xs ≤ 1

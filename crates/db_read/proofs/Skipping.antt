@@ -20,7 +20,7 @@ use Rattle.row_table.specs.Found.{is_row_after}
 use Rattle.cursor.specs.Costs.{Cost, RisesBetween, cost_behind, cost_of}
 use Rattle.db_read.specs.Chosen.{IsNextShown, are_rising, can_cut, can_show, chosen_rows, costs_shown, is_chosen, is_shown, rows_shown, shown_row}
 use Rattle.db_read.specs.Costs.{cost_passed, cost_reached, row_costs}
-use Rattle.db_read.specs.declared.choosing.Chosen.{Chosen}
+use Rattle.db_read.specs.declared.chosen.Chosen.{Chosen}
 
 key_of : RowRecord → ℕ
 key_of r = r.stamp

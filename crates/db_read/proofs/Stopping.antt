@@ -1,8 +1,6 @@
 -- How the stop of a part of an operation is one of the operation.
-use Rattle.std.proofs.Common.{◌≡◌, ℕ, ◌+◌, ◌≤◌, true, Option, Some, None, Result, Ok, Err, sym, subst, arith}
-use Rattle.std.specs.Prelude.{IfOk, IfErr, IfSome, IsErrAnd}
-use Rattle.eeprom.specs.Chip.{Becomes, RisesAtMost}
-use Rattle.eeprom.specs.StoreOf.{Slots}
+use Rattle.std.proofs.Common.{◌≡◌, true, Option, Result, Ok, Err, sym, subst}
+use Rattle.std.specs.Prelude.{IfOk, IfErr, IsErrAnd}
 use Rattle.eeprom.specs.declared.fault.EepromFault.{EepromFault}
 use Rattle.scql_base.specs.declared.cursor.Cursor.{Cursor}
 use Rattle.scql_base.specs.declared.words.Actor.{Actor}
@@ -49,24 +47,12 @@ where-on said more from (Err given) stop is gives weaker read =
     let here : WhereStopped stop said = subst (λ r. WhereRead r said) is read in
     where-stopped said more given weaker (subst (λ (s : Stop). WhereStopped s said) (sym gives) here)
 
-pub where-refused : {T : Type 0} (said : Type 0) (result : Result T Stop) (word : StatusWord) → result ≡ Err (Refused word) → said → WhereRead result said
-where-refused said result word is read = subst (λ r. WhereRead r said) (sym is) read
-
 pub where-more : {T : Type 0} (said more : Type 0) (result : Result T Stop) → (said → more) → WhereRead result said → WhereRead result more
 where-more said more (Ok x) weaker read = weaker read
 where-more said more (Err stop) weaker read = where-stopped said more stop weaker read
 
--- more may be read
-pub reads-less : (most more : Slots → ℕ) (slots : Option Slots) (a b : Option ℕ) → ((slots : Slots) → most slots ≤ more slots) → IfSome slots (λ slots. Becomes (RisesAtMost (most slots)) a b)
-    → IfSome slots (λ slots. Becomes (RisesAtMost (more slots)) a b)
-reads-less most more None a b few read = tt
-reads-less most more (Some slots) a b few read = λ after told. (let h = read after told in let less = few slots in (h.0, h.1, omega (arith, h.2, less)))
-
-pub reads-two : (most next more : Slots → ℕ) (slots : Option Slots) (a b c : Option ℕ) → ((slots : Slots) → most slots + next slots ≤ more slots) → IfSome slots (λ slots. Becomes (RisesAtMost (most slots)) a b)
-    → IfSome slots (λ slots. Becomes (RisesAtMost (next slots)) b c) → IfSome slots (λ slots. Becomes (RisesAtMost (more slots)) a c)
-reads-two most next more None a b c few first second = tt
-reads-two most next more (Some slots) a b c few first second = λ after told.
-    let h = second after told in
-    let s = first h.0 h.1 in
-    let less = few slots in
-    (s.0, s.1, omega (arith, h.2, s.2, less))
+-- what is said twice
+pub where-both : {T : Type 0} (one other : Type 0) (result : Result T Stop) → WhereRead result one → WhereRead result other → WhereRead result (one × other)
+where-both one other (Ok x) first second = (first, second)
+where-both one other (Err (Refused word)) first second = (first, second)
+where-both one other (Err Fault) first second = tt

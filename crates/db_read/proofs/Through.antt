@@ -20,7 +20,7 @@ use Rattle.search_cond.specs.Bound.{Binds, passes}
 use Rattle.search_cond.specs.declared.placed.Placed.{Placed}
 use Rattle.views.specs.Resolved.{AreBound, ArePlaces}
 use Rattle.db_read.specs.Chosen.{are_rising, chosen_rows, is_shown, values_at}
-use Rattle.db_read.specs.declared.choosing.Chosen.{Chosen}
+use Rattle.db_read.specs.declared.chosen.Chosen.{Chosen}
 
 pub values-placed : (places : List ℕ) (all wanted : Columns) (values : Values) → ArePlaces places all wanted → values_at places values ≡ cut_to all wanted values
 values-placed [] all [] values are = refl

@@ -12,7 +12,7 @@ use Rattle.record_table.specs.Listed.{listed}
 use Rattle.search_cond.specs.Bound.{passes}
 use Rattle.cursor.specs.Costs.{Cost}
 use Rattle.db_read.specs.Costs.{row_costs}
-use Rattle.db_read.specs.declared.choosing.Chosen.{Chosen}
+use Rattle.db_read.specs.declared.chosen.Chosen.{Chosen}
 
 -- the values at some places; where there is none it is empty
 abbrev pub values_at : List ℕ → Values → Values

@@ -28,6 +28,10 @@ cost_reached table slots (Some r) = cost_of r.stamp (row_costs table slots)
 abbrev pub cost_passed : ℕ → ℕ → Slots → Option RowRecord → ℕ
 cost_passed table stamp slots reached = cost_behind stamp (option_map (λ (r : RowRecord). r.stamp) reached) (row_costs table slots)
 
+-- what the way from a view down to its table may read
+abbrev pub way_cost : Slots → ℕ
+way_cost slots = deepest * (cell_size * cells_marked object_kind slots)
+
 -- what the searches of a reading operation for its object may cost: one for the object, one for the grants on it, and one for each view down to the table
 abbrev pub catalogue_cost : Slots → ℕ
 catalogue_cost slots = (deepest + 1) * (cell_size * cells_marked object_kind slots) + cell_size * cells_marked grant_kind slots

@@ -3,6 +3,6 @@ pub mod Answered
 pub mod Chosen
 pub mod Costs
 pub mod Motion
+pub mod Reader
 pub mod Scan
-pub mod Sight
 pub mod Told

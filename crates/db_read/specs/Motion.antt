@@ -1,5 +1,5 @@
 -- How a cursor moves over its rows, what comes of it, and what it reads.
-use Rattle.std.specs.Prelude.{◌≡◌, ℕ, Bool, true, IsTrue, List, Some, Result}
+use Rattle.std.specs.Prelude.{◌≡◌, ℕ, Bool, true, IsTrue, List, Option, Result}
 use Rattle.scql_base.specs.declared.cursor.Cursor.{Cursor}
 use Rattle.scql_base.specs.declared.cursor.Place.{Place}
 use Rattle.scql_base.specs.declared.cursor.Place.TheVariants.{At}
@@ -24,12 +24,12 @@ command_of Next = commands.next
 command_of (Fetch le) = commands.fetch le
 command_of (FetchNext le) = commands.fetch_next le
 
--- what a command answers, by a word, the cursor before it, its place then, and a row that was handed out
-abbrev pub answer_of : Motion → StatusWord → Cursor → Place → Values → Result (Move Reading) StatusWord
-answer_of Open word c to values = answered word (Some (record c { place = to }))
-answer_of Next word c to values = answered word (Some (record c { place = to }))
-answer_of (Fetch le) word c to values = given le word (Some c) values
-answer_of (FetchNext le) word c to values = given le word (Some (record c { place = to })) values
+-- what a command answers, by a word, the cursor then, and a row that was handed out
+abbrev pub answer_of : Motion → StatusWord → Option Cursor → Values → Result (Move Reading) StatusWord
+answer_of Open word cursor values = answered word cursor
+answer_of Next word cursor values = answered word cursor
+answer_of (Fetch le) word cursor values = given le word cursor values
+answer_of (FetchNext le) word cursor values = given le word cursor values
 
 -- a motion between two places over rows, with its word and what was handed out, is the model's
 abbrev pub Goes : Motion → Place → Place → StatusWord → Values → List StampedRow → Cursor → Type 0

@@ -1,8 +1,7 @@
--- Which rows of a dictionary a cursor chooses, and which rows are told of whatever it chooses.
-use Rattle.std.specs.Prelude.{◌≡◌, ℕ, Bool, true, List, length, map, filter, Option, Some, None, option_map}
+-- Which rows of a dictionary a cursor chooses.
+use Rattle.std.specs.Prelude.{◌≡◌, ℕ, Bool, true, List, length, map, filter, Option, option_map}
 use Rattle.eeprom.specs.Chip.{Chip}
 use Rattle.eeprom.specs.Slots.{Rises}
-use Rattle.eeprom.specs.StoreOf.{Slots}
 use Rattle.record_store.specs.Held.{Held}
 use Rattle.record_store.specs.declared.side.Side.{Side}
 use Rattle.scql_base.specs.Row.{IsRow, are_a_row}
@@ -12,14 +11,10 @@ use Rattle.scql_model.specs.Database.{Database}
 use Rattle.scql_model.specs.Dictionaries.{rows_told}
 use Rattle.scql_model.specs.Matching.{Values}
 use Rattle.scql_model.specs.Objects.{StampedRow, dictionary_columns}
-use Rattle.record_table.specs.Listed.{slots_of}
 use Rattle.record_table.specs.Making.{IsHeld}
 use Rattle.search_cond.specs.Bound.{passes}
-use Rattle.cursor.specs.Costs.{Cost}
 use Rattle.cursor.specs.Moved.{AreStamped, row_handed}
-use Rattle.db_read.specs.Chosen.{costs_shown, rows_shown, values_at}
-use Rattle.db_read.specs.declared.choosing.Choice.{Choice}
-use Rattle.db_read.specs.declared.choosing.Choice.TheVariants.{OfTable, OfDictionary}
+use Rattle.db_read.specs.Chosen.{values_at}
 use Rattle.db_read.specs.declared.telling.Told.{Told}
 
 -- of some rows those that meet the cursor's conditions, as they are shown
@@ -27,7 +22,7 @@ abbrev pub meets : Told → StampedRow → Bool
 meets told r = passes r.values told.conditions.now
 
 abbrev pub as_shown : Told → StampedRow → StampedRow
-as_shown told r = record r { values = values_at told.places.items r.values }
+as_shown told r = record r { values = values_at told.places.now.items r.values }
 
 abbrev pub chosen_told : Told → List StampedRow → List StampedRow
 chosen_told told rows = map (as_shown told) (filter (meets told) rows)
@@ -44,15 +39,5 @@ pub record TellsRows (told : Told) (store : Held) (side : Side) (chip : Chip) (r
   pub kind : told.dictionary.now.kind ≡ Dictionary subject
   pub rises : Rises (λ (r : StampedRow). r.stamp) (rows_told db told.dictionary.now.owner subject)
   pub stamped : AreStamped rows
-  pub cuts : (values : Values) → IsRow values → length values ≡ length (dictionary_columns subject) → are_a_row (values_at told.places.items values) ≡ true
+  pub cuts : (values : Values) → IsRow values → length values ≡ length (dictionary_columns subject) → are_a_row (values_at told.places.now.items values) ≡ true
   pub are : rows ≡ chosen_told told (rows_told db told.dictionary.now.owner subject)
-
--- these are the rows that a cursor chooses
-abbrev pub Tells : Choice → Held → Side → Chip → List StampedRow → Type 0
-Tells (OfTable chosen) store side chip rows = rows_shown chosen (slots_of store side chip) ≡ Some rows
-Tells (OfDictionary told) store side chip rows = TellsRows told store side chip rows
-
--- what reading the rows of a table may cost; of a dictionary nothing is said
-abbrev pub costs_of : Choice → Option Slots → Option (List Cost)
-costs_of (OfTable chosen) slots = costs_shown chosen slots
-costs_of (OfDictionary told) slots = None

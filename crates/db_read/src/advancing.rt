@@ -1,5 +1,5 @@
-// A cursor moves.
-ghost use Rattle.std.specs.Prelude.{◌≡◌, ℕ, List, None, Some, IfOk, IfSome, IsTrue, true};
+// A cursor moves: OPEN, NEXT, FETCH and FETCH NEXT.
+ghost use Rattle.std.specs.Prelude.{◌≡◌, ℕ, List, IfOk, IfSome, IsTrue, OnErr};
 ghost use Rattle.eeprom.specs.Chip.{Becomes, RisesAtMost};
 ghost use Rattle.eeprom.specs.Fault.{each_error};
 ghost use Rattle.eeprom.specs.Frame.{Reads};
@@ -11,125 +11,61 @@ ghost use Rattle.scql_model.specs.ReadBound.{IsOnTableOrView, RisesAtLeast, octe
 ghost use Rattle.record_table.specs.Making.{IsHeld};
 ghost use Rattle.row_index.specs.Index.{Indexes};
 ghost use Rattle.cursor.specs.Moved.{refuses};
-ghost use Rattle.db_read.specs.Scan.{IsRight};
-ghost use Rattle.db_read.specs.Motion.{Stays, answer_of, asks_opened, command_of, least_by};
+ghost use Rattle.db_read.specs.Motion.{answer_of, command_of, least_by};
+ghost use Rattle.db_read.specs.Reader.{GoesOn};
+ghost use Rattle.db_read.specs.Scan.{IsRightFor};
 
-use crate::finding::{find_selected, stopped};
-use crate::going::{go_on, go_over, is_table_or_view};
+use crate::choosing::choose;
+use crate::finding::stopped;
+use crate::going::go;
 use crate::motion::Motion;
+use crate::reader::Reader;
 use crate::scan::Scan;
 use eeprom::{Eeprom, EepromFault};
-use record_store::{Side, Store};
-use row_index::RowIndex;
-use scql_base::{Actor, Cursor, Place, Row, StatusWord};
+use scql_base::{Actor, Cursor, Row, StatusWord};
 
-/// A cursor moves over the rows of its object, from which the actor may select: from its place to another, which stays where the move
-/// is refused. One that wasn't opened can only be opened. What a scan has found isn't looked for again.
-#[inline(always)]
-pub(crate) fn advance<B: Eeprom>(
-    store: &Store,
-    bench: &mut B,
-    side: Side,
+/// The cursor of a session moves over the rows that it chooses of its object, from which the actor may select. A row is handed out where
+/// the motion asks for one; the caller gives it as far as Le allows. What a scan has found isn't looked for again.
+pub fn advance<B: Eeprom>(
+    reader: &mut Reader<'_, B>,
     actor: Actor,
-    cursor: &Cursor,
+    cursor: &mut Option<Cursor>,
     motion: Motion,
-    place: &mut Place,
     out: &mut Row,
-    index: &RowIndex,
     scan: &mut Scan,
 ) -> Result<StatusWord, EepromFault>
-    requires over { IsOver store.now (B.chip bench.old) }
-    requires index { Indexes index.now store.now (B.chip bench.old) }
-    requires opened { asks_opened motion cursor.now.place ≡ true }
-    requires here { place.old ≡ cursor.now.place }
-    ensures moved { (db : Database) → IsHeld store.now side (B.chip bench.old) db → IsCursorOf db cursor.now → IsRight db actor scan.old cursor.now → (pending : List ℕ)
-        → IfOk result (λ word. moved db actor (record { cursor = Some cursor.now; pending = pending }) (command_of motion) ≡ answer_of motion word cursor.now place.new out.new) }
-    ensures refused { (db : Database) → IsHeld store.now side (B.chip bench.old) db → IsCursorOf db cursor.now → IsRight db actor scan.old cursor.now → IfOk result (λ word. IsTrue (refuses word) → place.new ≡ place.old) }
-    ensures stays { IfOk result (Stays motion place.old place.new) }
-    ensures right { (db : Database) → IsHeld store.now side (B.chip bench.old) db → IsRight db actor scan.old cursor.now → IsRight db actor scan.new cursor.now }
-    ensures octets_read { (db : Database) → IsHeld store.now side (B.chip bench.old) db → IsCursorOf db cursor.now → IsRight db actor scan.old cursor.now → IsOnTableOrView db cursor.now
-        → IfOk result (λ _. Becomes (RisesAtMost (octets_for_operation db actor (Some cursor.now) (command_of motion))) (B.octets_read bench.old) (B.octets_read bench.new)) }
-    ensures least { (db : Database) → IsHeld store.now side (B.chip bench.old) db → IsCursorOf db cursor.now → IsRight db actor scan.old cursor.now → IsOnTableOrView db cursor.now
-        → IfOk result (λ word. Becomes (RisesAtLeast (least_by motion word out.new)) (B.octets_read bench.old) (B.octets_read bench.new)) }
-    ensures frame { Reads each_error B.chip B.faults bench.old bench.new result }
+    requires over { IsOver reader.old.store.now (B.chip reader.old.bench.now) }
+    requires index { Indexes reader.old.index.now reader.old.store.now (B.chip reader.old.bench.now) }
+    ensures moved { (db : Database) → IsHeld reader.old.store.now reader.old.side (B.chip reader.old.bench.now) db → IfSome cursor.old (IsCursorOf db) → IsRightFor db actor scan.old cursor.old → (pending : List ℕ)
+        → IfOk result (λ word. moved db actor (record { cursor = cursor.old; pending = pending }) (command_of motion) ≡ answer_of motion word cursor.new out.new) }
+    // A refusal and a fault leave the cursor.
+    ensures refused { (db : Database) → IsHeld reader.old.store.now reader.old.side (B.chip reader.old.bench.now) db → IfSome cursor.old (IsCursorOf db) → IsRightFor db actor scan.old cursor.old
+        → IfOk result (λ word. IsTrue (refuses word) → cursor.new ≡ cursor.old) }
+    ensures fault { OnErr result (cursor.new ≡ cursor.old) }
+    // The scan stays right: for the cursor as it is afterwards.
+    ensures right { (db : Database) → IsHeld reader.old.store.now reader.old.side (B.chip reader.old.bench.now) db → IsRightFor db actor scan.old cursor.old → IsRightFor db actor scan.new cursor.new }
+    ensures octets_read { (db : Database) → IsHeld reader.old.store.now reader.old.side (B.chip reader.old.bench.now) db → IfSome cursor.old (IsCursorOf db) → IsRightFor db actor scan.old cursor.old → IfSome cursor.old (IsOnTableOrView db)
+        → IfOk result (λ _. Becomes (RisesAtMost (octets_for_operation db actor cursor.old (command_of motion))) (B.octets_read reader.old.bench.now) (B.octets_read reader.new.bench.now)) }
+    // A row that is handed out was read.
+    ensures least { (db : Database) → IsHeld reader.old.store.now reader.old.side (B.chip reader.old.bench.now) db → IfSome cursor.old (IsCursorOf db) → IsRightFor db actor scan.old cursor.old → IfSome cursor.old (IsOnTableOrView db)
+        → IfOk result (λ word. Becomes (RisesAtLeast (least_by motion word out.new)) (B.octets_read reader.old.bench.now) (B.octets_read reader.new.bench.now)) }
+    ensures goes_on { GoesOn reader.old reader.new }
+    ensures frame { Reads each_error B.chip B.faults reader.old.bench.now reader.new.bench.now result }
 {
-    if scan.has_found() {
-        let Scan {
-            selection,
-            room,
-            ..
-        } = scan;
-        return go_over(
-            store, bench, side, selection, motion, place, out, index, room,
-        );
-    }
-    find_and_go(
-        store, bench, side, actor, cursor, motion, place, out, index, scan,
-    )
-}
-
-// Looks for the object of a cursor, and goes over its rows. It isn't inlined, so that a move over what was found has no place for an object.
-#[inline(never)]
-fn find_and_go<B: Eeprom>(
-    store: &Store,
-    bench: &mut B,
-    side: Side,
-    actor: Actor,
-    cursor: &Cursor,
-    motion: Motion,
-    place: &mut Place,
-    out: &mut Row,
-    index: &RowIndex,
-    scan: &mut Scan,
-) -> Result<StatusWord, EepromFault>
-    requires over { IsOver store.now (B.chip bench.old) }
-    requires index { Indexes index.now store.now (B.chip bench.old) }
-    requires opened { asks_opened motion cursor.now.place ≡ true }
-    requires here { place.old ≡ cursor.now.place }
-    requires none { scan.old ≡ None }
-    ensures moved { (db : Database) → IsHeld store.now side (B.chip bench.old) db → IsCursorOf db cursor.now → (pending : List ℕ)
-        → IfOk result (λ word. moved db actor (record { cursor = Some cursor.now; pending = pending }) (command_of motion) ≡ answer_of motion word cursor.now place.new out.new) }
-    ensures refused { (db : Database) → IsHeld store.now side (B.chip bench.old) db → IsCursorOf db cursor.now → IfOk result (λ word. IsTrue (refuses word) → place.new ≡ place.old) }
-    ensures stays { IfOk result (Stays motion place.old place.new) }
-    ensures right { (db : Database) → IsHeld store.now side (B.chip bench.old) db → IsRight db actor scan.new cursor.now }
-    ensures octets_read { (db : Database) → IsHeld store.now side (B.chip bench.old) db → IsCursorOf db cursor.now → IsOnTableOrView db cursor.now
-        → IfOk result (λ _. Becomes (RisesAtMost (octets_for_operation db actor (Some cursor.now) (command_of motion))) (B.octets_read bench.old) (B.octets_read bench.new)) }
-    ensures least { (db : Database) → IsHeld store.now side (B.chip bench.old) db → IsCursorOf db cursor.now → IsOnTableOrView db cursor.now
-        → IfOk result (λ word. Becomes (RisesAtLeast (least_by motion word out.new)) (B.octets_read bench.old) (B.octets_read bench.new)) }
-    ensures frame { Reads each_error B.chip B.faults bench.old bench.new result }
-{
-    let Scan {
-        is_found,
-        object,
-        selection,
-        room,
-    } = scan;
-    *is_found = false;
-    match find_selected(store, bench, side, actor, cursor.object, object) {
-        Ok(()) => {}
-        Err(stop) => return stopped(stop),
-    }
-    let Some(object) = &*object else {
-        unreachable!();
+    let Some(held) = cursor else {
+        return Ok(StatusWord::CONDITIONS_NOT_SATISFIED);
     };
-    let mut reached = cursor.place;
-    let word = match go_on(
-        store,
-        bench,
-        side,
-        object,
-        cursor,
-        motion,
-        &mut reached,
-        out,
-        index,
-        selection,
-        room,
-    ) {
-        Ok(word) => word,
-        Err(stop) => return stopped(stop),
-    };
-    *is_found = is_table_or_view(&object.kind);
-    *place = reached;
+    if !motion.goes_from(held.place) {
+        return Ok(StatusWord::CONDITIONS_NOT_SATISFIED);
+    }
+    if !scan.has_found() {
+        if let Err(stop) = choose(reader, actor, held, scan) {
+            return stopped(stop);
+        }
+    }
+    let Scan { choice, room, .. } = scan;
+    let mut place = held.place;
+    let word = go(reader, choice, motion, &mut place, out, room)?;
+    held.place = place;
     Ok(word)
 }

@@ -1,145 +1,115 @@
-// What a cursor chooses of its object.
-ghost use Rattle.std.specs.Prelude.{◌≡◌, ◌≤◌, IsTrue, length, true};
+// What a cursor chooses is found.
+ghost use Rattle.std.specs.Prelude.{◌≡◌, ◌≤◌, Some, IfOk, IfErr, IfSome, IsTrue, length, is_some, true};
+ghost use Rattle.eeprom.specs.Chip.{Becomes, RisesAtMost};
+ghost use Rattle.eeprom.specs.Fault.{each_error};
+ghost use Rattle.eeprom.specs.Frame.{Reads};
+ghost use Rattle.record_store.specs.Held.{IsOver};
 ghost use Rattle.scql_base.specs.declared.name_list.TheConstants.NameList.{MOST};
-ghost use Rattle.std.specs.List.{list_all};
-ghost use Rattle.search_cond.specs.Bound.{Binds, passes};
-ghost use Rattle.scql_base.specs.Row.{are_a_row};
-ghost use Rattle.scql_model.specs.Database.{are_named_among};
-ghost use Rattle.scql_model.specs.Matching.{Values};
+ghost use Rattle.scql_model.specs.Cursors.{IsCursorOf};
+ghost use Rattle.scql_model.specs.Database.{Database, are_named_among, object_stamped};
+ghost use Rattle.scql_model.specs.Moves.{rows_under};
+ghost use Rattle.record_table.specs.Listed.{slots_of};
+ghost use Rattle.record_table.specs.Making.{IsHeld, is_stop_fault};
+ghost use Rattle.record_table.specs.Reading.{NeverFalls};
+ghost use Rattle.search_cond.specs.Bound.{Binds};
 ghost use Rattle.views.specs.Resolved.{ArePlaces};
-ghost use Rattle.db_read.specs.Chosen as specs;
-ghost use Rattle.db_read.specs.Chosen.{values_at};
+ghost use Rattle.cursor.specs.Costs.{RisesBetween};
+ghost use Rattle.db_read.specs.Answered.{Stops, WhereRead};
+ghost use Rattle.db_read.specs.Costs.{catalogue_cost, way_cost};
+ghost use Rattle.db_read.specs.Reader.{GoesOn};
+ghost use Rattle.db_read.specs.Scan.{IsResolved, IsRight};
 
-use crate::scan::Selection;
-use crate::telling::Told;
-use scql_base::{Conditions, NameList, Row};
-use search_cond::{Bound, Placed, bind_into, meets_each};
-use views::{Places, places_of};
+use crate::finding::find_selected;
+use crate::reader::Reader;
+use crate::scan::{Choice, Scan};
+use eeprom::{Eeprom, EepromFault};
+use record_table::{Stop, refused};
+use scql_base::{Actor, Cursor, NameList, Object, ObjectKind, StatusWord};
+use search_cond::{Bound, bind_into};
+use views::{Places, Resolved, places_of, resolve_into};
 
-/// The rows that a cursor chooses, by where they come from.
-#[derive(Drop)]
-pub(crate) enum Choice<'a> {
-    /// Rows of a table.
-    OfTable(Chosen<'a>),
-    /// Rows of a dictionary.
-    OfDictionary(Told<'a>),
-}
-
-/// The rows of a table that a cursor chooses, and their values that it shows.
-#[derive(Drop)]
-pub(crate) struct Chosen<'a> {
-    /// The stamp of the table.
-    pub(crate) table: u32,
-    /// The places of the cursor's columns among the table's.
-    pub(crate) places: &'a Places,
-    /// The cursor's conditions.
-    pub(crate) conditions: &'a [Placed],
-    /// The conditions of the views between.
-    pub(crate) filters: &'a [Bound],
-}
-
-impl<'a> Chosen<'a> {
-    /// The rows of a selection.
-    pub(crate) fn of(selection: &'a Selection) -> Chosen<'a>
-        ensures table { result.table ≡ selection.now.resolved.table }
-        ensures places { result.places.now ≡ selection.now.places }
-        ensures conditions { result.conditions.now ≡ selection.now.conditions }
-        ensures filters { result.filters.now ≡ selection.now.resolved.filters.items }
-    {
-        Chosen {
-            table: selection.resolved.table,
-            places: &selection.places,
-            conditions: selection.conditions.as_slice(),
-            filters: selection.resolved.filters.as_slice(),
-        }
-    }
-
-    /// Whether each row of the table is among those chosen, since there are no conditions.
-    pub(crate) fn shows_all(&self) -> bool
-        ensures { IsTrue result → (values : Values) → specs.is_shown self.now values ≡ true }
-    {
-        self.conditions.is_empty() && self.filters.is_empty()
-    }
-
-    /// Whether a row of the table is among those chosen.
-    pub(crate) fn shows(&self, row: &Row) -> bool
-        ensures { result ≡ specs.is_shown self.now row.now }
-    {
-        meets_each(row, self.conditions) && passes_each(self.filters, row)
-    }
-}
-
-fn passes_each(filters: &[Bound], row: &Row) -> bool
-    ensures { result ≡ list_all (passes row.now) filters.now }
-{
-    filters.iter().all(|filter| filter.matches(row))
-}
-
-/// Becomes the values at places of a row. What isn't a row is cut short.
-#[inline(always)]
-pub(crate) fn cut_into(places: &Places, row: &Row, out: &mut Row)
-    ensures { are_a_row (values_at places.now.items row.now) ≡ true → out.new ≡ values_at places.now.items row.now }
-{
-    if are_all(places.as_slice(), row.len()) {
-        take_over(row, out);
-    } else {
-        cut_each(places, row, out);
-    }
-}
-
-// Whether these are the places of so many values, in their order.
-fn are_all(places: &[u8], count: usize) -> bool
-    ensures { IsTrue result → (values : Values) → length values ≡ count → values_at places.now values ≡ values }
-{
-    let mut next = 0;
-    for place in places {
-        if usize::from(*place) != next {
-            return false;
-        }
-        next += 1;
-    }
-    next == count
-}
-
-// Becomes the same row, whose values are taken over as one run.
-fn take_over(row: &Row, out: &mut Row)
-    ensures { out.new ≡ row.now }
-{
-    prove!(row.len() <= Row::MOST);
-    let taken = out.read_into(row.octets()).is_some();
-    prove!(taken);
-}
-
-// Becomes the values at places of a row, one by one.
+/// Finds what a cursor chooses: its object, from which the actor may select, the table under it where it is none of a dictionary, and its
+/// columns and conditions among all of these; or the first refusal.
 #[inline(never)]
-fn cut_each(places: &Places, row: &Row, out: &mut Row)
-    ensures { are_a_row (values_at places.now.items row.now) ≡ true → out.new ≡ values_at places.now.items row.now }
+pub(crate) fn choose<B: Eeprom>(
+    reader: &mut Reader<'_, B>,
+    actor: Actor,
+    cursor: &Cursor,
+    scan: &mut Scan,
+) -> Result<(), Stop>
+    requires over { IsOver reader.old.store.now (B.chip reader.old.bench.now) }
+    ensures right { (db : Database) → IsHeld reader.old.store.now reader.old.side (B.chip reader.old.bench.now) db → IsRight db actor scan.new cursor.now }
+    ensures there { IfOk result (λ _. is_some scan.new ≡ true) }
+    ensures refused { (db : Database) → IsHeld reader.old.store.now reader.old.side (B.chip reader.old.bench.now) db → IsCursorOf db cursor.now
+        → IfErr result (Stops (rows_under db actor cursor.now)) }
+    ensures octets_read { (db : Database) → IsHeld reader.old.store.now reader.old.side (B.chip reader.old.bench.now) db → IsCursorOf db cursor.now
+        → WhereRead result (IfSome (slots_of reader.old.store.now reader.old.side (B.chip reader.old.bench.now))
+        (λ slots. Becomes (RisesBetween 0 (catalogue_cost slots)) (B.octets_read reader.old.bench.now) (B.octets_read reader.new.bench.now))) }
+    ensures goes_on { GoesOn reader.old reader.new }
+    ensures frame { Reads is_stop_fault B.chip B.faults reader.old.bench.now reader.new.bench.now result }
 {
-    let emptied = out.read_into(&[]).is_some();
-    prove!(emptied);
-    for place in places.as_slice() {
-        let value = row.get(usize::from(*place)).unwrap_or(&[]);
-        let _ = out.push(value);
+    let Scan {
+        is_found,
+        choice,
+        ..
+    } = scan;
+    *is_found = false;
+    let Choice {
+        object,
+        resolved,
+        places,
+        conditions,
+    } = choice;
+    find_selected(reader, actor, cursor.object, object)?;
+    let Some(object) = object else {
+        return refused(StatusWord::NOT_FOUND);
+    };
+    resolve(reader, object, resolved)?;
+    if !place_all(&resolved.all, cursor, places, conditions) {
+        return refused(StatusWord::NOT_FOUND);
     }
+    *is_found = true;
+    Ok(())
 }
 
-/// Finds the places of columns among all of a table, and binds conditions to these, where the caller has room; and answers whether each
-/// is there.
-pub(crate) fn place_all(
-    all: &NameList,
-    columns: &NameList,
-    conditions: &Conditions,
-    places: &mut Places,
-    bound: &mut Bound,
-) -> bool
-    ensures placed { IsTrue result → ArePlaces places.new.items all.now columns.now × Binds bound.new all.now conditions.now }
-    ensures few { length columns.now ≤ MOST }
-    ensures there { are_named_among all.now columns.now conditions.now ≡ true → result ≡ true }
+// Finds all columns among which those of a cursor on an object are: those of the table under it, or of the dictionary that it is.
+fn resolve<B: Eeprom>(
+    reader: &mut Reader<'_, B>,
+    object: &Object,
+    resolved: &mut Resolved,
+) -> Result<(), EepromFault>
+    requires over { IsOver reader.old.store.now (B.chip reader.old.bench.now) }
+    ensures rests { (db : Database) → IsHeld reader.old.store.now reader.old.side (B.chip reader.old.bench.now) db → object_stamped db.objects object.now.stamp ≡ Some object.now
+        → IfOk result (λ _. IsResolved db.objects object.now resolved.new) }
+    ensures octets_read { IfOk result (λ _. IfSome (slots_of reader.old.store.now reader.old.side (B.chip reader.old.bench.now))
+        (λ slots. Becomes (RisesAtMost (way_cost slots)) (B.octets_read reader.old.bench.now) (B.octets_read reader.new.bench.now))) }
+    ensures rises { IfOk result (λ _. NeverFalls (slots_of reader.old.store.now reader.old.side (B.chip reader.old.bench.now)) (B.octets_read reader.old.bench.now) (B.octets_read reader.new.bench.now)) }
+    ensures goes_on { GoesOn reader.old reader.new }
+    ensures frame { Reads each_error B.chip B.faults reader.old.bench.now reader.new.bench.now result }
 {
-    prove!(columns.len() <= NameList::MOST);
-    let Some(found) = places_of(all, columns) else {
+    let columns = match &object.kind {
+        ObjectKind::View { .. } => {
+            return resolve_into(reader.store, reader.bench, reader.side, object, resolved);
+        }
+        ObjectKind::Table { columns } => columns.copy(),
+        ObjectKind::Dictionary { subject } => dictionaries::columns_of(*subject),
+    };
+    resolved.table = object.stamp;
+    resolved.all = columns;
+    resolved.filters.clear();
+    Ok(())
+}
+
+// Finds the places of a cursor's columns among all, and binds its conditions to these; and answers whether each is there.
+fn place_all(all: &NameList, cursor: &Cursor, places: &mut Places, bound: &mut Bound) -> bool
+    ensures placed { IsTrue result → ArePlaces places.new.items all.now cursor.now.columns × Binds bound.new all.now cursor.now.conditions }
+    ensures few { length cursor.now.columns ≤ MOST }
+    ensures there { are_named_among all.now cursor.now.columns cursor.now.conditions ≡ true → result ≡ true }
+{
+    prove!(cursor.columns.len() <= NameList::MOST);
+    let Some(found) = places_of(all, &cursor.columns) else {
         return false;
     };
     *places = found;
-    bind_into(all, conditions, bound).is_ok()
+    bind_into(all, &cursor.conditions, bound).is_ok()
 }

@@ -20,45 +20,37 @@ ghost use Rattle.record_table.specs.Listed.{cells_marked, slots_of};
 ghost use Rattle.record_table.specs.Making.{IsHeld, is_stop_fault};
 ghost use Rattle.cursor.specs.Moved.{refuses};
 ghost use Rattle.db_read.specs.Answered.{Stops, WhereRead, answered};
-ghost use Rattle.db_read.specs.Scan.{IsRightFor};
+ghost use Rattle.db_read.specs.Reader.{GoesOn};
 
 use crate::columns::columns_of;
 use crate::finding::{find_named, stopped};
-use crate::scan::Scan;
+use crate::reader::Reader;
 use eeprom::{Eeprom, EepromFault};
-use record_store::{Side, Store};
 use record_table::{Stop, refused};
-use row_index::RowIndex;
 use scql_base::{Actor, Conditions, Cursor, Name, NameList, Place, StatusWord};
 
 /// DECLARE CURSOR: the cursor is on an object, shows these columns or all, and chooses rows by these conditions.
 pub fn declare<B: Eeprom>(
-    store: &Store,
-    bench: &mut B,
-    side: Side,
+    reader: &mut Reader<'_, B>,
     actor: Actor,
     cursor: &mut Option<Cursor>,
     object: Name,
     columns: &NameList,
     conditions: &Conditions,
-    _index: &RowIndex,
-    scan: &mut Scan,
 ) -> Result<StatusWord, EepromFault>
-    requires over { IsOver store.now (B.chip bench.old) }
-    ensures moved { (db : Database) → IsHeld store.now side (B.chip bench.old) db → (pending : List ℕ)
+    requires over { IsOver reader.old.store.now (B.chip reader.old.bench.now) }
+    ensures moved { (db : Database) → IsHeld reader.old.store.now reader.old.side (B.chip reader.old.bench.now) db → (pending : List ℕ)
         → IfOk result (λ word. moved db actor (record { cursor = cursor.old; pending = pending }) (commands.declare object columns.now conditions.now) ≡ answered word cursor.new) }
     ensures refused { IfOk result (λ word. IsTrue (refuses word) → cursor.new ≡ cursor.old) }
     ensures fault { OnErr result (cursor.new ≡ cursor.old) }
-    // The scan stays right: for the cursor as it is afterwards.
-    ensures right { (db : Database) → IsHeld store.now side (B.chip bench.old) db → IsRightFor db actor scan.old cursor.old → IsRightFor db actor scan.new cursor.new }
-    ensures octets_read { (db : Database) → IsHeld store.now side (B.chip bench.old) db → IfOk result (λ _. Becomes
-        (RisesAtMost (octets_for_operation db actor cursor.old (commands.declare object columns.now conditions.now))) (B.octets_read bench.old) (B.octets_read bench.new)) }
-    ensures frame { Reads each_error B.chip B.faults bench.old bench.new result }
+    ensures octets_read { (db : Database) → IsHeld reader.old.store.now reader.old.side (B.chip reader.old.bench.now) db → IfOk result (λ _. Becomes
+        (RisesAtMost (octets_for_operation db actor cursor.old (commands.declare object columns.now conditions.now))) (B.octets_read reader.old.bench.now) (B.octets_read reader.new.bench.now)) }
+    ensures goes_on { GoesOn reader.old reader.new }
+    ensures frame { Reads each_error B.chip B.faults reader.old.bench.now reader.new.bench.now result }
 {
-    match cursor_on(store, bench, side, actor, object, columns, conditions) {
+    match cursor_on(reader, actor, object, columns, conditions) {
         Ok(declared) => {
             *cursor = Some(declared);
-            scan.forget();
             Ok(StatusWord::DONE)
         }
         Err(stop) => stopped(stop),
@@ -67,26 +59,25 @@ pub fn declare<B: Eeprom>(
 
 // The cursor that is declared, or the first refusal.
 fn cursor_on<B: Eeprom>(
-    store: &Store,
-    bench: &mut B,
-    side: Side,
+    reader: &mut Reader<'_, B>,
     actor: Actor,
     object: Name,
     columns: &NameList,
     conditions: &Conditions,
 ) -> Result<Cursor, Stop>
-    requires over { IsOver store.now (B.chip bench.old) }
-    ensures declared { (db : Database) → IsHeld store.now side (B.chip bench.old) db → (before : Reading)
+    requires over { IsOver reader.old.store.now (B.chip reader.old.bench.now) }
+    ensures declared { (db : Database) → IsHeld reader.old.store.now reader.old.side (B.chip reader.old.bench.now) db → (before : Reading)
         → IfOk result (λ cursor. moved db actor before (commands.declare object columns.now conditions.now) ≡ Ok (moved_to NotOpen cursor done)) }
     ensures new { IfOk result (λ cursor. cursor.place ≡ NotOpen) }
-    ensures refused { (db : Database) → IsHeld store.now side (B.chip bench.old) db → (before : Reading)
+    ensures refused { (db : Database) → IsHeld reader.old.store.now reader.old.side (B.chip reader.old.bench.now) db → (before : Reading)
         → IfErr result (Stops (moved db actor before (commands.declare object columns.now conditions.now))) }
-    ensures octets_read { WhereRead result (IfSome (slots_of store.now side (B.chip bench.old))
-        (λ slots. Becomes (RisesAtMost (cell_size * cells_marked object_kind slots + cell_size * cells_marked grant_kind slots)) (B.octets_read bench.old) (B.octets_read bench.new))) }
-    ensures frame { Reads is_stop_fault B.chip B.faults bench.old bench.new result }
+    ensures octets_read { WhereRead result (IfSome (slots_of reader.old.store.now reader.old.side (B.chip reader.old.bench.now))
+        (λ slots. Becomes (RisesAtMost (cell_size * cells_marked object_kind slots + cell_size * cells_marked grant_kind slots)) (B.octets_read reader.old.bench.now) (B.octets_read reader.new.bench.now))) }
+    ensures goes_on { GoesOn reader.old reader.new }
+    ensures frame { Reads is_stop_fault B.chip B.faults reader.old.bench.now reader.new.bench.now result }
 {
     let mut found = None;
-    let object = find_named(store, bench, side, actor, object, &mut found)?;
+    let object = find_named(reader, actor, object, &mut found)?;
     let all = columns_of(&object.kind);
     if !are_named(&all, columns, conditions) {
         return refused(StatusWord::NOT_FOUND);

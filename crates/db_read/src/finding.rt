@@ -13,86 +13,85 @@ ghost use Rattle.record_table.specs.Listed.{cells_marked, slots_of};
 ghost use Rattle.record_table.specs.Making.{IsHeld, is_stop_fault};
 ghost use Rattle.record_table.specs.Reading.{NeverFalls};
 ghost use Rattle.db_read.specs.Answered.{Stops, WhereRead, selectable, stop_answer};
+ghost use Rattle.db_read.specs.Reader.{GoesOn};
 
-use crate::sight::{Sight, see};
+use crate::reader::Reader;
 use eeprom::{Eeprom, EepromFault};
 use object_table::{find_name_into, find_stamp_into};
-use record_store::{Side, Store};
+use privilege_table::{Privilege, rights_on};
 use record_table::{Stop, refused};
 use scql_base::{Actor, Name, Object, StatusWord};
 
 /// Reads the object of a stamp, from which the actor may select, into a place of the caller's; or the first refusal.
-pub(crate) fn find_selected<B: Eeprom>(
-    store: &Store,
-    bench: &mut B,
-    side: Side,
+pub fn find_selected<B: Eeprom>(
+    reader: &mut Reader<'_, B>,
     actor: Actor,
     stamp: u32,
     place: &mut Option<Object>,
 ) -> Result<(), Stop>
-    requires over { IsOver store.now (B.chip bench.old) }
-    ensures found { (db : Database) → IsHeld store.now side (B.chip bench.old) db → IfOk result (λ _. IfSome place.new (λ object. selectable db actor (seen_stamped db actor stamp) ≡ Ok object)) }
+    requires over { IsOver reader.old.store.now (B.chip reader.old.bench.now) }
+    ensures found { (db : Database) → IsHeld reader.old.store.now reader.old.side (B.chip reader.old.bench.now) db → IfOk result (λ _. IfSome place.new (λ object. selectable db actor (seen_stamped db actor stamp) ≡ Ok object)) }
     ensures there { IfOk result (λ _. is_some place.new ≡ true) }
-    ensures refused { (db : Database) → IsHeld store.now side (B.chip bench.old) db → IfErr result (Stops (selectable db actor (seen_stamped db actor stamp))) }
-    ensures octets_read { WhereRead result (IfSome (slots_of store.now side (B.chip bench.old))
-        (λ slots. Becomes (RisesAtMost (cell_size * cells_marked object_kind slots + cell_size * cells_marked grant_kind slots)) (B.octets_read bench.old) (B.octets_read bench.new))) }
-    ensures rises { WhereRead result (NeverFalls (slots_of store.now side (B.chip bench.old)) (B.octets_read bench.old) (B.octets_read bench.new)) }
-    ensures frame { Reads is_stop_fault B.chip B.faults bench.old bench.new result }
+    ensures refused { (db : Database) → IsHeld reader.old.store.now reader.old.side (B.chip reader.old.bench.now) db → IfErr result (Stops (selectable db actor (seen_stamped db actor stamp))) }
+    ensures octets_read { WhereRead result (IfSome (slots_of reader.old.store.now reader.old.side (B.chip reader.old.bench.now))
+        (λ slots. Becomes (RisesAtMost (cell_size * cells_marked object_kind slots + cell_size * cells_marked grant_kind slots)) (B.octets_read reader.old.bench.now) (B.octets_read reader.new.bench.now))) }
+    ensures rises { WhereRead result (NeverFalls (slots_of reader.old.store.now reader.old.side (B.chip reader.old.bench.now)) (B.octets_read reader.old.bench.now) (B.octets_read reader.new.bench.now)) }
+    ensures goes_on { GoesOn reader.old reader.new }
+    ensures frame { Reads is_stop_fault B.chip B.faults reader.old.bench.now reader.new.bench.now result }
 {
-    find_stamp_into(store, bench, side, stamp, place)?;
-    match select(store, bench, side, actor, place) {
-        Ok(_) => Ok(()),
-        Err(stop) => Err(stop),
-    }
+    find_stamp_into(reader.store, reader.bench, reader.side, stamp, place)?;
+    select(reader, actor, place)?;
+    Ok(())
 }
 
 /// The object of a name, from which the actor may select, or the first refusal. It is read into a place of the caller's.
 pub(crate) fn find_named<'a, B: Eeprom>(
-    store: &Store,
-    bench: &mut B,
-    side: Side,
+    reader: &mut Reader<'_, B>,
     actor: Actor,
     name: Name,
     place: &'a mut Option<Object>,
 ) -> Result<&'a Object, Stop>
-    requires over { IsOver store.now (B.chip bench.old) }
-    ensures found { (db : Database) → IsHeld store.now side (B.chip bench.old) db → IfOk result (λ object. selectable db actor (seen_named db actor name) ≡ Ok object.now) }
-    ensures refused { (db : Database) → IsHeld store.now side (B.chip bench.old) db → IfErr result (Stops (selectable db actor (seen_named db actor name))) }
-    ensures octets_read { WhereRead result (IfSome (slots_of store.now side (B.chip bench.old))
-        (λ slots. Becomes (RisesAtMost (cell_size * cells_marked object_kind slots + cell_size * cells_marked grant_kind slots)) (B.octets_read bench.old) (B.octets_read bench.new))) }
-    ensures frame { Reads is_stop_fault B.chip B.faults bench.old bench.new result }
+    requires over { IsOver reader.old.store.now (B.chip reader.old.bench.now) }
+    ensures found { (db : Database) → IsHeld reader.old.store.now reader.old.side (B.chip reader.old.bench.now) db → IfOk result (λ object. selectable db actor (seen_named db actor name) ≡ Ok object.now) }
+    ensures refused { (db : Database) → IsHeld reader.old.store.now reader.old.side (B.chip reader.old.bench.now) db → IfErr result (Stops (selectable db actor (seen_named db actor name))) }
+    ensures octets_read { WhereRead result (IfSome (slots_of reader.old.store.now reader.old.side (B.chip reader.old.bench.now))
+        (λ slots. Becomes (RisesAtMost (cell_size * cells_marked object_kind slots + cell_size * cells_marked grant_kind slots)) (B.octets_read reader.old.bench.now) (B.octets_read reader.new.bench.now))) }
+    ensures goes_on { GoesOn reader.old reader.new }
+    ensures frame { Reads is_stop_fault B.chip B.faults reader.old.bench.now reader.new.bench.now result }
 {
-    find_name_into(store, bench, side, name, place)?;
-    select(store, bench, side, actor, place)
+    find_name_into(reader.store, reader.bench, reader.side, name, place)?;
+    select(reader, actor, place)
 }
 
 // The object that was found, if the actor may select from it, or the first refusal.
 fn select<'a, B: Eeprom>(
-    store: &Store,
-    bench: &mut B,
-    side: Side,
+    reader: &mut Reader<'_, B>,
     actor: Actor,
     found: &'a Option<Object>,
 ) -> Result<&'a Object, Stop>
-    requires over { IsOver store.now (B.chip bench.old) }
-    ensures found { (db : Database) → IsHeld store.now side (B.chip bench.old) db
+    requires over { IsOver reader.old.store.now (B.chip reader.old.bench.now) }
+    ensures found { (db : Database) → IsHeld reader.old.store.now reader.old.side (B.chip reader.old.bench.now) db
         → IfOk result (λ object. selectable db actor (option_filter (model.appears db actor) found.now) ≡ Ok object.now) }
-    ensures refused { (db : Database) → IsHeld store.now side (B.chip bench.old) db
+    ensures refused { (db : Database) → IsHeld reader.old.store.now reader.old.side (B.chip reader.old.bench.now) db
         → IfErr result (Stops (selectable db actor (option_filter (model.appears db actor) found.now))) }
     ensures there { IfOk result (λ object. found.now ≡ Some object.now) }
-    ensures octets_read { WhereRead result (IfSome (slots_of store.now side (B.chip bench.old))
-        (λ slots. Becomes (RisesAtMost (cell_size * cells_marked grant_kind slots)) (B.octets_read bench.old) (B.octets_read bench.new))) }
-    ensures rises { WhereRead result (NeverFalls (slots_of store.now side (B.chip bench.old)) (B.octets_read bench.old) (B.octets_read bench.new)) }
-    ensures frame { Reads is_stop_fault B.chip B.faults bench.old bench.new result }
+    ensures octets_read { WhereRead result (IfSome (slots_of reader.old.store.now reader.old.side (B.chip reader.old.bench.now))
+        (λ slots. Becomes (RisesAtMost (cell_size * cells_marked grant_kind slots)) (B.octets_read reader.old.bench.now) (B.octets_read reader.new.bench.now))) }
+    ensures rises { WhereRead result (NeverFalls (slots_of reader.old.store.now reader.old.side (B.chip reader.old.bench.now)) (B.octets_read reader.old.bench.now) (B.octets_read reader.new.bench.now)) }
+    ensures goes_on { GoesOn reader.old reader.new }
+    ensures frame { Reads is_stop_fault B.chip B.faults reader.old.bench.now reader.new.bench.now result }
 {
     let Some(object) = found else {
         return refused(StatusWord::NOT_FOUND);
     };
-    match see(store, bench, side, actor, object)? {
-        Sight::Open => Ok(object),
-        Sight::Closed => refused(StatusWord::SECURITY_NOT_SATISFIED),
-        Sight::Hidden => refused(StatusWord::NOT_FOUND),
+    let rights = rights_on(reader.store, reader.bench, reader.side, actor, object)?;
+    if !rights.see() {
+        return refused(StatusWord::NOT_FOUND);
     }
+    if !rights.have(Privilege::Select) {
+        return refused(StatusWord::SECURITY_NOT_SATISFIED);
+    }
+    Ok(object)
 }
 
 /// What an operation answers that stopped: the word of a refusal, or a fault.

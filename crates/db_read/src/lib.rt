@@ -3,20 +3,21 @@
 
 mod advancing;
 mod choosing;
+mod chosen;
 mod columns;
 mod declaring;
 mod feed;
-mod fetching;
 mod finding;
 mod going;
 mod motion;
-mod moving;
+mod reader;
 mod rows;
 mod scan;
-mod sight;
 mod telling;
 
+pub use advancing::advance;
 pub use declaring::declare;
-pub use fetching::{fetch_next_row, fetch_row};
-pub use moving::{next_row, open_cursor};
+pub use finding::find_selected;
+pub use motion::Motion;
+pub use reader::Reader;
 pub use scan::{FoundRows, Scan};

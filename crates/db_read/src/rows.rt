@@ -20,8 +20,10 @@ ghost use Rattle.cursor.specs.Costs.{RisesBetween, cost_behind, cost_of, size_ha
 ghost use Rattle.cursor.specs.Moved.{handed, row_handed};
 ghost use Rattle.db_read.specs.Chosen.{IsNextShown, costs_shown, rows_shown};
 ghost use Rattle.db_read.specs.Costs.{cost_passed, cost_reached, least_of, row_costs, row_read};
+ghost use Rattle.db_read.specs.Reader.{GoesOn};
 
-use crate::choosing::{Chosen, cut_into};
+use crate::chosen::{Chosen, cut_into};
+use crate::reader::Reader;
 use crate::scan::RowRoom;
 use catalog_codec::Record;
 use eeprom::{Eeprom, EepromFault};
@@ -32,49 +34,51 @@ use scql_base::{Row, RowRecord};
 
 /// The stamp of the next chosen row behind a stamp. Where all rows are chosen the index tells it, and no row is read.
 pub(crate) fn next_chosen<B: Eeprom>(
-    store: &Store,
-    bench: &mut B,
-    side: Side,
+    reader: &mut Reader<'_, B>,
     chosen: &Chosen<'_>,
     stamp: u32,
-    index: &RowIndex,
     room: &mut RowRoom,
 ) -> Result<Option<u32>, EepromFault>
-    requires over { IsOver store.now (B.chip bench.old) }
-    requires index { Indexes index.now store.now (B.chip bench.old) }
-    ensures next { IfOk result (λ next. IfSome (rows_shown chosen.now (slots_of store.now side (B.chip bench.old)))
+    requires over { IsOver reader.old.store.now (B.chip reader.old.bench.now) }
+    requires index { Indexes reader.old.index.now reader.old.store.now (B.chip reader.old.bench.now) }
+    ensures next { IfOk result (λ next. IfSome (rows_shown chosen.now (slots_of reader.old.store.now reader.old.side (B.chip reader.old.bench.now)))
         (λ rows. next ≡ option_map (λ row. row.stamp) (moves.row_behind (Place.At stamp) rows))) }
-    ensures octets_read { IfOk result (λ next. IfSome (costs_shown chosen.now (slots_of store.now side (B.chip bench.old)))
-        (λ costs. Becomes (RisesBetween 0 (cost_behind stamp next costs)) (B.octets_read bench.old) (B.octets_read bench.new))) }
-    ensures frame { Reads each_error B.chip B.faults bench.old bench.new result }
+    ensures octets_read { IfOk result (λ next. IfSome (costs_shown chosen.now (slots_of reader.old.store.now reader.old.side (B.chip reader.old.bench.now)))
+        (λ costs. Becomes (RisesBetween 0 (cost_behind stamp next costs)) (B.octets_read reader.old.bench.now) (B.octets_read reader.new.bench.now))) }
+    ensures goes_on { GoesOn reader.old reader.new }
+    ensures frame { Reads each_error B.chip B.faults reader.old.bench.now reader.new.bench.now result }
 {
     if chosen.shows_all() {
-        Ok(stamp_behind(side, chosen.table, stamp, index, &mut room.near))
+        Ok(stamp_behind(
+            reader.index,
+            reader.side,
+            chosen.table,
+            stamp,
+            &mut room.near,
+        ))
     } else {
-        next_read(store, bench, side, chosen, stamp, index, room)
+        next_read(reader, chosen, stamp, room)
     }
 }
 
 /// Hands out what is shown of the next chosen row behind a stamp, and answers its stamp. It and the rows between are read once.
 pub(crate) fn next_chosen_row<B: Eeprom>(
-    store: &Store,
-    bench: &mut B,
-    side: Side,
+    reader: &mut Reader<'_, B>,
     chosen: &Chosen<'_>,
     stamp: u32,
     out: &mut Row,
-    index: &RowIndex,
     room: &mut RowRoom,
 ) -> Result<Option<u32>, EepromFault>
-    requires over { IsOver store.now (B.chip bench.old) }
-    requires index { Indexes index.now store.now (B.chip bench.old) }
-    ensures next { IfOk result (λ next. IfSome (rows_shown chosen.now (slots_of store.now side (B.chip bench.old)))
+    requires over { IsOver reader.old.store.now (B.chip reader.old.bench.now) }
+    requires index { Indexes reader.old.index.now reader.old.store.now (B.chip reader.old.bench.now) }
+    ensures next { IfOk result (λ next. IfSome (rows_shown chosen.now (slots_of reader.old.store.now reader.old.side (B.chip reader.old.bench.now)))
         (λ rows. row_handed next out.new ≡ moves.row_behind (Place.At stamp) rows)) }
-    ensures octets_read { IfOk result (λ next. IfSome (costs_shown chosen.now (slots_of store.now side (B.chip bench.old)))
-        (λ costs. Becomes (RisesBetween (size_handed next out.new) (cost_behind stamp next costs)) (B.octets_read bench.old) (B.octets_read bench.new))) }
-    ensures frame { Reads each_error B.chip B.faults bench.old bench.new result }
+    ensures octets_read { IfOk result (λ next. IfSome (costs_shown chosen.now (slots_of reader.old.store.now reader.old.side (B.chip reader.old.bench.now)))
+        (λ costs. Becomes (RisesBetween (size_handed next out.new) (cost_behind stamp next costs)) (B.octets_read reader.old.bench.now) (B.octets_read reader.new.bench.now))) }
+    ensures goes_on { GoesOn reader.old reader.new }
+    ensures frame { Reads each_error B.chip B.faults reader.old.bench.now reader.new.bench.now result }
 {
-    if shown_behind(store, bench, side, chosen, stamp, index, room)? {
+    if shown_behind(reader, chosen, stamp, room)? {
         cut_into(chosen.places, &room.row.row, out);
         Ok(Some(room.row.stamp))
     } else {
@@ -84,24 +88,22 @@ pub(crate) fn next_chosen_row<B: Eeprom>(
 
 /// Hands out what is shown of the row of a stamp, and answers whether it is chosen.
 pub(crate) fn chosen_row<B: Eeprom>(
-    store: &Store,
-    bench: &mut B,
-    side: Side,
+    reader: &mut Reader<'_, B>,
     chosen: &Chosen<'_>,
     stamp: u32,
     out: &mut Row,
-    index: &RowIndex,
     room: &mut RowRoom,
 ) -> Result<bool, EepromFault>
-    requires over { IsOver store.now (B.chip bench.old) }
-    requires index { Indexes index.now store.now (B.chip bench.old) }
-    ensures there { IfOk result (λ there. IfSome (rows_shown chosen.now (slots_of store.now side (B.chip bench.old)))
+    requires over { IsOver reader.old.store.now (B.chip reader.old.bench.now) }
+    requires index { Indexes reader.old.index.now reader.old.store.now (B.chip reader.old.bench.now) }
+    ensures there { IfOk result (λ there. IfSome (rows_shown chosen.now (slots_of reader.old.store.now reader.old.side (B.chip reader.old.bench.now)))
         (λ rows. handed there out.new ≡ option_map (λ row. row.values) (moves.row_at stamp rows))) }
-    ensures octets_read { IfOk result (λ there. IfSome (costs_shown chosen.now (slots_of store.now side (B.chip bench.old)))
-        (λ costs. Becomes (RisesBetween (if there then row_size out.new else 0) (cost_of stamp costs)) (B.octets_read bench.old) (B.octets_read bench.new))) }
-    ensures frame { Reads each_error B.chip B.faults bench.old bench.new result }
+    ensures octets_read { IfOk result (λ there. IfSome (costs_shown chosen.now (slots_of reader.old.store.now reader.old.side (B.chip reader.old.bench.now)))
+        (λ costs. Becomes (RisesBetween (if there then row_size out.new else 0) (cost_of stamp costs)) (B.octets_read reader.old.bench.now) (B.octets_read reader.new.bench.now))) }
+    ensures goes_on { GoesOn reader.old reader.new }
+    ensures frame { Reads each_error B.chip B.faults reader.old.bench.now reader.new.bench.now result }
 {
-    if !row_of_table(store, bench, side, chosen.table, stamp, index, room)? {
+    if !row_of_table(reader, chosen.table, stamp, room)? {
         return Ok(false);
     }
     if !chosen.shows(&room.row.row) {
@@ -113,10 +115,10 @@ pub(crate) fn chosen_row<B: Eeprom>(
 
 // The stamp of the row of a table behind a stamp, as the index has it.
 fn stamp_behind(
+    index: &RowIndex,
     side: Side,
     table: u32,
     stamp: u32,
-    index: &RowIndex,
     near: &mut usize,
 ) -> Option<u32>
     ensures { result ≡ option_map place_stamp (find (is_later_in table stamp) (side_places index.now side)) }
@@ -127,23 +129,21 @@ fn stamp_behind(
 
 // The stamp of the next chosen row behind a stamp, which is read, as the rows between are.
 fn next_read<B: Eeprom>(
-    store: &Store,
-    bench: &mut B,
-    side: Side,
+    reader: &mut Reader<'_, B>,
     chosen: &Chosen<'_>,
     stamp: u32,
-    index: &RowIndex,
     room: &mut RowRoom,
 ) -> Result<Option<u32>, EepromFault>
-    requires over { IsOver store.now (B.chip bench.old) }
-    requires index { Indexes index.now store.now (B.chip bench.old) }
-    ensures next { IfOk result (λ next. IfSome (rows_shown chosen.now (slots_of store.now side (B.chip bench.old)))
+    requires over { IsOver reader.old.store.now (B.chip reader.old.bench.now) }
+    requires index { Indexes reader.old.index.now reader.old.store.now (B.chip reader.old.bench.now) }
+    ensures next { IfOk result (λ next. IfSome (rows_shown chosen.now (slots_of reader.old.store.now reader.old.side (B.chip reader.old.bench.now)))
         (λ rows. next ≡ option_map (λ row. row.stamp) (moves.row_behind (Place.At stamp) rows))) }
-    ensures octets_read { IfOk result (λ next. IfSome (costs_shown chosen.now (slots_of store.now side (B.chip bench.old)))
-        (λ costs. Becomes (RisesBetween 0 (cost_behind stamp next costs)) (B.octets_read bench.old) (B.octets_read bench.new))) }
-    ensures frame { Reads each_error B.chip B.faults bench.old bench.new result }
+    ensures octets_read { IfOk result (λ next. IfSome (costs_shown chosen.now (slots_of reader.old.store.now reader.old.side (B.chip reader.old.bench.now)))
+        (λ costs. Becomes (RisesBetween 0 (cost_behind stamp next costs)) (B.octets_read reader.old.bench.now) (B.octets_read reader.new.bench.now))) }
+    ensures goes_on { GoesOn reader.old reader.new }
+    ensures frame { Reads each_error B.chip B.faults reader.old.bench.now reader.new.bench.now result }
 {
-    if shown_behind(store, bench, side, chosen, stamp, index, room)? {
+    if shown_behind(reader, chosen, stamp, room)? {
         Ok(Some(room.row.stamp))
     } else {
         Ok(None)
@@ -154,23 +154,21 @@ fn next_read<B: Eeprom>(
 // It is inlined, as what it calls is, since a scan comes here for each row.
 #[inline(always)]
 fn shown_behind<B: Eeprom>(
-    store: &Store,
-    bench: &mut B,
-    side: Side,
+    reader: &mut Reader<'_, B>,
     chosen: &Chosen<'_>,
     stamp: u32,
-    index: &RowIndex,
     room: &mut RowRoom,
 ) -> Result<bool, EepromFault>
-    requires over { IsOver store.now (B.chip bench.old) }
-    requires index { Indexes index.now store.now (B.chip bench.old) }
-    ensures next { IfOk result (λ there. IfSome (slots_of store.now side (B.chip bench.old)) (IsNextShown chosen.now stamp (row_read there room.new.row))) }
-    ensures octets_read { IfOk result (λ there. IfSome (slots_of store.now side (B.chip bench.old))
-        (λ slots. Becomes (RisesBetween (least_of (row_read there room.new.row)) (cost_passed chosen.now.table stamp slots (row_read there room.new.row))) (B.octets_read bench.old) (B.octets_read bench.new))) }
-    ensures frame { Reads each_error B.chip B.faults bench.old bench.new result }
+    requires over { IsOver reader.old.store.now (B.chip reader.old.bench.now) }
+    requires index { Indexes reader.old.index.now reader.old.store.now (B.chip reader.old.bench.now) }
+    ensures next { IfOk result (λ there. IfSome (slots_of reader.old.store.now reader.old.side (B.chip reader.old.bench.now)) (IsNextShown chosen.now stamp (row_read there room.new.row))) }
+    ensures octets_read { IfOk result (λ there. IfSome (slots_of reader.old.store.now reader.old.side (B.chip reader.old.bench.now))
+        (λ slots. Becomes (RisesBetween (least_of (row_read there room.new.row)) (cost_passed chosen.now.table stamp slots (row_read there room.new.row))) (B.octets_read reader.old.bench.now) (B.octets_read reader.new.bench.now))) }
+    ensures goes_on { GoesOn reader.old reader.new }
+    ensures frame { Reads each_error B.chip B.faults reader.old.bench.now reader.new.bench.now result }
 {
     let mut passed = stamp;
-    while row_behind(store, bench, side, chosen.table, passed, index, room)? {
+    while row_behind(reader, chosen.table, passed, room)? {
         if chosen.shows(&room.row.row) {
             return Ok(true);
         }
@@ -182,26 +180,25 @@ fn shown_behind<B: Eeprom>(
 // Reads the row of a table behind a stamp into a place, and answers whether there is one.
 #[inline(always)]
 fn row_behind<B: Eeprom>(
-    store: &Store,
-    bench: &mut B,
-    side: Side,
+    reader: &mut Reader<'_, B>,
     table: u32,
     stamp: u32,
-    index: &RowIndex,
     room: &mut RowRoom,
 ) -> Result<bool, EepromFault>
-    requires over { IsOver store.now (B.chip bench.old) }
-    requires index { Indexes index.now store.now (B.chip bench.old) }
+    requires over { IsOver reader.old.store.now (B.chip reader.old.bench.now) }
+    requires index { Indexes reader.old.index.now reader.old.store.now (B.chip reader.old.bench.now) }
     ensures behind { IfOk result (λ there. IsTrue there → stamp < room.new.row.stamp) }
-    ensures next { IfOk result (λ there. IfSome (slots_of store.now side (B.chip bench.old)) (λ slots. row_read there room.new.row ≡ find (is_row_after table stamp) (listed row_kind slots))) }
-    ensures octets_read { IfOk result (λ there. IfSome (slots_of store.now side (B.chip bench.old))
-        (λ slots. Becomes (RisesBetween (least_of (row_read there room.new.row)) (cost_reached table slots (row_read there room.new.row))) (B.octets_read bench.old) (B.octets_read bench.new))) }
-    ensures frame { Reads each_error B.chip B.faults bench.old bench.new result }
+    ensures next { IfOk result (λ there. IfSome (slots_of reader.old.store.now reader.old.side (B.chip reader.old.bench.now)) (λ slots. row_read there room.new.row ≡ find (is_row_after table stamp) (listed row_kind slots))) }
+    ensures octets_read { IfOk result (λ there. IfSome (slots_of reader.old.store.now reader.old.side (B.chip reader.old.bench.now))
+        (λ slots. Becomes (RisesBetween (least_of (row_read there room.new.row)) (cost_reached table slots (row_read there room.new.row))) (B.octets_read reader.old.bench.now) (B.octets_read reader.new.bench.now))) }
+    ensures goes_on { GoesOn reader.old reader.new }
+    ensures frame { Reads each_error B.chip B.faults reader.old.bench.now reader.new.bench.now result }
 {
-    let Some((_, slot)) = index.next_after_near(side, table, stamp, &mut room.near) else {
+    let index = reader.index;
+    let Some((_, slot)) = index.next_after_near(reader.side, table, stamp, &mut room.near) else {
         return Ok(false);
     };
-    if !row_in(store, bench, side, slot, room)? {
+    if !row_in(reader, slot, room)? {
         return Ok(false);
     }
     // No stamp is passed twice, whatever an image tells that isn't a valid one.
@@ -213,51 +210,49 @@ fn row_behind<B: Eeprom>(
 
 // Reads the row of a stamp into a place, and answers whether there is one of the table. A row of another table isn't read.
 fn row_of_table<B: Eeprom>(
-    store: &Store,
-    bench: &mut B,
-    side: Side,
+    reader: &mut Reader<'_, B>,
     table: u32,
     stamp: u32,
-    index: &RowIndex,
     room: &mut RowRoom,
 ) -> Result<bool, EepromFault>
-    requires over { IsOver store.now (B.chip bench.old) }
-    requires index { Indexes index.now store.now (B.chip bench.old) }
-    ensures found { IfOk result (λ there. IfSome (slots_of store.now side (B.chip bench.old))
+    requires over { IsOver reader.old.store.now (B.chip reader.old.bench.now) }
+    requires index { Indexes reader.old.index.now reader.old.store.now (B.chip reader.old.bench.now) }
+    ensures found { IfOk result (λ there. IfSome (slots_of reader.old.store.now reader.old.side (B.chip reader.old.bench.now))
         (λ slots. row_read there room.new.row ≡ option_filter (λ row. row.table == table) (find (has row_kind.key stamp) (listed row_kind slots)))) }
-    ensures octets_read { IfOk result (λ there. IfSome (slots_of store.now side (B.chip bench.old))
-        (λ slots. Becomes (RisesBetween (least_of (row_read there room.new.row)) (cost_of stamp (row_costs table slots))) (B.octets_read bench.old) (B.octets_read bench.new))) }
-    ensures frame { Reads each_error B.chip B.faults bench.old bench.new result }
+    ensures octets_read { IfOk result (λ there. IfSome (slots_of reader.old.store.now reader.old.side (B.chip reader.old.bench.now))
+        (λ slots. Becomes (RisesBetween (least_of (row_read there room.new.row)) (cost_of stamp (row_costs table slots))) (B.octets_read reader.old.bench.now) (B.octets_read reader.new.bench.now))) }
+    ensures goes_on { GoesOn reader.old reader.new }
+    ensures frame { Reads each_error B.chip B.faults reader.old.bench.now reader.new.bench.now result }
 {
-    let Some((of, slot)) = index.find(side, stamp) else {
+    let Some((of, slot)) = reader.index.find(reader.side, stamp) else {
         return Ok(false);
     };
     if of != table {
         return Ok(false);
     }
-    row_in(store, bench, side, slot, room)
+    row_in(reader, slot, room)
 }
 
 // Reads the row of a slot into a place, and answers whether the slot has one.
 #[inline(always)]
 fn row_in<B: Eeprom>(
-    store: &Store,
-    bench: &mut B,
-    side: Side,
+    reader: &mut Reader<'_, B>,
     slot: u16,
     room: &mut RowRoom,
 ) -> Result<bool, EepromFault>
-    requires over { IsOver store.now (B.chip bench.old) }
-    requires slot { slot < store.now.chains.cells }
-    ensures value { IfOk result (λ there. IfSome (slots_of store.now side (B.chip bench.old)) (λ slots. row_read there room.new.row ≡ at_slot row_kind slot slots)) }
-    ensures octets_read { IfOk result (λ there. IfSome (slots_of store.now side (B.chip bench.old))
-        (λ slots. Becomes (RisesBetween (least_of (row_read there room.new.row)) (cell_size * kind_cells row_kind (slice_index_or slots slot None))) (B.octets_read bench.old) (B.octets_read bench.new))) }
-    ensures frame { Reads each_error B.chip B.faults bench.old bench.new result }
+    requires over { IsOver reader.old.store.now (B.chip reader.old.bench.now) }
+    requires slot { slot < reader.old.store.now.chains.cells }
+    ensures value { IfOk result (λ there. IfSome (slots_of reader.old.store.now reader.old.side (B.chip reader.old.bench.now)) (λ slots. row_read there room.new.row ≡ at_slot row_kind slot slots)) }
+    ensures octets_read { IfOk result (λ there. IfSome (slots_of reader.old.store.now reader.old.side (B.chip reader.old.bench.now))
+        (λ slots. Becomes (RisesBetween (least_of (row_read there room.new.row)) (cell_size * kind_cells row_kind (slice_index_or slots slot None))) (B.octets_read reader.old.bench.now) (B.octets_read reader.new.bench.now))) }
+    ensures goes_on { GoesOn reader.old reader.new }
+    ensures frame { Reads each_error B.chip B.faults reader.old.bench.now reader.new.bench.now result }
 {
-    if !is_row(store, side, slot) {
+    if !is_row(reader.store, reader.side, slot) {
         return Ok(false);
     }
-    if !store.get(bench, side, slot, &mut room.octets)? {
+    let store = reader.store;
+    if !store.get(reader.bench, reader.side, slot, &mut room.octets)? {
         return Ok(false);
     }
     Ok(decode_into(room.octets.as_slice(), &mut room.row).is_some())

@@ -1,29 +1,29 @@
 // What a cursor goes over, kept for its next moves.
 ghost use Rattle.std.specs.Prelude.{◌≡◌, None};
+ghost use Rattle.scql_model.specs.Defining as defining;
 
 use record_store::RecordOctets;
-use scql_base::{NameList, Object, Row, RowRecord};
+use scql_base::{NameList, Object, ObjectKind, Row, RowRecord};
 use search_cond::{Bound, Placed};
 use std::marker::Model;
 use views::{Places, Resolved};
 
-/// What a move of a cursor over the rows of a table or a view found: its object, the table, which columns are shown, and the conditions
-/// that a row has to meet. A next move with it neither looks for the object, nor asks for the right to select from it, nor binds a
-/// condition, and neither does a change of the row. Who keeps it lets it go where the catalog or who acts may have changed. The row that
-/// a move reads has its place here, too.
+/// What a cursor chooses, once a move of it has found that: its object, the table under it or that it is a dictionary, which columns are
+/// shown, and the conditions that a row has to meet. A next move with it neither looks for the object, nor asks for the right to select from
+/// it, nor binds a condition, and neither does a change of the row. Who keeps it lets it go where the catalog or who acts may have changed.
+/// The row that a move reads has its place here, too.
 #[derive(Drop)]
 pub struct Scan {
-    /// Whether the object and the selection are what was found.
+    /// Whether the choice is what was found.
     pub(crate) is_found: bool,
-    pub(crate) object: Option<Object>,
-    pub(crate) selection: Selection,
+    pub(crate) choice: Choice,
     pub(crate) room: RowRoom,
 }
 
-/// What a scan has found.
+/// What a scan has found of a table.
 #[derive(Drop)]
 pub struct FoundRows<'a> {
-    /// The object of the cursor, from which who acts may select.
+    /// The object of the cursor, a table or a view, from which who acts may select.
     pub object: &'a Object,
     /// The stamp of the table under it.
     pub table: u32,
@@ -37,12 +37,14 @@ pub struct FoundRows<'a> {
     pub filters: &'a [Bound],
 }
 
-/// What a cursor chooses of the table under its object.
+/// What a cursor chooses.
 #[derive(Drop)]
-pub(crate) struct Selection {
-    /// The object down to its table: of it the table, and the conditions of the views between.
+pub(crate) struct Choice {
+    /// The cursor's object, from which who acts may select.
+    pub(crate) object: Option<Object>,
+    /// The object down to its table: of it the table, all its columns, and the conditions of the views between. Of a dictionary its columns.
     pub(crate) resolved: Resolved,
-    /// The places of the cursor's columns among the table's.
+    /// The places of the cursor's columns among these.
     pub(crate) places: Places,
     /// The cursor's conditions.
     pub(crate) conditions: Bound,
@@ -58,17 +60,17 @@ pub(crate) struct RowRoom {
 
 impl Model for Scan {
     ghost use Rattle.std.specs.Prelude.{Option};
-    ghost use Rattle.db_read.specs.Scan as specs;
-    ghost use Rattle.db_read.specs.Scan.{found_rows};
+    ghost use Rattle.db_read.specs.Scan.{Found, found_in};
 
-    ghost Value = { Option specs.TableRows };
+    ghost Value = { Option Found };
 
-    ghost view = { λ scan. found_rows scan.is_found scan.object scan.selection };
+    ghost view = { λ scan. found_in scan.is_found scan.choice };
 }
 
 impl Scan {
     ghost use Rattle.std.specs.Prelude.{◌≡◌, is_some, option_map};
-    ghost use Rattle.db_read.specs.Scan.{rows_lent};
+    ghost use Rattle.std.proofs.lemmas.Map.Entries.{option_filter};
+    ghost use Rattle.db_read.specs.Scan.{found_lent, is_of_table};
 
     /// Nothing was found yet.
     pub fn new() -> Scan
@@ -76,8 +78,7 @@ impl Scan {
     {
         Scan {
             is_found: false,
-            object: None,
-            selection: Selection::new(),
+            choice: Choice::new(),
             room: RowRoom::new(),
         }
     }
@@ -89,19 +90,23 @@ impl Scan {
         self.is_found = false;
     }
 
-    /// What was found, if anything.
+    /// What was found, if it is of a table.
     pub fn found(&self) -> Option<FoundRows<'_>>
-        ensures { option_map rows_lent result ≡ self.now }
+        ensures { option_map found_lent result ≡ option_filter is_of_table self.now }
     {
         if !self.is_found {
             return None;
         }
-        let object = self.object.as_ref()?;
-        let Selection {
+        let Choice {
+            object,
             resolved,
             places,
             conditions,
-        } = &self.selection;
+        } = &self.choice;
+        let object = object.as_ref()?;
+        if !is_table_or_view(&object.kind) {
+            return None;
+        }
         Some(FoundRows {
             object,
             table: resolved.table,
@@ -116,13 +121,21 @@ impl Scan {
     pub(crate) fn has_found(&self) -> bool
         ensures { result ≡ is_some self.now }
     {
-        self.is_found && self.object.is_some()
+        self.is_found && self.choice.object.is_some()
     }
 }
 
-impl Selection {
-    fn new() -> Selection {
-        Selection {
+/// Whether rows of a table are under an object of this kind, and not those of a dictionary.
+pub(crate) fn is_table_or_view(kind: &ObjectKind) -> bool
+    ensures { result ≡ defining.is_table_or_view kind.now }
+{
+    !matches!(kind, ObjectKind::Dictionary { .. })
+}
+
+impl Choice {
+    fn new() -> Choice {
+        Choice {
+            object: None,
             resolved: Resolved::default(),
             places: Places::new(),
             conditions: Bound::default(),

@@ -1,7 +1,9 @@
 -- UPDATE and DELETE through what a scan found: the cursor's object, and the table under it.
-use Rattle.std.proofs.Common.{◌≡◌, ℕ, true, false, List, Option, Some, None, Ok, Err, refl, sym, ap, subst, ◌∙◌}
+use Rattle.std.proofs.Common.{◌≡◌, ℕ, true, false, List, Option, Some, None, Ok, Err, refl, sym, ap, subst, ◌∙◌, inl, inr}
 use Rattle.std.specs.Prelude.{IfSome, option_map}
-use Rattle.std.proofs.lemmas.Option.{none-some}
+use Rattle.std.proofs.lemmas.Bool.{cases_Bool}
+use Rattle.std.proofs.lemmas.Map.Entries.{option_filter}
+use Rattle.std.proofs.lemmas.Option.{none-some, same_Some}
 use Rattle.eeprom.specs.Chip.{Chip}
 use Rattle.record_store.specs.Held.{Held}
 use Rattle.record_store.specs.declared.side.Side.TheVariants.{Working}
@@ -19,18 +21,24 @@ use Rattle.scql_model.specs.Rights.{holds, seen_stamped}
 use Rattle.scql_model.specs.Writing.{written_through}
 use Rattle.record_table.specs.Making.{IsHeld}
 use Rattle.search_cond.specs.Bound.{Binds}
-use Rattle.db_read.specs.Scan.{GoesOver, IsRight, IsRightFor, TableRows, rows_lent}
+use Rattle.db_read.specs.Scan.{Found, GoesOver, IsRight, IsRightFor, found_lent, is_of_table}
 use Rattle.db_read.specs.declared.scan.FoundRows.{FoundRows}
 use Rattle.db_read.proofs.Sighted.{object-stamped, own-stamp, selectable-parts}
 use Rattle.db_write.specs.Reached.{RestsOn}
 
--- what is lent of a scan is what it found
-pub over-lent : (lent : Option FoundRows) (scan : Option TableRows) (found : FoundRows) (db : Database) (actor : Actor) (c : Cursor) → option_map rows_lent lent ≡ scan → lent ≡ Some found → IsRight db actor scan c
-    → GoesOver db actor c (rows_lent found)
-over-lent lent scan found db actor c is there right = subst (λ (o : Option TableRows). IfSome o (GoesOver db actor c)) (sym is ∙ ap (option_map rows_lent) there) right
+-- what is lent of a scan is what it found of a table
+pub over-lent : (lent : Option FoundRows) (scan : Option Found) (found : FoundRows) (db : Database) (actor : Actor) (c : Cursor) → option_map found_lent lent ≡ option_filter is_of_table scan → lent ≡ Some found → IsRight db actor scan c
+    → GoesOver db actor c (found_lent found)
+over-lent lent None found db actor c is there right = absurd (none-some (found_lent found) (sym is ∙ ap (option_map found_lent) there))
+over-lent lent (Some p) found db actor c is there right =
+    let same = sym is ∙ ap (option_map found_lent) there in
+    elim (cases_Bool (is_of_table p)) [
+      | inl t ↦ subst (GoesOver db actor c) (same_Some p (found_lent found) (rw t at same)) (right.table t)
+      | inr f ↦ absurd (none-some (found_lent found) (rw f at same))
+    ]
 
 -- what is right for a cursor that may be missing is right for the one that is there
-pub right-for : (db : Database) (actor : Actor) (scan : Option TableRows) (cursor : Option Cursor) (c : Cursor) → cursor ≡ Some c → IsRightFor db actor scan cursor → IsRight db actor scan c
+pub right-for : (db : Database) (actor : Actor) (scan : Option Found) (cursor : Option Cursor) (c : Cursor) → cursor ≡ Some c → IsRightFor db actor scan cursor → IsRight db actor scan c
 right-for db actor scan cursor c is right = subst (λ (o : Option Cursor). IfSome o (IsRight db actor scan)) is right
 
 -- what rests on a table is a table or a view
@@ -40,7 +48,7 @@ is-resolved objects o seen (Table columns) is at resolved = refl
 is-resolved objects o seen (View base columns conditions) is at resolved = refl
 is-resolved objects o seen (Dictionary subject) is at resolved = absurd (none-some seen (let wrong : None ≡ Some seen = rw (at, is) at resolved in wrong))
 
-module _ (store : Held) (chip : Chip) (db : Database) (actor : Actor) (c : Cursor) (p : TableRows) (held : IsHeld store Working chip db) (over : GoesOver db actor c p) where
+module _ (store : Held) (chip : Chip) (db : Database) (actor : Actor) (c : Cursor) (p : Found) (held : IsHeld store Working chip db) (over : GoesOver db actor c p) where
   seen : seen_stamped db actor c.object ≡ Some p.object
   seen = (selectable-parts db actor (seen_stamped db actor c.object) p.object over.selects).0
 

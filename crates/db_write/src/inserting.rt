@@ -20,7 +20,8 @@ ghost use Rattle.row_index.specs.Index.{Indexes, is_above};
 ghost use Rattle.record_table.specs.Making.{Ends, GoesOn, IsHeld, is_stop_fault};
 
 use eeprom::Eeprom;
-use privilege_table::{Privilege, find_seen_into, holds};
+use object_table::find_name_into;
+use privilege_table::{Privilege, rights_on};
 use record_store::{Side, Store};
 use record_table::{Stop, make, next_stamp, refused};
 use row_index::RowIndex;
@@ -76,21 +77,18 @@ fn find_table<B: Eeprom>(
     ensures frame { Reads is_stop_fault B.chip B.faults bench.old bench.new result }
 {
     let mut place = None;
-    find_seen_into(store, bench, Side::Working, actor, name, &mut place)?;
+    find_name_into(store, bench, Side::Working, name, &mut place)?;
     let Some(object) = &place else {
         return refused(StatusWord::NOT_FOUND);
     };
+    let rights = rights_on(store, bench, Side::Working, actor, object)?;
+    if !rights.see() {
+        return refused(StatusWord::NOT_FOUND);
+    }
     if !is_table(&object.kind) {
         return refused(StatusWord::NOT_FOUND);
     }
-    if !holds(
-        store,
-        bench,
-        Side::Working,
-        actor,
-        object,
-        Privilege::Insert,
-    )? {
+    if !rights.have(Privilege::Insert) {
         return refused(StatusWord::SECURITY_NOT_SATISFIED);
     }
     if row.len() != column_count(&object.kind) {

@@ -25,7 +25,7 @@ ghost use Rattle.db_write.specs.Reached as reached;
 use db_read::Scan;
 use eeprom::{Eeprom, EepromFault};
 use object_table::find_stamp_into;
-use privilege_table::{Privilege, appears, holds};
+use privilege_table::{Privilege, rights_on};
 use record_store::{Side, Store};
 use record_table::{Stop, refused};
 use row_index::RowIndex;
@@ -84,7 +84,8 @@ pub(crate) fn find_written<'a, B: Eeprom>(
     let Some(found) = scan.found() else {
         return find_written_anew(store, bench, actor, cursor, privilege, place);
     };
-    if !holds(store, bench, Side::Working, actor, found.object, privilege)? {
+    let rights = rights_on(store, bench, Side::Working, actor, found.object)?;
+    if !rights.have(privilege) {
         return refused(StatusWord::SECURITY_NOT_SATISFIED);
     }
     Ok(found.object)
@@ -110,13 +111,14 @@ fn find_written_anew<'a, B: Eeprom>(
     let Some(object) = place else {
         return refused(StatusWord::NOT_FOUND);
     };
-    if !appears(store, bench, Side::Working, actor, object)? {
+    let rights = rights_on(store, bench, Side::Working, actor, object)?;
+    if !rights.see() {
         return refused(StatusWord::NOT_FOUND);
     }
     if !is_table_or_view(&object.kind) {
         return refused(StatusWord::CONDITIONS_NOT_SATISFIED);
     }
-    if !holds(store, bench, Side::Working, actor, object, privilege)? {
+    if !rights.have(privilege) {
         return refused(StatusWord::SECURITY_NOT_SATISFIED);
     }
     Ok(object)

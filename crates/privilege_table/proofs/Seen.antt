@@ -22,7 +22,7 @@ use Rattle.object_table.specs.Named.{has_name, object_named}
 use Rattle.record_table.specs.Listed.{listed, slots_of}
 use Rattle.record_table.specs.Making.{IsHeld}
 use Rattle.privilege_table.specs.Granted.{AreHeld, gives_bit}
-use Rattle.privilege_table.specs.Rights.{privilege_bit}
+use Rattle.privilege_table.specs.Rights.{AreRights, privilege_bit}
 use Rattle.privilege_table.specs.declared.rights.Privilege.{Privilege}
 use Rattle.privilege_table.specs.declared.rights.Privilege.TheVariants.{Select, Insert, Update, Delete}
 
@@ -58,6 +58,25 @@ pub appears-granted : (db : Database) (actor : Actor) (o : Object) (bits : ℕ) 
 unfolding appears
 appears-granted db actor o bits other held =
     rw (other, holds-granted db actor o Select bits other held, holds-granted db actor o Insert bits other held, holds-granted db actor o Update bits other held, holds-granted db actor o Delete bits other held) refl
+
+-- the rights of an object's owner, and those of anybody else
+pub owned-rights : (db : Database) (actor : Actor) (o : Object) → is_owned_by actor o.owner ≡ true → AreRights db actor o (record { bits = 15 })
+owned-rights db actor o owned = record {
+  appears = sym (appears-owned db actor o owned);
+  holds = λ privilege. sym (holds-owned db actor o (privilege_bit privilege) owned) ∙ among privilege;
+}
+  where
+    among : (privilege : Privilege) → true ≡ has_bit (privilege_bit privilege) 15
+    among Select = refl
+    among Insert = refl
+    among Update = refl
+    among Delete = refl
+
+pub granted-rights : (db : Database) (actor : Actor) (o : Object) (bits : ℕ) → is_owned_by actor o.owner ≡ false → AreHeld o.stamp (actor_stamp actor) db.grants bits → AreRights db actor o (record { bits = bits })
+granted-rights db actor o bits other held = record {
+  appears = sym (appears-granted db actor o bits other held);
+  holds = λ privilege. sym (holds-granted db actor o privilege bits other held);
+}
 
 -- the bits that a user holds by the grants of a database
 pub held-granted : (store : Held) (side : Side) (chip : Chip) (db : Database) (object grantee bits : ℕ) → IsHeld store side chip db

@@ -8,4 +8,6 @@ mod rights;
 pub use finding::{find_pair, find_stamp, next_after};
 pub use privileges::held;
 pub use record_table::{add, change, remove};
-pub use rights::{Privilege, actor_stamp, appears, find_seen, find_seen_into, holds, is_owned_by};
+pub use rights::{
+    Privilege, Rights, actor_stamp, find_seen, find_seen_into, is_owned_by, rights_on,
+};

@@ -8,12 +8,12 @@ ghost use Rattle.eeprom.specs.StoreOf.{cell_size};
 ghost use Rattle.record_store.specs.Held.{IsOver};
 ghost use Rattle.scql_model.specs.Database.{Database};
 ghost use Rattle.scql_model.specs.Creating as creating;
-ghost use Rattle.scql_model.specs.Rights as model;
 ghost use Rattle.scql_model.specs.Rights.{all_privileges, has_bit, seen_named};
 ghost use Rattle.catalog_codec.specs.Catalog.{grant_kind, object_kind};
 ghost use Rattle.record_table.specs.Listed.{at_slot, cells_marked, slots_of};
 ghost use Rattle.record_table.specs.Making.{IsHeld};
-ghost use Rattle.privilege_table.specs.Rights.{privilege_bit};
+ghost use Rattle.record_table.specs.Reading.{NeverFalls};
+ghost use Rattle.privilege_table.specs.Rights.{AreRights, privilege_bit};
 
 use crate::held;
 use eeprom::{Eeprom, EepromFault};
@@ -64,47 +64,54 @@ pub fn is_owned_by(actor: Actor, owner: u32) -> bool
     }
 }
 
-/// Whether an actor holds a privilege on an object.
-pub fn holds<B: Eeprom>(
-    store: &Store,
-    bench: &mut B,
-    side: Side,
-    actor: Actor,
-    object: &Object,
-    privilege: Privilege,
-) -> Result<bool, EepromFault>
-    requires over { IsOver store.now (B.chip bench.old) }
-    ensures holds { (db : Database) → IsHeld store.now side (B.chip bench.old) db → IfOk result (λ answer. answer ≡ model.holds db actor object.now (privilege_bit privilege)) }
-    ensures octets_read { IfOk result (λ _. IfSome (slots_of store.now side (B.chip bench.old))
-        (λ slots. Becomes (RisesAtMost (cell_size * cells_marked grant_kind slots)) (B.octets_read bench.old) (B.octets_read bench.new))) }
-    ensures frame { Reads each_error B.chip B.faults bench.old bench.new result }
-{
-    if is_owned_by(actor, object.owner) {
-        return Ok(true);
-    }
-    let bits = held(store, bench, side, object.stamp, actor_stamp(actor))?;
-    Ok(has(bits, privilege))
+/// What an actor may do with an object: the bits of the privileges that it holds on it.
+#[derive(Clone, Copy)]
+pub struct Rights {
+    pub bits: u8,
 }
 
-/// Whether an object appears to an actor, who owns it or holds some privilege on it.
-pub fn appears<B: Eeprom>(
+impl Rights {
+    /// Those of an object's owner.
+    const ALL: Rights = Rights { bits: 15 };
+
+    /// Whether the object appears, since there is some privilege.
+    pub fn see(self) -> bool
+        ensures { result ≡ list_any (λ bit. has_bit bit self.bits) all_privileges }
+    {
+        self.have(Privilege::Select)
+            || self.have(Privilege::Insert)
+            || self.have(Privilege::Update)
+            || self.have(Privilege::Delete)
+    }
+
+    /// Whether a privilege is among them.
+    pub fn have(self, privilege: Privilege) -> bool
+        ensures { result ≡ has_bit (privilege_bit privilege) self.bits }
+    {
+        self.bits / privilege.bit() % 2 == 1
+    }
+}
+
+/// What an actor may do with an object: its owner all, and nothing is read, and anybody else what grants give. Each grant is read once.
+pub fn rights_on<B: Eeprom>(
     store: &Store,
     bench: &mut B,
     side: Side,
     actor: Actor,
     object: &Object,
-) -> Result<bool, EepromFault>
+) -> Result<Rights, EepromFault>
     requires over { IsOver store.now (B.chip bench.old) }
-    ensures appears { (db : Database) → IsHeld store.now side (B.chip bench.old) db → IfOk result (λ answer. answer ≡ model.appears db actor object.now) }
+    ensures rights { (db : Database) → IsHeld store.now side (B.chip bench.old) db → IfOk result (AreRights db actor object.now) }
     ensures octets_read { IfOk result (λ _. IfSome (slots_of store.now side (B.chip bench.old))
         (λ slots. Becomes (RisesAtMost (cell_size * cells_marked grant_kind slots)) (B.octets_read bench.old) (B.octets_read bench.new))) }
+    ensures rises { IfOk result (λ _. NeverFalls (slots_of store.now side (B.chip bench.old)) (B.octets_read bench.old) (B.octets_read bench.new)) }
     ensures frame { Reads each_error B.chip B.faults bench.old bench.new result }
 {
     if is_owned_by(actor, object.owner) {
-        return Ok(true);
+        return Ok(Rights::ALL);
     }
     let bits = held(store, bench, side, object.stamp, actor_stamp(actor))?;
-    Ok(has_some(bits))
+    Ok(Rights { bits })
 }
 
 /// Finds the object of a name, where it appears to an actor.
@@ -159,26 +166,9 @@ pub fn find_seen_into<B: Eeprom>(
     let Some(object) = place else {
         return Ok(None);
     };
-    if appears(store, bench, side, actor, object)? {
+    if rights_on(store, bench, side, actor, object)?.see() {
         return Ok(slot);
     }
     *place = None;
     Ok(None)
-}
-
-// Whether the bit of a privilege is among bits.
-fn has(bits: u8, privilege: Privilege) -> bool
-    ensures { result ≡ has_bit (privilege_bit privilege) bits }
-{
-    bits / privilege.bit() % 2 == 1
-}
-
-// Whether the bit of some privilege is among bits.
-fn has_some(bits: u8) -> bool
-    ensures { result ≡ list_any (λ bit. has_bit bit bits) all_privileges }
-{
-    has(bits, Privilege::Select)
-        || has(bits, Privilege::Insert)
-        || has(bits, Privilege::Update)
-        || has(bits, Privilege::Delete)
 }

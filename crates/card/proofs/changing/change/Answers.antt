@@ -32,11 +32,11 @@ use Rattle.card.proofs.changing.change.Goals as goal
 pub returns-in_err-actor-clause-changes : goal.returns-in_err-actor-clause-changes
 returns-in_err-actor-clause-changes g c = λ db rest of.
     Changes-failed db (edits_of db (acting db c.args.user) c.args.cursor.now c.args.operation.now) (g.B.Eeprom.chip c.args.bench.now) (opens-rest c.args.store.now (g.B.Eeprom.chip c.args.bench.now) db c.requires.over rest)
-    c.from_residual.result c.args.store.now (g.B.Eeprom.chip c.actor_of.new.bench) (search rules)
-    (Keeps-none store_of (g.B.Eeprom.chip c.args.bench.now) (g.B.Eeprom.chip c.actor_of.new.bench) c.in_err-actor.ensures.frame.same)
+    c.from_residual.result c.args.store.now (g.B.Eeprom.chip c.actor_known.new.bench) (search rules)
+    (Keeps-none store_of (g.B.Eeprom.chip c.args.bench.now) (g.B.Eeprom.chip c.actor_known.new.bench) c.in_err-actor.ensures.frame.same)
 
 pub make-requires-clause-over : goal.make-requires-clause-over
-make-requires-clause-over g c = over-begun c.args.store.now c.begin.new.self (g.B.Eeprom.chip c.args.bench.now) (g.B.Eeprom.chip c.actor_of.new.bench) c.requires.over c.in_ok-actor.ensures.frame.same c.begin.ensures.begun c.begin.ensures.stands
+make-requires-clause-over g c = over-begun c.args.store.now c.begin.new.self (g.B.Eeprom.chip c.args.bench.now) (g.B.Eeprom.chip c.actor_known.new.bench) c.requires.over c.in_ok-actor.ensures.frame.same c.begin.ensures.begun c.begin.ensures.stands
 
 pub make-requires-clause-fits : goal.make-requires-clause-fits
 make-requires-clause-fits g c = subst (λ (store : Held). FitsCard store.row_limit c.args.operation.now) (sym c.begin.ensures.begun) c.requires.fits
@@ -44,12 +44,12 @@ make-requires-clause-fits g c = subst (λ (store : Held). FitsCard store.row_lim
 -- the operation that was made ended as through a cursor
 abbrev EndsThrough : (g : _) (c : After-make g) → Database → Option Cursor → Type 0
 EndsThrough g c db cursor =
-    Ends db (edits_of db (acting db c.args.user) cursor c.args.operation.now) c.make.result c.begin.new.self c.make.new.store (g.B.Eeprom.chip c.actor_of.new.bench) (g.B.Eeprom.chip c.make.new.bench)
+    Ends db (edits_of db (acting db c.args.user) cursor c.args.operation.now) c.make.result c.begin.new.self c.make.new.store (g.B.Eeprom.chip c.actor_known.new.bench) (g.B.Eeprom.chip c.make.new.bench)
 
 -- what is held when it is made
-held-made : (g : _) (c : After-make g) (db : Database) → IsAtRest c.args.store.now (g.B.Eeprom.chip c.args.bench.now) db → IsHeld c.begin.new.self Working (g.B.Eeprom.chip c.actor_of.new.bench) db
+held-made : (g : _) (c : After-make g) (db : Database) → IsAtRest c.args.store.now (g.B.Eeprom.chip c.args.bench.now) db → IsHeld c.begin.new.self Working (g.B.Eeprom.chip c.actor_known.new.bench) db
 held-made g c db rest =
-    held-begun c.args.store.now c.begin.new.self (g.B.Eeprom.chip c.args.bench.now) (g.B.Eeprom.chip c.actor_of.new.bench) db rest c.in_ok-actor.ensures.frame.same c.begin.ensures.begun c.begin.ensures.starts
+    held-begun c.args.store.now c.begin.new.self (g.B.Eeprom.chip c.args.bench.now) (g.B.Eeprom.chip c.actor_known.new.bench) db rest c.in_ok-actor.ensures.frame.same c.begin.ensures.begun c.begin.ensures.starts
 
 -- and for whom
 actor-made : (g : _) (c : After-make g) (db : Database) → IsAtRest c.args.store.now (g.B.Eeprom.chip c.args.bench.now) db → c.in_ok-actor.actor ≡ acting db c.args.user
@@ -65,7 +65,7 @@ fits-made g c db rest = subst (λ (limit : ℕ). FitsCard limit c.args.operation
 ended : (g : _) (c : After-make g) (db : Database) → IsAtRest c.args.store.now (g.B.Eeprom.chip c.args.bench.now) db → IfSome c.args.cursor.now (IsCursorOf db) → EndsThrough g c db c.args.cursor.now
 ended g c db rest of =
     let who = actor-made g c db rest in
-    subst (λ actor. Ends db (edits_of db actor c.args.cursor.now c.args.operation.now) c.make.result c.begin.new.self c.make.new.store (g.B.Eeprom.chip c.actor_of.new.bench) (g.B.Eeprom.chip c.make.new.bench)) who
+    subst (λ actor. Ends db (edits_of db actor c.args.cursor.now c.args.operation.now) c.make.result c.begin.new.self c.make.new.store (g.B.Eeprom.chip c.actor_known.new.bench) (g.B.Eeprom.chip c.make.new.bench)) who
     (c.make.ensures.ends db (held-made g c db rest) of (acts-made g c db rest) c.requires.formed (fits-made g c db rest))
 
 -- It ended as through some cursor in any case.
@@ -73,7 +73,7 @@ through : (g : _) (c : After-make g) (db : Database) → IsAtRest c.args.store.n
 through g c db rest =
     let who = actor-made g c db rest in
     let ends = c.make.ensures.through db (held-made g c db rest) (acts-made g c db rest) c.requires.formed (fits-made g c db rest) in
-    (ends.0, subst (λ actor. Ends db (edits_of db actor ends.0 c.args.operation.now) c.make.result c.begin.new.self c.make.new.store (g.B.Eeprom.chip c.actor_of.new.bench) (g.B.Eeprom.chip c.make.new.bench)) who ends.1)
+    (ends.0, subst (λ actor. Ends db (edits_of db actor ends.0 c.args.operation.now) c.make.result c.begin.new.self c.make.new.store (g.B.Eeprom.chip c.actor_known.new.bench) (g.B.Eeprom.chip c.make.new.bench)) who ends.1)
 
 -- The index stands for what was made, where nothing failed.
 followed : (g : _) (c : After-make g) → ¬ IsErrOf c.make.result Fault → Indexes c.make.new.index c.make.new.store (g.B.Eeprom.chip c.make.new.bench)
@@ -91,7 +91,7 @@ kept g c = subst (λ (chip : Chip). Keeps store_of chip (g.B.Eeprom.chip c.make.
 
 -- a refusal did nothing
 refused-still : (g : _) (c : After-rollback-in-Err-Refused g) (db : Database) (cursor : Option Cursor) → EndsThrough g (goal.at.returns-in-Err-Refused-clause-changes g c).After-make db cursor
-    → (c.make.new.store ≡ c.begin.new.self) × (g.B.Eeprom.chip c.make.new.bench ≡ g.B.Eeprom.chip c.actor_of.new.bench)
+    → (c.make.new.store ≡ c.begin.new.self) × (g.B.Eeprom.chip c.make.new.bench ≡ g.B.Eeprom.chip c.actor_known.new.bench)
 refused-still g c db cursor ends = let refused = rw (c.in-Err-Refused.is, c.in-Err-Refused.field-0-is) at ends in (refused.1, refused.2)
 
 refused-through : (g : _) (c : After-rollback-in-Err-Refused g) (db : Database) (cursor : Option Cursor) → IsAtRest c.args.store.now (g.B.Eeprom.chip c.args.bench.now) db → EndsThrough g (goal.at.returns-in-Err-Refused-clause-changes g c).After-make db cursor
@@ -101,7 +101,7 @@ refused-through g c db cursor rest ends =
     let refused = rw (c.in-Err-Refused.is, c.in-Err-Refused.field-0-is) at ends in
     Changes-refused db (edits_of db (acting db c.args.user) cursor c.args.operation.now) old (opens-rest c.args.store.now old db c.requires.over rest) c.in-Err-Refused.word c.rollback.new.self (g.B.Eeprom.chip c.make.new.bench)
     (refused.2 ∙ c.in_ok-actor.ensures.frame.same) refused.0
-    (rest-rolled_back c.args.store.now c.begin.new.self c.make.new.store c.rollback.new.self old (g.B.Eeprom.chip c.actor_of.new.bench) (g.B.Eeprom.chip c.make.new.bench) db rest
+    (rest-rolled_back c.args.store.now c.begin.new.self c.make.new.store c.rollback.new.self old (g.B.Eeprom.chip c.actor_known.new.bench) (g.B.Eeprom.chip c.make.new.bench) db rest
     c.in_ok-actor.ensures.frame.same c.begin.ensures.begun c.begin.ensures.committed refused.1 refused.2 c.rollback.ensures.committed c.rollback.ensures.cells c.rollback.ensures.rows)
 
 pub returns-in-Err-Refused-clause-changes : goal.returns-in-Err-Refused-clause-changes
@@ -115,9 +115,9 @@ returns-in_err-commit-in-Ok-clause-changes g c = λ db rest of.
     let edited = edits_of db (acting db c.args.user) cursor c.args.operation.now in
     let made = rw c.in-Ok.is at (ended g w db rest of) in
     let goes_on = c.in-Ok.ensures.goes_on (λ wrong. cc) in
-    Changes-half_committed db edited old (opens-rest c.args.store.now old db c.requires.over rest) made.0 made.1 c.begin.new.self c.make.new.store (g.B.Eeprom.chip c.actor_of.new.bench) (g.B.Eeprom.chip c.make.new.bench) made.2
+    Changes-half_committed db edited old (opens-rest c.args.store.now old db c.requires.over rest) made.0 made.1 c.begin.new.self c.make.new.store (g.B.Eeprom.chip c.actor_known.new.bench) (g.B.Eeprom.chip c.make.new.bench) made.2
     c.from_residual-in_err-commit-in-Ok.result c.commit.new.self (g.B.Eeprom.chip c.commit.new.bench) (search rules) (kept g w)
-    (committed-begun c.args.store.now c.begin.new.self c.make.new.store old (g.B.Eeprom.chip c.actor_of.new.bench) (g.B.Eeprom.chip c.make.new.bench) db rest c.in_ok-actor.ensures.frame.same c.begin.ensures.begun c.begin.ensures.committed made.2.committed goes_on.cells goes_on.rows)
+    (committed-begun c.args.store.now c.begin.new.self c.make.new.store old (g.B.Eeprom.chip c.actor_known.new.bench) (g.B.Eeprom.chip c.make.new.bench) db rest c.in_ok-actor.ensures.frame.same c.begin.ensures.begun c.begin.ensures.committed made.2.committed goes_on.cells goes_on.rows)
     c.commit.ensures.moments
 
 done-through : (g : _) (c : After-commit-in-Ok g) (db : Database) (cursor : Option Cursor) → IsAtRest c.args.store.now (g.B.Eeprom.chip c.args.bench.now) db → EndsThrough g (goal.at.returns-in_ok-commit-in-Ok-clause-changes g c).After-make db cursor
@@ -128,9 +128,9 @@ done-through g c db cursor rest ends =
     let edited = edits_of db (acting db c.args.user) cursor c.args.operation.now in
     let made = rw c.in-Ok.is at ends in
     let goes_on = c.in-Ok.ensures.goes_on (λ wrong. cc) in
-    Changes-committed db edited old (opens-rest c.args.store.now old db c.requires.over rest) made.0 made.1 c.begin.new.self c.make.new.store (g.B.Eeprom.chip c.actor_of.new.bench) (g.B.Eeprom.chip c.make.new.bench) made.2
+    Changes-committed db edited old (opens-rest c.args.store.now old db c.requires.over rest) made.0 made.1 c.begin.new.self c.make.new.store (g.B.Eeprom.chip c.actor_known.new.bench) (g.B.Eeprom.chip c.make.new.bench) made.2
     c.commit.new.self (g.B.Eeprom.chip c.commit.new.bench) goes_on.over (kept g w)
-    (committed-begun c.args.store.now c.begin.new.self c.make.new.store old (g.B.Eeprom.chip c.actor_of.new.bench) (g.B.Eeprom.chip c.make.new.bench) db rest c.in_ok-actor.ensures.frame.same c.begin.ensures.begun c.begin.ensures.committed made.2.committed goes_on.cells goes_on.rows)
+    (committed-begun c.args.store.now c.begin.new.self c.make.new.store old (g.B.Eeprom.chip c.actor_known.new.bench) (g.B.Eeprom.chip c.make.new.bench) db rest c.in_ok-actor.ensures.frame.same c.begin.ensures.begun c.begin.ensures.committed made.2.committed goes_on.cells goes_on.rows)
     c.commit.ensures.moments c.in_ok-commit-in-Ok.ensures.done c.in_ok-commit-in-Ok.ensures.told c.in_ok-commit-in-Ok.ensures.cells c.in_ok-commit-in-Ok.ensures.rows
     (ap (λ (chip : Chip). chip.written) c.in_ok-actor.ensures.frame.same) c.begin.ensures.no_entries c.in_ok-commit-in-Ok.ensures.octets_written
 
@@ -139,12 +139,12 @@ returns-in_ok-commit-in-Ok-clause-changes g c = λ db rest of. done-through g c 
 
 pub returns-in_err-commit-in-Ok-clause-behind : goal.returns-in_err-commit-in-Ok-clause-behind
 returns-in_err-commit-in-Ok-clause-behind g c =
-    behind-changed (g.B.Eeprom.chip c.args.bench.now) (g.B.Eeprom.chip c.actor_of.new.bench) (g.B.Eeprom.chip c.make.new.bench) (g.B.Eeprom.chip c.commit.new.bench) c.args.store.now c.begin.new.self c.make.new.store
+    behind-changed (g.B.Eeprom.chip c.args.bench.now) (g.B.Eeprom.chip c.actor_known.new.bench) (g.B.Eeprom.chip c.make.new.bench) (g.B.Eeprom.chip c.commit.new.bench) c.args.store.now c.begin.new.self c.make.new.store
     c.in_ok-actor.ensures.frame.same c.begin.ensures.begun (c.in-Ok.ensures.goes_on (λ wrong. cc)).cells c.make.ensures.behind c.commit.ensures.behind
 
 pub returns-in_ok-commit-in-Ok-clause-behind : goal.returns-in_ok-commit-in-Ok-clause-behind
 returns-in_ok-commit-in-Ok-clause-behind g c =
-    behind-changed (g.B.Eeprom.chip c.args.bench.now) (g.B.Eeprom.chip c.actor_of.new.bench) (g.B.Eeprom.chip c.make.new.bench) (g.B.Eeprom.chip c.commit.new.bench) c.args.store.now c.begin.new.self c.make.new.store
+    behind-changed (g.B.Eeprom.chip c.args.bench.now) (g.B.Eeprom.chip c.actor_known.new.bench) (g.B.Eeprom.chip c.make.new.bench) (g.B.Eeprom.chip c.commit.new.bench) c.args.store.now c.begin.new.self c.make.new.store
     c.in_ok-actor.ensures.frame.same c.begin.ensures.begun (c.in-Ok.ensures.goes_on (λ wrong. cc)).cells c.make.ensures.behind c.commit.ensures.behind
 
 pub returns-in-Err-Fault-clause-changes : goal.returns-in-Err-Fault-clause-changes
@@ -155,12 +155,12 @@ returns-in-Err-Fault-clause-changes g c = λ db rest of.
 
 pub make-requires-clause-index : goal.make-requires-clause-index
 make-requires-clause-index g c =
-    Indexes-begun c.args.index.now c.begin-2.new.self c.args.store.now c.begin.new.self (g.B.Eeprom.chip c.args.bench.now) (g.B.Eeprom.chip c.actor_of.new.bench) c.requires.index c.in_ok-actor.ensures.frame.same
+    Indexes-begun c.args.index.now c.begin-2.new.self c.args.store.now c.begin.new.self (g.B.Eeprom.chip c.args.bench.now) (g.B.Eeprom.chip c.actor_known.new.bench) c.requires.index c.in_ok-actor.ensures.frame.same
     c.begin-2.ensures.begun c.begin.ensures.begun c.begin.ensures.starts c.begin.ensures.committed
 
 pub make-requires-clause-last : goal.make-requires-clause-last
 make-requires-clause-last g c = λ db held.
-    let begun : IsHeld c.args.store.now Committed (g.B.Eeprom.chip c.args.bench.now) db = held-before c.args.store.now c.begin.new.self (g.B.Eeprom.chip c.args.bench.now) (g.B.Eeprom.chip c.actor_of.new.bench) db held
+    let begun : IsHeld c.args.store.now Committed (g.B.Eeprom.chip c.args.bench.now) db = held-before c.args.store.now c.begin.new.self (g.B.Eeprom.chip c.args.bench.now) (g.B.Eeprom.chip c.actor_known.new.bench) db held
     c.in_ok-actor.ensures.frame.same c.begin.ensures.begun c.begin.ensures.starts in
     subst (λ (index : Index). is_above db.next index.committed ≡ true) (sym c.begin-2.ensures.begun) (last-held c.args.index.now c.args.store.now (g.B.Eeprom.chip c.args.bench.now) db c.requires.index begun)
 
@@ -201,7 +201,7 @@ returns-in-Err-Refused-clause-index g c =
     let ends = through g w db rest in
     let refused = refused-still g c db ends.0 ends.1 in
     Indexes-ended c.args.index.now c.rollback-in-Err-Refused.new.self Committed c.args.store.now c.rollback.new.self old (g.B.Eeprom.chip c.make.new.bench) c.requires.index is c.rollback.ensures.ended cells
-    (slots-rolled_back c.args.store.now c.begin.new.self c.make.new.store c.rollback.new.self old (g.B.Eeprom.chip c.actor_of.new.bench) (g.B.Eeprom.chip c.make.new.bench) c.in_ok-actor.ensures.frame.same
+    (slots-rolled_back c.args.store.now c.begin.new.self c.make.new.store c.rollback.new.self old (g.B.Eeprom.chip c.actor_known.new.bench) (g.B.Eeprom.chip c.make.new.bench) c.in_ok-actor.ensures.frame.same
     c.begin.ensures.committed refused.0 refused.1 c.rollback.ensures.committed))
 
 pub returns-in_ok-commit-in-Ok-clause-catalog : goal.returns-in_ok-commit-in-Ok-clause-catalog
@@ -222,6 +222,6 @@ returns-in-Err-Refused-clause-catalog g c = λ rows.
 
 pub make-requires-clause-right : goal.make-requires-clause-right
 make-requires-clause-right g c = λ db held.
-    let rest : IsHeld c.args.store.now Committed (g.B.Eeprom.chip c.args.bench.now) db = held-before c.args.store.now c.begin.new.self (g.B.Eeprom.chip c.args.bench.now) (g.B.Eeprom.chip c.actor_of.new.bench) db held
+    let rest : IsHeld c.args.store.now Committed (g.B.Eeprom.chip c.args.bench.now) db = held-before c.args.store.now c.begin.new.self (g.B.Eeprom.chip c.args.bench.now) (g.B.Eeprom.chip c.actor_known.new.bench) db held
     c.in_ok-actor.ensures.frame.same c.begin.ensures.begun c.begin.ensures.starts in
     subst (λ (actor : Actor). IsRightFor db actor c.args.scan.now c.args.cursor.now) (sym (c.in_ok-actor.ensures.actor db rest)) (c.requires.right db rest)

@@ -31,10 +31,10 @@ use Rattle.card.proofs.changing.change_within.Goals as goal
 -- the operation that was made ended as through a cursor
 abbrev EndsThrough : (g : _) (c : After-make g) → Database → Option Cursor → Type 0
 EndsThrough g c db cursor =
-    Ends db (edits_of db (acting db c.args.user) cursor c.args.operation.now) c.make.result c.args.store.now c.make.new.store (g.B.Eeprom.chip c.actor_of.new.bench) (g.B.Eeprom.chip c.make.new.bench)
+    Ends db (edits_of db (acting db c.args.user) cursor c.args.operation.now) c.make.result c.args.store.now c.make.new.store (g.B.Eeprom.chip c.actor_known.new.bench) (g.B.Eeprom.chip c.make.new.bench)
 
 -- what is held when it is made, and for whom
-held-made : (g : _) (c : After-make g) (db : Database) → IsHeld c.args.store.now Working (g.B.Eeprom.chip c.args.bench.now) db → IsHeld c.args.store.now Working (g.B.Eeprom.chip c.actor_of.new.bench) db
+held-made : (g : _) (c : After-make g) (db : Database) → IsHeld c.args.store.now Working (g.B.Eeprom.chip c.args.bench.now) db → IsHeld c.args.store.now Working (g.B.Eeprom.chip c.actor_known.new.bench) db
 held-made g c db held = subst (λ (chip : Chip). IsHeld c.args.store.now Working chip db) (sym c.in_ok-actor.ensures.frame.same) held
 
 acts-made : (g : _) (c : After-make g) (db : Database) → IsHeld c.args.store.now Working (g.B.Eeprom.chip c.args.bench.now) db → IsActorOf db c.in_ok-actor.actor
@@ -46,7 +46,7 @@ fits-made g c db held = subst (λ (limit : ℕ). FitsCard limit c.args.operation
 -- It ended as through the cursor that it was given, where that is one of the database,
 ended : (g : _) (c : After-make g) (db : Database) → IsHeld c.args.store.now Working (g.B.Eeprom.chip c.args.bench.now) db → IfSome c.args.cursor.now (IsCursorOf db) → EndsThrough g c db c.args.cursor.now
 ended g c db held of =
-    subst (λ actor. Ends db (edits_of db actor c.args.cursor.now c.args.operation.now) c.make.result c.args.store.now c.make.new.store (g.B.Eeprom.chip c.actor_of.new.bench) (g.B.Eeprom.chip c.make.new.bench))
+    subst (λ actor. Ends db (edits_of db actor c.args.cursor.now c.args.operation.now) c.make.result c.args.store.now c.make.new.store (g.B.Eeprom.chip c.actor_known.new.bench) (g.B.Eeprom.chip c.make.new.bench))
     (c.in_ok-actor.ensures.actor db held) (c.make.ensures.ends db (held-made g c db held) of (acts-made g c db held) c.requires.formed (fits-made g c db held))
 
 -- and as through some cursor in any case.
@@ -54,7 +54,7 @@ through : (g : _) (c : After-make g) (db : Database) → IsHeld c.args.store.now
 through g c db held =
     let ends = c.make.ensures.through db (held-made g c db held) (acts-made g c db held) c.requires.formed (fits-made g c db held) in (
       ends.0,
-      subst (λ actor. Ends db (edits_of db actor ends.0 c.args.operation.now) c.make.result c.args.store.now c.make.new.store (g.B.Eeprom.chip c.actor_of.new.bench) (g.B.Eeprom.chip c.make.new.bench))
+      subst (λ actor. Ends db (edits_of db actor ends.0 c.args.operation.now) c.make.result c.args.store.now c.make.new.store (g.B.Eeprom.chip c.actor_known.new.bench) (g.B.Eeprom.chip c.make.new.bench))
           (c.in_ok-actor.ensures.actor db held) ends.1,
     )
 
@@ -89,20 +89,20 @@ pub returns-in-Ok-clause-works : goal.returns-in-Ok-clause-works
 returns-in-Ok-clause-works g c =
     HoldsSome-changed c.make.new.store c.args.store.now Working (g.B.Eeprom.chip c.args.bench.now) (g.B.Eeprom.chip c.make.new.bench) c.requires.works
     ((c.in-Ok.ensures.goes_on (λ wrong. cc)).told ∙ ap (λ (chip : Chip). is_some chip.image) c.in_ok-actor.ensures.frame.same) (λ db held.
-    let made = of-ok db _ c.make.result _ c.args.store.now c.make.new.store (g.B.Eeprom.chip c.actor_of.new.bench) (g.B.Eeprom.chip c.make.new.bench) c.in-Ok.is (through g (goal.at.returns-in-Ok-clause-works g c).After-make db held).1 in
+    let made = of-ok db _ c.make.result _ c.args.store.now c.make.new.store (g.B.Eeprom.chip c.actor_known.new.bench) (g.B.Eeprom.chip c.make.new.bench) c.in-Ok.is (through g (goal.at.returns-in-Ok-clause-works g c).After-make db held).1 in
     (_, made.2.held))
 
 pub returns-in-Err-Refused-clause-works : goal.returns-in-Err-Refused-clause-works
 returns-in-Err-Refused-clause-works g c =
     HoldsSome-changed c.make.new.store c.args.store.now Working (g.B.Eeprom.chip c.args.bench.now) (g.B.Eeprom.chip c.make.new.bench) c.requires.works
     ((c.in-Err-Refused.ensures.goes_on (λ wrong. cc)).told ∙ ap (λ (chip : Chip). is_some chip.image) c.in_ok-actor.ensures.frame.same) (λ db held.
-    let refused = of-refused db _ c.make.result c.in-Err-Refused.word c.args.store.now c.make.new.store (g.B.Eeprom.chip c.actor_of.new.bench) (g.B.Eeprom.chip c.make.new.bench) (c.in-Err-Refused.is ∙ ap Err c.in-Err-Refused.field-0-is) (through g (goal.at.returns-in-Err-Refused-clause-works g c).After-make db held).1 in
+    let refused = of-refused db _ c.make.result c.in-Err-Refused.word c.args.store.now c.make.new.store (g.B.Eeprom.chip c.actor_known.new.bench) (g.B.Eeprom.chip c.make.new.bench) (c.in-Err-Refused.is ∙ ap Err c.in-Err-Refused.field-0-is) (through g (goal.at.returns-in-Err-Refused-clause-works g c).After-make db held).1 in
     (db, subst (λ (store : Held). IsHeld store Working (g.B.Eeprom.chip c.make.new.bench) db) (sym refused.1) (subst (λ (chip : Chip). IsHeld c.args.store.now Working chip db) (sym (refused.2 ∙ c.in_ok-actor.ensures.frame.same)) held)))
 
 pub returns-in-Ok-clause-stamps : goal.returns-in-Ok-clause-stamps
 returns-in-Ok-clause-stamps g c = λ db next held then.
     let ends = through g (goal.at.returns-in-Ok-clause-stamps g c).After-make db held in
-    let made = of-ok db _ c.make.result _ c.args.store.now c.make.new.store (g.B.Eeprom.chip c.actor_of.new.bench) (g.B.Eeprom.chip c.make.new.bench) c.in-Ok.is ends.1 in
+    let made = of-ok db _ c.make.result _ c.args.store.now c.make.new.store (g.B.Eeprom.chip c.actor_known.new.bench) (g.B.Eeprom.chip c.make.new.bench) c.in-Ok.is ends.1 in
     let later = (Follows-edits_of db (acting db c.args.user) ends.0 c.args.operation.now made.0 made.1).next in
     let chip = g.B.Eeprom.chip c.make.new.bench in
     let same = stamps-held c.make.new.store c.make.new.store Working Working chip chip _ next refl made.2.held then in
@@ -111,7 +111,7 @@ returns-in-Ok-clause-stamps g c = λ db next held then.
 pub returns-in-Err-Refused-clause-stamps : goal.returns-in-Err-Refused-clause-stamps
 returns-in-Err-Refused-clause-stamps g c = λ db next held then.
     let ends = through g (goal.at.returns-in-Err-Refused-clause-stamps g c).After-make db held in
-    let refused = of-refused db _ c.make.result c.in-Err-Refused.word c.args.store.now c.make.new.store (g.B.Eeprom.chip c.actor_of.new.bench) (g.B.Eeprom.chip c.make.new.bench) (c.in-Err-Refused.is ∙ ap Err c.in-Err-Refused.field-0-is) ends.1 in
+    let refused = of-refused db _ c.make.result c.in-Err-Refused.word c.args.store.now c.make.new.store (g.B.Eeprom.chip c.actor_known.new.bench) (g.B.Eeprom.chip c.make.new.bench) (c.in-Err-Refused.is ∙ ap Err c.in-Err-Refused.field-0-is) ends.1 in
     let old = g.B.Eeprom.chip c.args.bench.now in
     let back = subst (λ (chip : Chip). IsHeld c.args.store.now Working chip next) (refused.2 ∙ c.in_ok-actor.ensures.frame.same) (subst (λ (store : Held). IsHeld store Working (g.B.Eeprom.chip c.make.new.bench) next) refused.1 then) in
     let same = stamps-held c.args.store.now c.args.store.now Working Working old old db next refl held back in
@@ -129,7 +129,7 @@ returns-in-Ok-clause-catalog g c = λ rows.
     catalog-kept c.make.new.store c.args.store.now Working new (g.B.Eeprom.chip c.args.bench.now) c.requires.works
     ((c.in-Ok.ensures.goes_on (λ wrong. cc)).told ∙ ap (λ (chip : Chip). is_some chip.image) c.in_ok-actor.ensures.frame.same) (λ db next held after.
     let ends = through g (goal.at.returns-in-Ok-clause-catalog g c).After-make db held in
-    let made = of-ok db _ c.make.result _ c.args.store.now c.make.new.store (g.B.Eeprom.chip c.actor_of.new.bench) new c.in-Ok.is ends.1 in
+    let made = of-ok db _ c.make.result _ c.args.store.now c.make.new.store (g.B.Eeprom.chip c.actor_known.new.bench) new c.in-Ok.is ends.1 in
     catalog-made c.make.new.store Working new db next (acting db c.args.user) ends.0 c.args.operation.now made.0 rows made.1 made.2.held after)
 
 pub returns-in-Err-Refused-clause-catalog : goal.returns-in-Err-Refused-clause-catalog
@@ -139,7 +139,7 @@ returns-in-Err-Refused-clause-catalog g c = λ rows.
     catalog-kept c.make.new.store c.args.store.now Working new old c.requires.works
     ((c.in-Err-Refused.ensures.goes_on (λ wrong. cc)).told ∙ ap (λ (chip : Chip). is_some chip.image) c.in_ok-actor.ensures.frame.same) (λ db next held after.
     let ends = through g (goal.at.returns-in-Err-Refused-clause-catalog g c).After-make db held in
-    let refused = of-refused db _ c.make.result c.in-Err-Refused.word c.args.store.now c.make.new.store (g.B.Eeprom.chip c.actor_of.new.bench) new (c.in-Err-Refused.is ∙ ap Err c.in-Err-Refused.field-0-is) ends.1 in
+    let refused = of-refused db _ c.make.result c.in-Err-Refused.word c.args.store.now c.make.new.store (g.B.Eeprom.chip c.actor_known.new.bench) new (c.in-Err-Refused.is ∙ ap Err c.in-Err-Refused.field-0-is) ends.1 in
     let back = subst (λ (chip : Chip). IsHeld c.args.store.now Working chip next) (refused.2 ∙ c.in_ok-actor.ensures.frame.same) (subst (λ (store : Held). IsHeld store Working new next) refused.1 after) in
     same-catalog c.args.store.now c.args.store.now Working Working old old db next refl held back)
 

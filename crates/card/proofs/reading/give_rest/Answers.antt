@@ -10,7 +10,7 @@ use Rattle.card.specs.Reading.{move_to}
 use Rattle.card.specs.Sessions.{reading_in}
 use Rattle.db_read.proofs.Adding.{nothing-read}
 use Rattle.card.proofs.ReadingCosts.{asked-read}
-use Rattle.card.proofs.ReadingMoves.{more-may, more-refused, more-without_cursor, rows_under-may}
+use Rattle.card.proofs.ReadingMoves.{more-may, more-refused, more-without_cursor, rows_under-found}
 use Rattle.card.proofs.reading.give_rest.Goals as goal
 
 pub returns-in_default-clause-moves : goal.returns-in_default-clause-moves
@@ -27,8 +27,8 @@ returns-in-Err-Refused-clause-moves g c = λ db held.
 pub returns-in-Ok-clause-moves : goal.returns-in-Ok-clause-moves
 returns-in-Ok-clause-moves g c = λ db held.
     let cursor = c.in-Some.cursor in
-    let may = c.in-Ok.ensures.may db held in
-    more-may db c.args.actor (reading_in c.args.session.now) c.args.le cursor c.in-Some.is _ _ (rows_under-may db c.args.actor cursor may.0 may.1) (c.give_more.ensures cursor)
+    let rows = rows_under-found db c.args.actor cursor c.find_selected.new.place c.in-Ok.ensures.there (c.in-Ok.ensures.found db held) in
+    more-may db c.args.actor (reading_in c.args.session.now) c.args.le cursor c.in-Some.is rows.0 _ rows.1 (c.give_more.ensures cursor)
     ∙ ap (λ (o : Option Cursor). move_to c.give_more.new.reply.body c.give_more.result o c.give_more.new.pending) (sym c.in-Some.is)
 
 pub returns-in_default-clause-octets_read : goal.returns-in_default-clause-octets_read
@@ -36,9 +36,9 @@ returns-in_default-clause-octets_read g c = λ db held. nothing-read _ _
 
 pub returns-in-Err-Refused-clause-octets_read : goal.returns-in-Err-Refused-clause-octets_read
 returns-in-Err-Refused-clause-octets_read g c = λ db held.
-    asked-read c.args.store.now c.args.side (g.B.Eeprom.chip c.args.bench.now) db held c.args.actor c.args.session.now.cursor c.args.le (g.B.Eeprom.octets_read c.args.bench.now) (g.B.Eeprom.octets_read c.ask.new.bench)
+    asked-read c.args.reader.now.store.now c.args.reader.now.side (g.B.Eeprom.chip c.args.reader.now.bench.now) db held c.args.actor c.args.session.now.cursor c.args.le (g.B.Eeprom.octets_read c.args.reader.now.bench.now) (g.B.Eeprom.octets_read c.find_selected.new.reader.bench.now)
     (rw c.in-Err-Refused.field-0-is at c.in-Err-Refused.ensures.octets_read)
 
 pub returns-in-Ok-clause-octets_read : goal.returns-in-Ok-clause-octets_read
 returns-in-Ok-clause-octets_read g c = λ db held.
-    asked-read c.args.store.now c.args.side (g.B.Eeprom.chip c.args.bench.now) db held c.args.actor c.args.session.now.cursor c.args.le (g.B.Eeprom.octets_read c.args.bench.now) (g.B.Eeprom.octets_read c.ask.new.bench) c.in-Ok.ensures.octets_read
+    asked-read c.args.reader.now.store.now c.args.reader.now.side (g.B.Eeprom.chip c.args.reader.now.bench.now) db held c.args.actor c.args.session.now.cursor c.args.le (g.B.Eeprom.octets_read c.args.reader.now.bench.now) (g.B.Eeprom.octets_read c.find_selected.new.reader.bench.now) c.in-Ok.ensures.octets_read

@@ -1,58 +1,108 @@
 -- What was found is gone over, or else looked for first.
-use Rattle.std.proofs.Common.{◌≡◌, ℕ, ◌+◌, ◌*◌, Option, Some, None, is_some, Bool, true, false, sym, ap, subst, ◌∙◌, arith}
+use Rattle.std.proofs.Common.{◌≡◌, Option, Some, is_some, true, sym, ap, subst, ◌∙◌}
 use Rattle.std.specs.Prelude.{IfSome}
-use Rattle.std.proofs.lemmas.Bool.{false≢true}
-use Rattle.eeprom.specs.Chip.{Becomes, RisesAtMost}
-use Rattle.eeprom.specs.StoreOf.{cell_size}
-use Rattle.scql_base.specs.declared.records.Object.{Object}
+use Rattle.eeprom.specs.Chip.{Becomes}
+use Rattle.scql_base.specs.declared.cursor.Place.{Place}
+use Rattle.scql_model.specs.Cursors.{IsCursorOf}
 use Rattle.scql_model.specs.Database.{Database}
-use Rattle.catalog_codec.specs.Catalog.{grant_kind, object_kind}
-use Rattle.privilege_table.proofs.Seen.{told-held}
-use Rattle.record_table.specs.Listed.{cells_marked}
-use Rattle.db_read.specs.Advanced.{Advances}
-use Rattle.db_read.specs.Scan.{GoesOver, IsRight, TableRows, found_rows, rows_of}
-use Rattle.db_read.proofs.MotionLaws.{advanced-most, moved-by, of-slots, refused-stays, said-by}
+use Rattle.scql_model.specs.Moves.{rows_under}
+use Rattle.record_table.specs.Listed.{slots_of}
+use Rattle.record_table.specs.Making.{IsHeld}
+use Rattle.cursor.specs.Costs.{RisesBetween}
+use Rattle.db_read.specs.Costs.{catalogue_cost}
+use Rattle.db_read.specs.Scan.{Found, IsRight}
+use Rattle.db_read.proofs.Adding.{nothing-chosen, where-read}
+use Rattle.db_read.proofs.Chooses.{found-chosen, right-moved}
+use Rattle.db_read.proofs.MotionLaws.{advanced-least, advanced-most, chosen-least, chosen-most, moved-by, refused-stays, stopped-least}
+use Rattle.db_read.proofs.advancing.advance.Goals.{After-go, then-not-has_found+in_default-choose, else-not-has_found}
 use Rattle.db_read.proofs.advancing.advance.Goals as goal
-use Rattle.db_read.proofs.advancing.advance.Goals.{After-go_over}
 
--- the scan's rows are those of the cursor
-over : (g : _) (c : After-go_over g) (db : Database) → IsRight db c.args.actor c.args.scan.now c.args.cursor.now → (o : Object) × GoesOver db c.args.actor c.args.cursor.now (rows_of o c.scan.inside.selection)
-over g c db right = of c.scan.inside.is_found c.scan.inside.object
-    (subst (λ (o : Option TableRows). IfSome o (GoesOver db c.args.actor c.args.cursor.now)) (sym c.scan.view_is) right)
-    (ap is_some c.scan.view_is ∙ (sym c.has_found.ensures ∙ c.if-has_found.true))
-  where
-    of : (found : Bool) (object : Option Object) → IfSome (found_rows found object c.scan.inside.selection) (GoesOver db c.args.actor c.args.cursor.now) → is_some (found_rows found object c.scan.inside.selection) ≡ true
-        → (o : Object) × GoesOver db c.args.actor c.args.cursor.now (rows_of o c.scan.inside.selection)
-    of true (Some o) over some = (o, over)
-    of true None over some = absurd (false≢true some)
-    of false object over some = absurd (false≢true some)
+-- what is gone over is right for the cursor,
+chosen : (g : _) (c : After-go g) (db : Database) → IsHeld c.args.reader.now.store.now c.args.reader.now.side (g.B.Eeprom.chip c.args.reader.now.bench.now) db → IsRight db c.args.actor c.args.scan.now c.in-Some.held
+    → (is_some c.if-not-has_found.scan ≡ true) × IsRight db c.args.actor c.if-not-has_found.scan c.in-Some.held
+chosen g c db held right =
+    elim c.if-not-has_found.branch [
+      | then-not-has_found+in_default-choose w ↦ (ap is_some w.scan-is ∙ w.in_default-choose.ensures.there, subst (λ (o : Option Found). IsRight db c.args.actor o c.in-Some.held) (sym w.scan-is) (w.choose.ensures.right db held))
+      | else-not-has_found w ↦ (ap is_some w.scan-is ∙ sym w.if-not-has_found.ensures, subst (λ (o : Option Found). IsRight db c.args.actor o c.in-Some.held) (sym w.scan-is) right)
+    ]
 
-pub returns-then-has_found-clause-moved : goal.returns-then-has_found-clause-moved
-returns-then-has_found-clause-moved g c = λ db held cursor right pending.
-    let on = c.args.cursor.now in
-    let each = rw c.requires.here at (c.go_over.ensures.advances db c.args.actor on (over g c db right).0 held cursor (over g c db right).1) in
-    said-by c.go_over.result (λ word all stays.
-    let advances : Advances db c.args.actor on c.args.motion on.place c.go_over.new.place word c.go_over.new.out held.slots (g.B.Eeprom.octets_read c.args.bench.now) (g.B.Eeprom.octets_read c.go_over.new.bench) =
-    told-held c.args.store.now c.args.side (g.B.Eeprom.chip c.args.bench.now) db _ held all in
-    moved-by c.args.motion db c.args.actor on c.go_over.new.place word c.go_over.new.out pending advances.rows advances.under c.requires.opened (advances.goes on)) each c.go_over.ensures.stays
+-- read where it was,
+still : (g : _) (c : After-go g) (db : Database) → IsHeld c.args.reader.now.store.now c.args.reader.now.side (g.B.Eeprom.chip c.args.reader.now.bench.now) db
+    → IsHeld c.if-not-has_found.reader.store.now c.if-not-has_found.reader.side (g.B.Eeprom.chip c.if-not-has_found.reader.bench.now) db
+still g c db held =
+    elim c.if-not-has_found.branch [
+      | then-not-has_found+in_default-choose w ↦ rw (w.reader-is, w.choose.ensures.goes_on.store, w.choose.ensures.goes_on.side, w.choose.ensures.frame.same) held
+      | else-not-has_found w ↦ rw w.reader-is held
+    ]
 
-pub returns-then-has_found-clause-refused : goal.returns-then-has_found-clause-refused
-returns-then-has_found-clause-refused g c = λ db held cursor right.
-    let on = c.args.cursor.now in
-    let each = rw c.requires.here at (c.go_over.ensures.advances db c.args.actor on (over g c db right).0 held cursor (over g c db right).1) in
-    said-by c.go_over.result (λ word all stays refusing.
-    let advances : Advances db c.args.actor on c.args.motion on.place c.go_over.new.place word c.go_over.new.out held.slots (g.B.Eeprom.octets_read c.args.bench.now) (g.B.Eeprom.octets_read c.go_over.new.bench) =
-    told-held c.args.store.now c.args.side (g.B.Eeprom.chip c.args.bench.now) db _ held all in
-    refused-stays c.args.motion on.place c.go_over.new.place word c.go_over.new.out advances.rows on (advances.goes on) (rw c.requires.here at stays) refusing ∙ sym c.requires.here) each c.go_over.ensures.stays
+-- and what was read to choose it
+read : (g : _) (c : After-go g) (db : Database) → IsHeld c.args.reader.now.store.now c.args.reader.now.side (g.B.Eeprom.chip c.args.reader.now.bench.now) db → IsCursorOf db c.in-Some.held
+    → IfSome (slots_of c.args.reader.now.store.now c.args.reader.now.side (g.B.Eeprom.chip c.args.reader.now.bench.now))
+    (λ slots. Becomes (RisesBetween 0 (catalogue_cost slots)) (g.B.Eeprom.octets_read c.args.reader.now.bench.now) (g.B.Eeprom.octets_read c.if-not-has_found.reader.bench.now))
+read g c db held cursor =
+    elim c.if-not-has_found.branch [
+      | then-not-has_found+in_default-choose w ↦ rw w.reader-is (w.in_default-choose.ensures.octets_read db held cursor)
+      | else-not-has_found w ↦ rw w.reader-is (nothing-chosen _ _)
+    ]
 
-pub returns-then-has_found-clause-octets_read : goal.returns-then-has_found-clause-octets_read
-returns-then-has_found-clause-octets_read g c = λ db held cursor right kind.
-    let on = c.args.cursor.now in
-    let chip = g.B.Eeprom.chip c.args.bench.now in
-    let a : Option ℕ = g.B.Eeprom.octets_read c.args.bench.now in
-    let each = rw c.requires.here at (c.go_over.ensures.advances db c.args.actor on (over g c db right).0 held cursor (over g c db right).1) in
-    said-by c.go_over.result (λ word all stays.
-    let advances : Advances db c.args.actor on c.args.motion on.place c.go_over.new.place word c.go_over.new.out held.slots a (g.B.Eeprom.octets_read c.go_over.new.bench) =
-    told-held c.args.store.now c.args.side chip db _ held all in
-    advanced-most c.args.store.now c.args.side chip db held c.args.actor on c.args.motion c.go_over.new.place word c.go_over.new.out a a _ kind advances
-    (of-slots c.args.store.now c.args.side chip db held (λ slots. Becomes (RisesAtMost (cell_size * cells_marked object_kind slots + cell_size * cells_marked grant_kind slots)) a a) (λ after told. (after, told, omega arith)))) each c.go_over.ensures.stays
+pub returns-clause-moved : goal.returns-clause-moved
+returns-clause-moved g c = λ db held cursor right pending.
+    let on = c.in-Some.held in
+    let own : IsCursorOf db on = rw c.in-Some.is at cursor in
+    let own_right : IsRight db c.args.actor c.args.scan.now on = rw c.in-Some.is at right in
+    let found = chosen g (goal.at.returns-clause-moved g c).After-go db held own_right in
+    let advances = c.in_ok-word.ensures.advances db c.args.actor on (still g (goal.at.returns-clause-moved g c).After-go db held) own (found-chosen db c.args.actor on c.scan-2.inside.is_found c.scan-2.inside.choice _ c.scan-2.view_is found.0 found.1) in
+    rw c.in-Some.is (moved-by c.args.motion db c.args.actor on c.go.new.place c.in_ok-word.word c.go.new.out pending advances.rows advances.under (sym c.goes_from.ensures ∙ c.if-not-goes_from.false) (advances.goes on) c.in_ok-word.ensures.stays)
+
+pub returns-clause-refused : goal.returns-clause-refused
+returns-clause-refused g c = λ db held cursor right refusing.
+    let on = c.in-Some.held in
+    let own : IsCursorOf db on = rw c.in-Some.is at cursor in
+    let own_right : IsRight db c.args.actor c.args.scan.now on = rw c.in-Some.is at right in
+    let found = chosen g (goal.at.returns-clause-refused g c).After-go db held own_right in
+    let advances = c.in_ok-word.ensures.advances db c.args.actor on (still g (goal.at.returns-clause-refused g c).After-go db held) own (found-chosen db c.args.actor on c.scan-2.inside.is_found c.scan-2.inside.choice _ c.scan-2.view_is found.0 found.1) in
+    ap (λ (place : Place). Some (record on { place = place })) (refused-stays c.args.motion on.place c.go.new.place c.in_ok-word.word c.go.new.out advances.rows on (advances.goes on) c.in_ok-word.ensures.stays refusing) ∙ sym c.in-Some.is
+
+pub returns-clause-right : goal.returns-clause-right
+returns-clause-right g c = λ db held right.
+    let own_right : IsRight db c.args.actor c.args.scan.now c.in-Some.held = rw c.in-Some.is at right in
+    let found = chosen g (goal.at.returns-clause-right g c).After-go db held own_right in
+    right-moved db c.args.actor c.in-Some.held c.go.new.place _ (subst (λ (o : Option Found). IsRight db c.args.actor o c.in-Some.held) (sym c.scan-2.view_is) found.1)
+
+pub returns-clause-octets_read : goal.returns-clause-octets_read
+returns-clause-octets_read g c = λ db held cursor right kind.
+    let on = c.in-Some.held in
+    let reader = c.args.reader.now in
+    let own : IsCursorOf db on = rw c.in-Some.is at cursor in
+    let own_right : IsRight db c.args.actor c.args.scan.now on = rw c.in-Some.is at right in
+    let found = chosen g (goal.at.returns-clause-octets_read g c).After-go db held own_right in
+    let advances = c.in_ok-word.ensures.advances db c.args.actor on (still g (goal.at.returns-clause-octets_read g c).After-go db held) own (found-chosen db c.args.actor on c.scan-2.inside.is_found c.scan-2.inside.choice _ c.scan-2.view_is found.0 found.1) in
+    rw c.in-Some.is (advanced-most reader.store.now reader.side (g.B.Eeprom.chip reader.bench.now) db held c.args.actor on c.args.motion c.go.new.place c.in_ok-word.word c.go.new.out _ _ _ (rw c.in-Some.is at kind)
+    (read g (goal.at.returns-clause-octets_read g c).After-go db held own) advances)
+
+pub returns-clause-least : goal.returns-clause-least
+returns-clause-least g c = λ db held cursor right kind.
+    let on = c.in-Some.held in
+    let reader = c.args.reader.now in
+    let own : IsCursorOf db on = rw c.in-Some.is at cursor in
+    let own_right : IsRight db c.args.actor c.args.scan.now on = rw c.in-Some.is at right in
+    let found = chosen g (goal.at.returns-clause-least g c).After-go db held own_right in
+    let advances = c.in_ok-word.ensures.advances db c.args.actor on (still g (goal.at.returns-clause-least g c).After-go db held) own (found-chosen db c.args.actor on c.scan-2.inside.is_found c.scan-2.inside.choice _ c.scan-2.view_is found.0 found.1) in
+    advanced-least reader.store.now reader.side (g.B.Eeprom.chip reader.bench.now) db held c.args.actor on c.args.motion c.go.new.place c.in_ok-word.word c.go.new.out _ _ _ (rw c.in-Some.is at kind)
+    (read g (goal.at.returns-clause-least g c).After-go db held own) advances
+
+pub returns-in-Err-clause-octets_read : goal.returns-in-Err-clause-octets_read
+returns-in-Err-clause-octets_read g c = λ db held cursor right kind.
+    let on = c.in-Some.held in
+    let reader = c.args.reader.now in
+    let own : IsCursorOf db on = rw c.in-Some.is at cursor in
+    rw c.in-Some.is (where-read _ _ c.in-Err.stop c.stopped.result c.stopped.ensures (c.in-Err.ensures.octets_read db held own)
+    (chosen-most reader.store.now reader.side (g.B.Eeprom.chip reader.bench.now) db held c.args.actor on c.args.motion _ _))
+
+pub returns-in-Err-clause-least : goal.returns-in-Err-clause-least
+returns-in-Err-clause-least g c = λ db held cursor right kind.
+    let on = c.in-Some.held in
+    let reader = c.args.reader.now in
+    let own : IsCursorOf db on = rw c.in-Some.is at cursor in
+    stopped-least c.args.motion c.args.out.now (rows_under db c.args.actor on) c.in-Err.stop c.stopped.result _ _ c.stopped.ensures (c.in-Err.ensures.refused db held own)
+    (chosen-least reader.store.now reader.side (g.B.Eeprom.chip reader.bench.now) db held c.in-Err.stop _ _ (c.in-Err.ensures.octets_read db held own))

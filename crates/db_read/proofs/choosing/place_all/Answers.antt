@@ -14,5 +14,5 @@ without-error P (Err e) said none = absurd (none e said)
 pub returns-clause-there : goal.returns-clause-there
 returns-clause-there c = λ named.
     let all = c.args.all.now in
-    let known = (and_parts (are_among c.args.columns.now all) (AreKnown all c.args.conditions.now) named).1 in
-    c.is_ok.ensures.value ∙ without-error _ c.bind_into.result c.bind_into.ensures.unknown (λ name unknown. false≢true (sym (AreKnown-unknown all c.args.conditions.now name unknown) ∙ known))
+    let known = (and_parts (are_among c.args.cursor.now.columns all) (AreKnown all c.args.cursor.now.conditions) named).1 in
+    c.is_ok.ensures.value ∙ without-error _ c.bind_into.result c.bind_into.ensures.unknown (λ name unknown. false≢true (sym (AreKnown-unknown all c.args.cursor.now.conditions name unknown) ∙ known))

@@ -27,17 +27,17 @@ returns-in-Err-clause-moved g c = λ db held pending.
 
 pub returns-in-Ok-clause-octets_read : goal.returns-in-Ok-clause-octets_read
 returns-in-Ok-clause-octets_read g c = λ db held.
-    let chip = g.B.Eeprom.chip c.args.bench.now in
-    let a : Option ℕ = g.B.Eeprom.octets_read c.args.bench.now in
-    let b : Option ℕ = g.B.Eeprom.octets_read c.cursor_on.new.bench in
-    declare-read c.args.store.now c.args.side chip db held (octets_of_rows db c.args.actor c.args.cursor.now (declare c.args.object c.args.columns.now c.args.conditions.now)) a b c.in-Ok.ensures.octets_read
+    let chip = g.B.Eeprom.chip c.args.reader.now.bench.now in
+    let a : Option ℕ = g.B.Eeprom.octets_read c.args.reader.now.bench.now in
+    let b : Option ℕ = g.B.Eeprom.octets_read c.cursor_on.new.reader.bench.now in
+    declare-read c.args.reader.now.store.now c.args.reader.now.side chip db held (octets_of_rows db c.args.actor c.args.cursor.now (declare c.args.object c.args.columns.now c.args.conditions.now)) a b c.in-Ok.ensures.octets_read
 
 pub returns-in-Err-clause-octets_read : goal.returns-in-Err-clause-octets_read
 returns-in-Err-clause-octets_read g c = λ db held.
-    let chip = g.B.Eeprom.chip c.args.bench.now in
-    let a : Option ℕ = g.B.Eeprom.octets_read c.args.bench.now in
-    let b : Option ℕ = g.B.Eeprom.octets_read c.cursor_on.new.bench in
-    where-read (IfSome (slots_of c.args.store.now c.args.side chip) (λ slots. Becomes (RisesAtMost (cell_size * cells_marked object_kind slots + cell_size * cells_marked grant_kind slots)) a b))
+    let chip = g.B.Eeprom.chip c.args.reader.now.bench.now in
+    let a : Option ℕ = g.B.Eeprom.octets_read c.args.reader.now.bench.now in
+    let b : Option ℕ = g.B.Eeprom.octets_read c.cursor_on.new.reader.bench.now in
+    where-read (IfSome (slots_of c.args.reader.now.store.now c.args.reader.now.side chip) (λ slots. Becomes (RisesAtMost (cell_size * cells_marked object_kind slots + cell_size * cells_marked grant_kind slots)) a b))
     (Becomes (RisesAtMost (octets_for_operation db c.args.actor c.args.cursor.now (declare c.args.object c.args.columns.now c.args.conditions.now))) a b)
     c.in-Err.stop c.stopped.result c.stopped.ensures c.in-Err.ensures.octets_read
-    (declare-read c.args.store.now c.args.side chip db held (octets_of_rows db c.args.actor c.args.cursor.now (declare c.args.object c.args.columns.now c.args.conditions.now)) a b)
+    (declare-read c.args.reader.now.store.now c.args.reader.now.side chip db held (octets_of_rows db c.args.actor c.args.cursor.now (declare c.args.object c.args.columns.now c.args.conditions.now)) a b)

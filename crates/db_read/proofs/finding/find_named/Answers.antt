@@ -13,13 +13,13 @@ use Rattle.db_read.proofs.finding.find_named.Goals as goal
 pub returns-clause-found : goal.returns-clause-found
 returns-clause-found g c = λ db held.
     subst (λ seen. IfOk c.select.result (λ object. selectable db c.args.actor seen ≡ Ok object.now))
-    (seen-held c.args.store.now c.args.side (g.B.Eeprom.chip c.args.bench.now) db c.args.actor c.args.name c.find_name_into.new.place held c.in_ok-find_name_into.ensures.found)
+    (seen-held c.args.reader.now.store.now c.args.reader.now.side (g.B.Eeprom.chip c.args.reader.now.bench.now) db c.args.actor c.args.name c.find_name_into.new.place held c.in_ok-find_name_into.ensures.found)
     (c.select.ensures.found db (rw (sym c.in_ok-find_name_into.ensures.frame.same) at held))
 
 pub returns-clause-refused : goal.returns-clause-refused
 returns-clause-refused g c = λ db held.
     subst (λ seen. IfErr c.select.result (Stops (selectable db c.args.actor seen)))
-    (seen-held c.args.store.now c.args.side (g.B.Eeprom.chip c.args.bench.now) db c.args.actor c.args.name c.find_name_into.new.place held c.in_ok-find_name_into.ensures.found)
+    (seen-held c.args.reader.now.store.now c.args.reader.now.side (g.B.Eeprom.chip c.args.reader.now.bench.now) db c.args.actor c.args.name c.find_name_into.new.place held c.in_ok-find_name_into.ensures.found)
     (c.select.ensures.refused db (rw (sym c.in_ok-find_name_into.ensures.frame.same) at held))
 
 -- what two searches read, one after the other
@@ -30,10 +30,10 @@ both-read first second (Some slots) a b c one two = λ after told. let h = two a
 
 pub returns-clause-octets_read : goal.returns-clause-octets_read
 returns-clause-octets_read g c =
-    let slots : Option Slots = slots_of c.args.store.now c.args.side (g.B.Eeprom.chip c.args.bench.now) in
-    let a : Option ℕ = g.B.Eeprom.octets_read c.args.bench.now in
+    let slots : Option Slots = slots_of c.args.reader.now.store.now c.args.reader.now.side (g.B.Eeprom.chip c.args.reader.now.bench.now) in
+    let a : Option ℕ = g.B.Eeprom.octets_read c.args.reader.now.bench.now in
     let b : Option ℕ = g.B.Eeprom.octets_read c.find_name_into.new.bench in
-    let after : Option ℕ = g.B.Eeprom.octets_read c.select.new.bench in
+    let after : Option ℕ = g.B.Eeprom.octets_read c.select.new.reader.bench.now in
     where-more (IfSome slots (λ slots. Becomes (RisesAtMost (cell_size * cells_marked grant_kind slots)) b after))
     (IfSome slots (λ slots. Becomes (RisesAtMost (cell_size * cells_marked object_kind slots + cell_size * cells_marked grant_kind slots)) a after)) c.select.result
     (both-read (λ slots. cell_size * cells_marked object_kind slots) (λ slots. cell_size * cells_marked grant_kind slots) slots a b after c.in_ok-find_name_into.ensures.octets_read) (rw c.in_ok-find_name_into.ensures.frame.same at c.select.ensures.octets_read)

@@ -1,44 +1,78 @@
 -- The table that is seen and takes the row, or the first refusal.
-use Rattle.std.proofs.Common.{refl, sym, subst, ◌∙◌}
+use Rattle.std.proofs.Common.{◌≡◌, true, Some, None, refl, sym, ap, subst, ◌∙◌}
+use Rattle.std.specs.Prelude.{cond}
 use Rattle.record_store.specs.declared.side.Side.TheVariants.{Working}
+use Rattle.scql_model.specs.Database.{Database}
+use Rattle.scql_model.specs.Rights.{appears, seen_named}
 use Rattle.record_table.specs.Making.{IsHeld}
+use Rattle.privilege_table.specs.Rights.{AreRights}
+use Rattle.privilege_table.specs.declared.rights.Privilege.TheVariants.{Insert}
+use Rattle.privilege_table.proofs.Seen.{seen-held}
 use Rattle.db_write.proofs.RowInserted.{inserts, inserts-foreign, inserts-misfit, inserts-none, inserts-other}
+use Rattle.db_write.proofs.inserting.find_table.Goals.{After-see}
 use Rattle.db_write.proofs.inserting.find_table.Goals as goal
+
+-- what the actor may do with the object that was found,
+rights : (g : _) (c : After-see g) (db : Database) → IsHeld c.args.store.now Working (g.B.Eeprom.chip c.args.bench.now) db → AreRights db c.args.actor c.in-Some.object c.in_ok-rights.rights
+rights g c db held = c.in_ok-rights.ensures.rights db (subst (λ chip. IsHeld c.args.store.now Working chip db) (sym c.in_ok-find_name_into.ensures.frame.same) held)
+
+-- which is the one of its name, where it appears
+seen : (g : _) (c : After-see g) (db : Database) → IsHeld c.args.store.now Working (g.B.Eeprom.chip c.args.bench.now) db → appears db c.args.actor c.in-Some.object ≡ true → Some c.in-Some.object ≡ seen_named db c.args.actor c.args.name
+seen g c db held sees =
+    let o = c.in-Some.object in
+    sym (ap (λ b. cond b (Some o) None) sees) ∙ seen-held c.args.store.now Working (g.B.Eeprom.chip c.args.bench.now) db c.args.actor c.args.name (Some o) held (rw c.in-Some.is at c.in_ok-find_name_into.ensures.found)
 
 pub returns-in_default-clause-refused : goal.returns-in_default-clause-refused
 returns-in_default-clause-refused g c = λ db held.
-    rw c.refused.ensures (inserts-none db c.args.actor c.args.name c.args.row.now (rw c.in_default.is at (c.in_ok-find_seen_into.ensures.seen db held)), refl, c.in_ok-find_seen_into.ensures.frame.same)
+    rw c.refused.ensures (
+      inserts-none db c.args.actor c.args.name c.args.row.now (seen-held c.args.store.now Working (g.B.Eeprom.chip c.args.bench.now) db c.args.actor c.args.name None held (rw c.in_default.is at c.in_ok-find_name_into.ensures.found)),
+      refl,
+      c.in_ok-find_name_into.ensures.frame.same,
+    )
+
+pub returns-then-not-see-clause-refused : goal.returns-then-not-see-clause-refused
+returns-then-not-see-clause-refused g c = λ db held.
+    let o = c.in-Some.object in
+    let w = (goal.at.returns-then-not-see-clause-refused g c).After-see in
+    let hidden = (rights g w db held).appears ∙ (sym c.see.ensures ∙ c.if-not-see.true) in
+    let none = sym (ap (λ b. cond b (Some o) None) hidden) ∙ seen-held c.args.store.now Working (g.B.Eeprom.chip c.args.bench.now) db c.args.actor c.args.name (Some o) held (rw c.in-Some.is at c.in_ok-find_name_into.ensures.found) in
+    rw c.refused-then-not-see.ensures (inserts-none db c.args.actor c.args.name c.args.row.now none, refl, c.in_ok-rights.ensures.frame.same ∙ c.in_ok-find_name_into.ensures.frame.same)
 
 pub returns-then-not-is_table-clause-refused : goal.returns-then-not-is_table-clause-refused
 returns-then-not-is_table-clause-refused g c = λ db held.
-    let seen = rw c.in-Some.is at (c.in_ok-find_seen_into.ensures.seen db held) in
-    rw c.refused-then-not-is_table.ensures (inserts-other db c.args.actor c.args.name c.args.row.now c.in-Some.object seen (sym c.is_table.ensures ∙ c.if-not-is_table.true), refl, c.in_ok-find_seen_into.ensures.frame.same)
-
-pub returns-then-not-branch-clause-refused : goal.returns-then-not-branch-clause-refused
-returns-then-not-branch-clause-refused g c = λ db held.
-    let seen = rw c.in-Some.is at (c.in_ok-find_seen_into.ensures.seen db held) in
-    let there = subst (λ chip. IsHeld c.args.store.now Working chip db) (sym c.in_ok-find_seen_into.ensures.frame.same) held in
-    rw c.refused-then-not-branch.ensures (
-      inserts-foreign db c.args.actor c.args.name c.args.row.now c.in-Some.object seen (sym c.is_table.ensures ∙ c.if-not-is_table.false) (sym (c.in_ok-holds.ensures.holds db there) ∙ c.if-not-branch.true),
+    let w = (goal.at.returns-then-not-is_table-clause-refused g c).After-see in
+    let sees = (rights g w db held).appears ∙ (sym c.see.ensures ∙ c.if-not-see.false) in
+    rw c.refused-then-not-is_table.ensures (
+      inserts-other db c.args.actor c.args.name c.args.row.now c.in-Some.object (seen g w db held sees) (sym c.is_table.ensures ∙ c.if-not-is_table.true),
       refl,
-      c.in_ok-holds.ensures.frame.same ∙ c.in_ok-find_seen_into.ensures.frame.same,
+      c.in_ok-rights.ensures.frame.same ∙ c.in_ok-find_name_into.ensures.frame.same,
+    )
+
+pub returns-then-not-have-clause-refused : goal.returns-then-not-have-clause-refused
+returns-then-not-have-clause-refused g c = λ db held.
+    let w = (goal.at.returns-then-not-have-clause-refused g c).After-see in
+    let sees = (rights g w db held).appears ∙ (sym c.see.ensures ∙ c.if-not-see.false) in
+    rw c.refused-then-not-have.ensures (
+      inserts-foreign db c.args.actor c.args.name c.args.row.now c.in-Some.object (seen g w db held sees) (sym c.is_table.ensures ∙ c.if-not-is_table.false) ((rights g w db held).holds Insert ∙ (sym c.have.ensures ∙ c.if-not-have.true)),
+      refl,
+      c.in_ok-rights.ensures.frame.same ∙ c.in_ok-find_name_into.ensures.frame.same,
     )
 
 pub returns-then-len-column_count-clause-refused : goal.returns-then-len-column_count-clause-refused
 returns-then-len-column_count-clause-refused g c = λ db held.
-    let seen = rw c.in-Some.is at (c.in_ok-find_seen_into.ensures.seen db held) in
-    let there = subst (λ chip. IsHeld c.args.store.now Working chip db) (sym c.in_ok-find_seen_into.ensures.frame.same) held in
+    let w = (goal.at.returns-then-len-column_count-clause-refused g c).After-see in
+    let sees = (rights g w db held).appears ∙ (sym c.see.ensures ∙ c.if-not-see.false) in
     let table = sym c.is_table.ensures ∙ c.if-not-is_table.false in
     rw c.refused-then-len-column_count.ensures (
-      inserts-misfit db c.args.actor c.args.name c.args.row.now c.in-Some.object seen table (sym (c.in_ok-holds.ensures.holds db there) ∙ c.if-not-branch.false)
+      inserts-misfit db c.args.actor c.args.name c.args.row.now c.in-Some.object (seen g w db held sees) table ((rights g w db held).holds Insert ∙ (sym c.have.ensures ∙ c.if-not-have.false))
           (λ same. c.if-len-column_count.true (c.len.ensures.count ∙ same ∙ sym (c.column_count.ensures table))),
       refl,
-      c.in_ok-holds.ensures.frame.same ∙ c.in_ok-find_seen_into.ensures.frame.same,
+      c.in_ok-rights.ensures.frame.same ∙ c.in_ok-find_name_into.ensures.frame.same,
     )
 
 pub returns-clause-found : goal.returns-clause-found
 returns-clause-found g c = λ db held.
-    let seen = rw c.in-Some.is at (c.in_ok-find_seen_into.ensures.seen db held) in
-    let there = subst (λ chip. IsHeld c.args.store.now Working chip db) (sym c.in_ok-find_seen_into.ensures.frame.same) held in
+    let w = (goal.at.returns-clause-found g c).After-see in
+    let sees = (rights g w db held).appears ∙ (sym c.see.ensures ∙ c.if-not-see.false) in
     let table = sym c.is_table.ensures ∙ c.if-not-is_table.false in
-    inserts db c.args.actor c.args.name c.args.row.now c.in-Some.object seen table (sym (c.in_ok-holds.ensures.holds db there) ∙ c.if-not-branch.false) (sym c.len.ensures.count ∙ c.if-len-column_count.false ∙ c.column_count.ensures table)
+    inserts db c.args.actor c.args.name c.args.row.now c.in-Some.object (seen g w db held sees) table ((rights g w db held).holds Insert ∙ (sym c.have.ensures ∙ c.if-not-have.false)) (sym c.len.ensures.count ∙ c.if-len-column_count.false ∙ c.column_count.ensures table)

@@ -12,16 +12,16 @@ returns-in_default-clause-refused g c = λ db held.
     let there = stamped-held c.args.store.now Working (g.B.Eeprom.chip c.args.bench.now) db c.args.cursor.now.object c.find_stamp_into.new.place held c.in_ok-find_stamp_into.ensures.found in
     rw c.refused.ensures (writes-none db c.args.actor (privilege_bit c.args.privilege) c.args.cursor.now held.valid (sym c.in_default.is ∙ there))
 
-pub returns-then-not-branch-clause-refused : goal.returns-then-not-branch-clause-refused
-returns-then-not-branch-clause-refused g c = λ db held.
+pub returns-then-not-see-clause-refused : goal.returns-then-not-see-clause-refused
+returns-then-not-see-clause-refused g c = λ db held.
     let o = c.in-Some.object in
     let chip = g.B.Eeprom.chip c.args.bench.now in
     let bit = privilege_bit c.args.privilege in
     let cursor = c.args.cursor.now in
     let there = stamped-held c.args.store.now Working chip db cursor.object c.find_stamp_into.new.place held c.in_ok-find_stamp_into.ensures.found in
     let second = subst (λ chip. IsHeld c.args.store.now Working chip db) (sym c.in_ok-find_stamp_into.ensures.frame.same) held in
-    let hidden = sym (c.in_ok-appears.ensures.appears db second) ∙ c.if-not-branch.true in
-    rw c.refused-then-not-branch.ensures (writes-hidden db c.args.actor bit cursor o held.valid (sym c.in-Some.is ∙ there) hidden)
+    let hidden = (c.in_ok-rights.ensures.rights db second).appears ∙ (sym c.see.ensures ∙ c.if-not-see.true) in
+    rw c.refused-then-not-see.ensures (writes-hidden db c.args.actor bit cursor o held.valid (sym c.in-Some.is ∙ there) hidden)
 
 pub returns-then-not-is_table_or_view-clause-refused : goal.returns-then-not-is_table_or_view-clause-refused
 returns-then-not-is_table_or_view-clause-refused g c = λ db held.
@@ -31,23 +31,23 @@ returns-then-not-is_table_or_view-clause-refused g c = λ db held.
     let cursor = c.args.cursor.now in
     let there = stamped-held c.args.store.now Working chip db cursor.object c.find_stamp_into.new.place held c.in_ok-find_stamp_into.ensures.found in
     let second = subst (λ chip. IsHeld c.args.store.now Working chip db) (sym c.in_ok-find_stamp_into.ensures.frame.same) held in
-    let seen = sym (c.in_ok-appears.ensures.appears db second) ∙ c.if-not-branch.false in
+    let seen = (c.in_ok-rights.ensures.rights db second).appears ∙ (sym c.see.ensures ∙ c.if-not-see.false) in
     let other = sym c.is_table_or_view.ensures ∙ c.if-not-is_table_or_view.true in
     rw c.refused-then-not-is_table_or_view.ensures (writes-other db c.args.actor bit cursor o held.valid (sym c.in-Some.is ∙ there) seen other)
 
-pub returns-then-not-branch-2-clause-refused : goal.returns-then-not-branch-2-clause-refused
-returns-then-not-branch-2-clause-refused g c = λ db held.
+pub returns-then-not-have-clause-refused : goal.returns-then-not-have-clause-refused
+returns-then-not-have-clause-refused g c = λ db held.
     let o = c.in-Some.object in
     let chip = g.B.Eeprom.chip c.args.bench.now in
     let bit = privilege_bit c.args.privilege in
     let cursor = c.args.cursor.now in
     let there = stamped-held c.args.store.now Working chip db cursor.object c.find_stamp_into.new.place held c.in_ok-find_stamp_into.ensures.found in
     let second = subst (λ chip. IsHeld c.args.store.now Working chip db) (sym c.in_ok-find_stamp_into.ensures.frame.same) held in
-    let third = subst (λ chip. IsHeld c.args.store.now Working chip db) (sym (c.in_ok-appears.ensures.frame.same ∙ c.in_ok-find_stamp_into.ensures.frame.same)) held in
-    let seen = sym (c.in_ok-appears.ensures.appears db second) ∙ c.if-not-branch.false in
+    let rights = c.in_ok-rights.ensures.rights db second in
+    let seen = (c.in_ok-rights.ensures.rights db second).appears ∙ (sym c.see.ensures ∙ c.if-not-see.false) in
     let kind = sym c.is_table_or_view.ensures ∙ c.if-not-is_table_or_view.false in
-    let foreign = sym (c.in_ok-holds.ensures.holds db third) ∙ c.if-not-branch-2.true in
-    rw c.refused-then-not-branch-2.ensures (writes-foreign db c.args.actor bit cursor o held.valid (sym c.in-Some.is ∙ there) seen kind foreign)
+    let foreign = rights.holds c.args.privilege ∙ (sym c.have.ensures ∙ c.if-not-have.true) in
+    rw c.refused-then-not-have.ensures (writes-foreign db c.args.actor bit cursor o held.valid (sym c.in-Some.is ∙ there) seen kind foreign)
 
 pub returns-clause-written : goal.returns-clause-written
 returns-clause-written g c = λ db held.
@@ -57,10 +57,10 @@ returns-clause-written g c = λ db held.
     let cursor = c.args.cursor.now in
     let there = stamped-held c.args.store.now Working chip db cursor.object c.find_stamp_into.new.place held c.in_ok-find_stamp_into.ensures.found in
     let second = subst (λ chip. IsHeld c.args.store.now Working chip db) (sym c.in_ok-find_stamp_into.ensures.frame.same) held in
-    let third = subst (λ chip. IsHeld c.args.store.now Working chip db) (sym (c.in_ok-appears.ensures.frame.same ∙ c.in_ok-find_stamp_into.ensures.frame.same)) held in
-    let seen = sym (c.in_ok-appears.ensures.appears db second) ∙ c.if-not-branch.false in
+    let rights = c.in_ok-rights.ensures.rights db second in
+    let seen = (c.in_ok-rights.ensures.rights db second).appears ∙ (sym c.see.ensures ∙ c.if-not-see.false) in
     let kind = sym c.is_table_or_view.ensures ∙ c.if-not-is_table_or_view.false in
-    writes db c.args.actor bit cursor o held.valid (sym c.in-Some.is ∙ there) seen kind (sym (c.in_ok-holds.ensures.holds db third) ∙ c.if-not-branch-2.false)
+    writes db c.args.actor bit cursor o held.valid (sym c.in-Some.is ∙ there) seen kind (rights.holds c.args.privilege ∙ (sym c.have.ensures ∙ c.if-not-have.false))
 
 pub returns-clause-there : goal.returns-clause-there
 returns-clause-there g c = λ db held.

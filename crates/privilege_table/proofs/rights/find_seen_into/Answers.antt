@@ -8,14 +8,14 @@ pub returns-in_default-clause-seen : goal.returns-in_default-clause-seen
 returns-in_default-clause-seen g c = λ db held.
     rw c.in_default.is (seen-held c.args.store.now c.args.side (g.B.Eeprom.chip c.args.bench.now) db c.args.actor c.args.name None held (rw c.in_default.is at c.in_ok-slot.ensures.found))
 
-pub returns-then-branch-clause-seen : goal.returns-then-branch-clause-seen
-returns-then-branch-clause-seen g c = λ db held.
+pub returns-then-see-clause-seen : goal.returns-then-see-clause-seen
+returns-then-see-clause-seen g c = λ db held.
     let o = c.in-Some.object in
-    let there = sym (c.in_ok-appears.ensures.appears db (rw (sym c.in_ok-slot.ensures.frame.same) at held)) ∙ c.if-branch.true in
+    let there = (c.in_ok-rights_on.ensures.rights db (rw (sym c.in_ok-slot.ensures.frame.same) at held)).appears ∙ (sym c.see.ensures ∙ c.if-see.true) in
     sym (ap (λ b. cond b (Some o) None) there) ∙ seen-held c.args.store.now c.args.side (g.B.Eeprom.chip c.args.bench.now) db c.args.actor c.args.name (Some o) held (rw c.in-Some.is at c.in_ok-slot.ensures.found)
 
 pub returns-clause-seen : goal.returns-clause-seen
 returns-clause-seen g c = λ db held.
     let o = c.in-Some.object in
-    let there = sym (c.in_ok-appears.ensures.appears db (rw (sym c.in_ok-slot.ensures.frame.same) at held)) ∙ c.if-branch.false in
+    let there = (c.in_ok-rights_on.ensures.rights db (rw (sym c.in_ok-slot.ensures.frame.same) at held)).appears ∙ (sym c.see.ensures ∙ c.if-see.false) in
     sym (ap (λ b. cond b (Some o) None) there) ∙ seen-held c.args.store.now c.args.side (g.B.Eeprom.chip c.args.bench.now) db c.args.actor c.args.name (Some o) held (rw c.in-Some.is at c.in_ok-slot.ensures.found)

@@ -9,13 +9,10 @@ use Rattle.scql_base.specs.declared.operation.Operation.TheVariants.{Verify}
 use Rattle.scql_model.proofs.FewCommits.{one-answered}
 use Rattle.scql_model.specs.Machine.{Machine}
 use Rattle.scql_model.specs.Step.{answered, carried_out}
-use Rattle.scql_model.specs.Bound.{octets_carried_out, or_nothing}
-use Rattle.card.specs.Answering.{LeavesFirstOfTwo, Performs}
+use Rattle.card.specs.Answering.{LeavesFirstOfTwo}
 use Rattle.card.specs.Card.{IsReady, Kept}
 use Rattle.card.specs.declared.found.Found.{Found}
 use Rattle.card.proofs.Sides.{IsReady-none}
-use Rattle.card.proofs.Performing.{Performs-found}
-use Rattle.card.proofs.ReadingCosts.{reads-none}
 use Rattle.card.proofs.engine.Engine.carry_out.Goals as goal
 
 -- VERIFY alone commits a second database.

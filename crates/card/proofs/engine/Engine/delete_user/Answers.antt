@@ -1,5 +1,5 @@
 -- A user is deleted by a change, and then its sessions are left.
-use Rattle.std.proofs.Common.{◌≡◌, ◌∙◌, ◌==◌, ℕ, Bool, false, [], Option, Some, None, Result, Ok, if◌then◌else◌, refl, sym, ap, subst}
+use Rattle.std.proofs.Common.{◌≡◌, ◌∙◌, ◌==◌, ℕ, Bool, [], Some, None, Result, Ok, if◌then◌else◌, refl, sym, ap, subst}
 use Rattle.std.specs.Prelude.{option_map}
 use Rattle.eeprom.specs.Chip.{Chip}
 use Rattle.eeprom.specs.declared.EepromFault.{EepromFault}
@@ -15,10 +15,8 @@ use Rattle.scql_model.specs.Replies.{said}
 use Rattle.scql_model.specs.Step.{Answer, answered, changed, user_and_sessions_deleted}
 use Rattle.db_access.proofs.NamedUser.{named-held}
 use Rattle.card.specs.Answering.{HoldsAnswer, Performs}
-use Rattle.scql_model.specs.Transactions.{for_others}
 use Rattle.record_table.specs.AtRest.{IsAtRest}
 use Rattle.card.specs.Card.{Kept, IsAt}
-use Rattle.card.specs.Waiting.{keeps_waiting}
 use Rattle.card.proofs.DeletedSessions.{Performs-deleted, left_after, left_card, refused-nobody}
 use Rattle.card.proofs.Performing.{IsAtRest-at, Performs-unwritten}
 use Rattle.card.proofs.ReadingCard.{Performs-err, err-ok}

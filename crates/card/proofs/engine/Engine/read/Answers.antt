@@ -1,19 +1,22 @@
 -- What the session of the channel reads is what the machine's does.
-use Rattle.std.proofs.Common.{◌≡◌, ◌∙◌, ℕ, Option, None, Ok, refl, sym, ap, subst, arith}
+use Rattle.std.proofs.Common.{rules, ◌≡◌, ◌∙◌, ℕ, Option, None, Ok, refl, sym, ap, subst, arith}
 use Rattle.std.specs.Prelude.{IfSome, Some, slice_index_or, slice_set}
 use Rattle.std.proofs.lemmas.Bool.{false≢true}
 use Rattle.eeprom.specs.Chip.{Chip}
 use Rattle.scql_model.specs.Cursors.{StandsOn}
 use Rattle.scql_model.specs.Database.{Database}
 use Rattle.scql_model.specs.Machine.{Reading, actor, base}
-use Rattle.scql_model.specs.Sessions.{reading_of, reading_so}
+use Rattle.scql_model.specs.ReadBound.{octets_for_reading}
+use Rattle.scql_model.specs.Sessions.{cursor_of, reading_of, reading_so}
 use Rattle.scql_model.specs.Step.{answered, carried_out}
 use Rattle.record_store.specs.declared.side.Side.{Side}
 use Rattle.record_table.specs.Making.{IsHeld}
-use Rattle.db_read.specs.Scan.{IsRightFor, TableRows}
+use Rattle.db_read.specs.Scan as scans
+use Rattle.db_read.specs.Scan.{IsRightFor}
 use Rattle.card.specs.Answering.{HoldsAnswer, changing_session, replied}
 use Rattle.card.specs.Card.{Kept, IsReady}
 use Rattle.card.specs.Waiting.{side_of}
+use Rattle.card.specs.ReadCosts.{ReadsOctets}
 use Rattle.card.specs.Reading.{move_to}
 use Rattle.card.specs.Sessions as opened
 use Rattle.card.specs.Sessions.{cursor_on, proved_user, reading_in, session_on, sessions_of}
@@ -50,14 +53,14 @@ held-there g c db held =
 
 -- what was found is right for its cursor
 right-there : (g : _) (c : After-read g) (db : Database) → IsHeld c.args.self.now.store (side_of c.args.self.now.transaction c.args.command.now.channel) (g.B.Eeprom.chip c.args.bench.now) db
-    → IsRightFor db c.in_ok-actor.actor c.deref_mut-3.result.now.scan c.in-Some.session.cursor
+    → IsRightFor db c.in_ok-actor.actor c.deref_mut-2.result.now.scan c.in-Some.session.cursor
 right-there g c db held =
     let channel = c.args.command.now.channel in
     let who = c.in_ok-actor.actor in
     let cursors = ap (λ (kept : Kept). cursor_on kept.sessions channel) (sym (view g c))
     ∙ cursor-seen c.self.inside.sessions.value c.self.inside.chains.value channel c.in-Some.session (c.self.invariant.0 ∙ sym c.self.invariant.1) (session-there g c) in
-    subst (λ (scan : Option TableRows). IsRightFor db who scan c.in-Some.session.cursor)
-    (sym (ap (λ (kept : Kept). kept.found.scan) c.self.view_is) ∙ ap (λ (found : Found). found.scan) (sym c.deref_mut-3.ensures.value))
+    subst (λ (scan : Option scans.Found). IsRightFor db who scan c.in-Some.session.cursor)
+    (sym (ap (λ (kept : Kept). kept.found.scan) c.self.view_is) ∙ ap (λ (found : Found). found.scan) (sym c.deref_mut-2.ensures.value))
     (subst (IsRightFor db who c.actor_reading.new.self.found.scan) cursors (c.in_ok-actor.ensures.right db held))
 
 -- the session that has read
@@ -75,8 +78,8 @@ returns-in_err-actor-clause-performs g c = λ m from.
 
 pub returns-in_err-word-clause-performs : goal.returns-in_err-word-clause-performs
 returns-in_err-word-clause-performs g c = λ m from.
-    Performs-unwritten c.args.self.now _ (g.B.Eeprom.chip c.args.bench.now) (g.B.Eeprom.chip c.read.new.bench) m _ _ c.read.new.reply.body c.from_residual-in_err-word.result c.requires.ready.stands from
-    (c.in_err-word.ensures.frame.same ∙ c.in_ok-actor.ensures.frame.same) (err-ok _ _ c.from_residual-in_err-word.result c.from_residual-in_err-word.ensures.1)
+    Performs-unwritten c.args.self.now _ (g.B.Eeprom.chip c.args.bench.now) _ m _ _ c.read.new.reply.body c.from_residual-in_err-word.result c.requires.ready.stands from
+    (search rules) (err-ok _ _ c.from_residual-in_err-word.result c.from_residual-in_err-word.ensures.1)
 
 pub unreachable-requires : goal.unreachable-requires
 unreachable-requires g c =
@@ -88,14 +91,12 @@ pub returns-clause-performs : goal.returns-clause-performs
 returns-clause-performs g c = λ m from.
     let args = c.args.self.now in
     let old = g.B.Eeprom.chip c.args.bench.now in
-    let new = g.B.Eeprom.chip c.read.new.bench in
     let command = c.args.command.now in
     let channel = command.channel in
     let session = c.in-Some.session in
     let after = c.read.new.session in
     let w = (goal.at.returns-clause-performs g c).After-read in
     let db = base m channel in
-    let same : new ≡ old = c.in_ok-word.ensures.frame.same ∙ c.in_ok-actor.ensures.frame.same in
     let held = IsHeld-base args old m channel c.requires.ready.stands from in
     let at = HoldsMachine-found args c.actor_reading.new.self.found old m from.held in
     let seen = reading-card (now g w) old m c.self.inside.sessions.value c.self.inside.chains.value channel session at (ap (λ (kept : Kept). kept.sessions) (sym (view g w))) (c.self.invariant.0 ∙ sym c.self.invariant.1) (session-there g w) in
@@ -104,9 +105,9 @@ returns-clause-performs g c = λ m from.
     let reads = reads-command command c.requires.formed c.requires.reads in
     let moves = c.in_ok-word.ensures.moves db (held-there g w db held) cursors (right-there g w db held) in
     let kept : Kept = record { store = c.self.inside.store; index = c.self.inside.index; sessions = sessions_of (slice_set c.self.inside.sessions.value c.from.result (Some after)) c.self.inside.chains.value; transaction = c.self.inside.transaction; found = c.self.inside.found.value; live = c.self.inside.live } in
-    rw (c.deref_mut.ensures.value, c.deref_mut-4.ensures.value) (Performs-found m _ _ c.read.new.reply.body c.in_ok-word.word kept _ old new
-    (Performs-unwritten args kept old new m _ _ c.read.new.reply.body (Ok c.in_ok-word.word) c.requires.ready.stands from same
-    (subst (λ (chip : Chip). HoldsAnswer (answered m (carried_out m command)) (replied c.read.new.reply.body c.in_ok-word.word) kept chip) (sym same)
+    rw (c.deref_mut.ensures.value, c.deref_mut-4.ensures.value) (Performs-found m _ _ c.read.new.reply.body c.in_ok-word.word kept _ old _
+    (Performs-unwritten args kept old _ m _ _ c.read.new.reply.body (Ok c.in_ok-word.word) c.requires.ready.stands from (search rules)
+    (subst (λ (chip : Chip). HoldsAnswer (answered m (carried_out m command)) (replied c.read.new.reply.body c.in_ok-word.word) kept chip) (search rules)
     (HoldsAnswer-read (now g w) kept old m command reads.0 c.read.new.reply.body c.in_ok-word.word (reading_in after) at reads.1
     (move-there db db c.in_ok-actor.actor (actor m channel) (reading_in session) (reading_of m channel) reads.0 (move_to c.read.new.reply.body c.in_ok-word.word after.cursor after.pending) refl who seen (moves reads.0 reads.1))
     (set-there g w c.in_ok-word.ensures.user)))))
@@ -115,16 +116,14 @@ pub returns-clause-ready : goal.returns-clause-ready
 returns-clause-ready g c =
     let args = c.args.self.now in
     let old = g.B.Eeprom.chip c.args.bench.now in
-    let new = g.B.Eeprom.chip c.read.new.bench in
     let command = c.args.command.now in
     let channel = command.channel in
     let session = c.in-Some.session in
     let after = c.read.new.session in
     let w = (goal.at.returns-clause-ready g c).After-read in
-    let same : new ≡ old = c.in_ok-word.ensures.frame.same ∙ c.in_ok-actor.ensures.frame.same in
     let found : Found = record { last = Some (record { channel = channel; actor = c.in_ok-actor.actor }); scan = c.read.new.scan } in
     let kept : Kept = record { store = c.self.inside.store; index = c.self.inside.index; sessions = sessions_of (slice_set c.self.inside.sessions.value c.from.result (Some after)) c.self.inside.chains.value; transaction = c.self.inside.transaction; found = c.self.inside.found.value; live = c.self.inside.live } in
-    rw (c.deref_mut.ensures.value, c.deref_mut-4.ensures.value) (subst (λ (chip : Chip). IsReady (record kept { found = found }) chip) (sym same) (subst (λ (kept : Kept). IsReady (record kept { found = found }) old) (sym (set-there g w c.in_ok-word.ensures.user))
+    rw (c.deref_mut.ensures.value, c.deref_mut-4.ensures.value) (subst (λ (chip : Chip). IsReady (record kept { found = found }) chip) (search rules) (subst (λ (kept : Kept). IsReady (record kept { found = found }) old) (sym (set-there g w c.in_ok-word.ensures.user))
     (IsReady-read (now g w) old channel (reading_in after) c.in_ok-actor.actor c.read.new.scan (StandsOver-found args c.actor_reading.new.self.found old c.requires.ready.stands)
     (λ db held. c.in_ok-actor.ensures.actor db held) (λ db held. c.in_ok-word.ensures.right db (held-there g w db held) (right-there g w db held)))))
 
@@ -143,12 +142,13 @@ returns-clause-octets_read g c = λ m from asked is.
     let side = side_of args.transaction channel in
     let a : Option ℕ = g.B.Eeprom.octets_read c.args.bench.now in
     let b : Option ℕ = g.B.Eeprom.octets_read c.actor_reading.new.bench in
-    let d : Option ℕ = g.B.Eeprom.octets_read c.read.new.bench in
+    let d : Option ℕ = g.B.Eeprom.octets_read c.read.new.reader.bench.now in
     let held = IsHeld-base args old m channel c.requires.ready.stands from in
     let at = HoldsMachine-found args c.actor_reading.new.self.found old m from.held in
     let seen = reading-card (now g w) old m c.self.inside.sessions.value c.self.inside.chains.value channel session at (ap (λ (kept : Kept). kept.sessions) (sym (view g w))) (c.self.invariant.0 ∙ sym c.self.invariant.1) (session-there g w) in
     let who = actor-at args old m channel (proved_user (session_on args.sessions channel)) from.held refl ∙ sym (c.in_ok-actor.ensures.actor db held) in
     let cursors = of_database db session.cursor (subst (λ (reading : Reading). IfSome reading.cursor (StandsOn db)) seen (from.valid.readings channel).cursor) in
-    reads-there db c.in_ok-actor.actor (actor m channel) (reading_in session) (reading_of m channel) asked a d who seen
+    subst (λ (octets : Option ℕ). ReadsOctets (octets_for_reading db (actor m channel) (cursor_of m channel) asked) db (actor m channel) (reading_of m channel) asked a octets) (search rules)
+    (reads-there db c.in_ok-actor.actor (actor m channel) (reading_in session) (reading_of m channel) asked a d who seen
     (acted-read args.store side old db held c.in_ok-actor.actor (reading_in session) asked a b d c.in_ok-actor.ensures.octets_read
-    (c.in_ok-word.ensures.octets_read db (held-there g w db held) cursors (right-there g w db held) asked is))
+    (c.in_ok-word.ensures.octets_read db (held-there g w db held) cursors (right-there g w db held) asked is)))

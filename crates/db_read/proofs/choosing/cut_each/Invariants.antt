@@ -1,6 +1,0 @@
--- The values so far, if the whole is a row.
-use Rattle.db_read.proofs.CutRows.{AreCut}
-use Rattle.db_read.proofs.choosing.cut_each.Given as goal
-
-abbrev pub invariant-loop-place : goal.invariant-loop-place
-invariant-loop-place l = AreCut l.places.items l.row l.place-index l.out
