@@ -13,7 +13,7 @@ typedef struct {
   bool is_full;
 } huwapire;
 
-/* How a call ended. But for HUWAPIRE_DONE, and for HUWAPIRE_NO_MEMORY of an answer, it left all as it was. */
+/* How a call ended. But for HUWAPIRE_DONE, and for HUWAPIRE_NO_MEMORY of an answer or a line, it left all as it was. */
 enum {
   HUWAPIRE_DONE = 0,
   HUWAPIRE_WRONG_HANDLE = 1, /* it holds no card, or for a new one it holds one already */
@@ -23,6 +23,7 @@ enum {
   HUWAPIRE_WRONG_CELLS = 5, /* a card has 16 to 2,048 cells */
   HUWAPIRE_MUTE = 6,        /* memory was wanting within a command before: close it, and open its image again */
   HUWAPIRE_NO_WRITE = 7,
+  HUWAPIRE_NO_TERMINAL = 8, /* the card was given no terminal */
 };
 
 #define HUWAPIRE_LONGEST_REPLY 258 /* for how many octets an answer wants room */
@@ -32,7 +33,15 @@ uint32_t huwapire_open(huwapire *card, const uint8_t *image, size_t length);  /*
 uint32_t huwapire_answer(huwapire *card, const uint8_t *command, size_t length, uint8_t *reply, size_t room, size_t *count);
 uint32_t huwapire_reset(huwapire *card);                                      /* ends all sessions */
 
-/* The writes that the last open, answer or reset made. A host with an EEPROM of its own makes them there, in their order, before it sends the reply. */
+/* Statements. A terminal resets the card, and takes room for a line's text, of which more is taken where it is longer. A line is carried out as
+   `card_cli FILE term` does, and its text is there, each of its lines ended by a line feed, until the next answer, reset, terminal or line. */
+uint32_t huwapire_terminal(huwapire *card, size_t room);
+uint32_t huwapire_line(huwapire *card, const uint8_t *line, size_t length);
+uint32_t huwapire_text_size(huwapire *card, size_t *length);
+uint32_t huwapire_text(huwapire *card, uint8_t *text, size_t room, size_t *count);
+
+/* The writes that the last open, answer, reset, terminal or line made. A host with an EEPROM of its own makes them there, in their order, before it sends
+   the reply or shows the text. */
 uint32_t huwapire_writes(huwapire *card, size_t *count);
 uint32_t huwapire_write(huwapire *card, size_t number, size_t *at, uint8_t *octets, size_t room, size_t *count);
 

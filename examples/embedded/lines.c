@@ -29,6 +29,15 @@ bool next_command(uint8_t command[LONGEST_COMMAND], size_t *count) {
   return true;
 }
 
+bool next_line(uint8_t line[LONGEST_LINE], size_t *count) {
+  int c;
+  *count = 0;
+  while ((c = getchar()) != EOF && c != '\n') {
+    if (*count < LONGEST_LINE) line[(*count)++] = (uint8_t)c;
+  }
+  return c != EOF || *count > 0;
+}
+
 void print_reply(const uint8_t *reply, size_t count) {
   for (size_t i = 0; i < count; i++) printf("%02X", reply[i]);
   printf("\n");

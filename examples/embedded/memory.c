@@ -1,4 +1,5 @@
-/* How much memory cards of several sizes take: on the heap when they are open, and at most while they are made; on the stack to make one and to answer. */
+/* How much memory cards of several sizes take: on the heap when they are open, and at most while they are made; on the stack to make one and to answer.
+   Of a terminal: on the heap without room for texts, and on the stack to carry out a line. */
 #include <stdio.h>
 #include <string.h>
 #include <ucontext.h>
@@ -20,6 +21,10 @@ static uint32_t status;
 static void make(void) { status = huwapire_new(&card, cells); }
 
 static void answer(void) { status = huwapire_answer(&card, command + 1, command[0], reply, sizeof reply, &count); }
+
+static const char *line;
+
+static void carry_out(void) { status = huwapire_line(&card, (const uint8_t *)line, strlen(line)); }
 
 /* How much of the stack a call took. */
 static size_t stack_of(void (*call)(void)) {
@@ -45,10 +50,12 @@ static const uint8_t commands[][32] = {
     {5, 0x00, 0x10, 0x00, 0x8A, 0x00},
 };
 
+static const char *const statements[] = {"PRESENT OWNER", "INSERT INTO ITEM VALUES ('nut', '0011')", "UPDATE ITEM SET QTY = '0001' WHERE NAME = 'nut'", "SELECT * FROM ITEM", "DELETE FROM ITEM"};
+
 int main(void) {
   static const uint16_t sizes[] = {64, 512, 2048};
   for (size_t i = 0; i < sizeof sizes / sizeof *sizes; i++) {
-    size_t answering = 0;
+    size_t answering = 0, lines = 0;
     cells = sizes[i];
     heap_most = 0;
     size_t making = stack_of(make);
@@ -60,7 +67,16 @@ int main(void) {
       if (status != HUWAPIRE_DONE || reply[count - 2] != 0x90) return 2;
       if (taken > answering) answering = taken;
     }
-    printf("%u cells: heap %zu, %zu while it is made; stack %zu to make, %zu to answer\n", cells, open, most, making, answering);
+    printf("%u cells: heap %zu, %zu while it is made; stack %zu to make, %zu to answer", cells, open, most, making, answering);
+    if (huwapire_terminal(&card, 0) != HUWAPIRE_DONE) return 4;
+    size_t terminal = heap_now - open;
+    for (size_t k = 0; k < sizeof statements / sizeof *statements; k++) {
+      line = statements[k];
+      size_t taken = stack_of(carry_out);
+      if (status != HUWAPIRE_DONE) return 5;
+      if (taken > lines) lines = taken;
+    }
+    printf("; terminal: heap %zu, stack %zu\n", terminal, lines);
     huwapire_close(&card);
     if (heap_now != 0) return 3;
   }

@@ -1,2 +1,5 @@
+pub mod DeskLaws
 pub mod HeldCard
+pub mod Lines
+pub mod OnLog
 pub mod Owning

@@ -11,6 +11,7 @@ use crate::held::Held;
 use crate::status::{NO_MEMORY, NOT_A_CARD};
 use card::{Card, OpenRefusal};
 use eeprom::{Heap, image_size};
+use line_bench::LineBench;
 use log_bench::LogBench;
 
 /// For how many writes of a command, and how many octets of them, room is taken beforehand. More is taken where a command makes more.
@@ -62,7 +63,7 @@ fn opened_over(alloc: Heap, image: Vec<u8, Heap>) -> Result<Box<Held, Heap>, u32
     ensures not_a_card { IsErrOf result NOT_A_CARD → (db : Database) → Opens image.items db → ⊥ }
     ensures ends { OnErr result (IsErrOf result NOT_A_CARD ⊎ IsErrOf result NO_MEMORY) }
 {
-    let Ok(mut bench) = LogBench::new(alloc, image, WRITES, OCTETS) else {
+    let Ok(mut bench) = LineBench::new(alloc, image, WRITES, OCTETS) else {
         return Err(NO_MEMORY);
     };
     match Card::open(alloc, &mut bench) {

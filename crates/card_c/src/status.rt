@@ -16,3 +16,5 @@ pub const WRONG_CELLS: u32 = 5;
 pub const MUTE: u32 = 6;
 /// There is no write of that number.
 pub const NO_WRITE: u32 = 7;
+/// The handle's card has no terminal.
+pub const NO_TERMINAL: u32 = 8;

@@ -1,5 +1,5 @@
 use Rattle.std.proofs.Common.{Some, ap, sym, ◌∙◌}
-use Rattle.card_c.proofs.Handles.{found}
+use Rattle.card_c.proofs.Handles.{found, seated}
 use Rattle.card_c.proofs.huwapire_answer.Goals as goal
 
 pub returns-in-Some-clause-step : goal.returns-in-Some-clause-step
@@ -20,3 +20,7 @@ returns-in-Some-clause-mute c is = (_, sym (ap Some c.deref_mut.ensures.value �
 
 pub returns-in-Some-clause-wanting : goal.returns-in-Some-clause-wanting
 returns-in-Some-clause-wanting c is = (_, c.put.ensures, c.answer-status.ensures.wanting is)
+
+pub returns-in-Some-clause-terminal : goal.returns-in-Some-clause-terminal
+returns-in-Some-clause-terminal c state holds is =
+    (_, c.put.ensures, c.answer-status.ensures.seat state (seated _ _ state (ap Some c.deref_mut.ensures.value ∙ c.in-Some.ensures.was) holds) is)

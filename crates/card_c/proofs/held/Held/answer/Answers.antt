@@ -1,54 +1,55 @@
-use Rattle.std.proofs.Common.{IsTrue, rules, ◌∷◌, refl, sym, subst}
+use Rattle.std.proofs.Common.{◌∷◌, ◌∙◌, ap, refl, sym, subst}
+use Rattle.line_bench.specs.LineBench.{image_of, writes_of}
+use Rattle.log_bench.specs.Writes.{applied}
+use Rattle.planner.specs.Held.{held_after_octets}
+use Rattle.scql_model.specs.Opens.{Opens}
 use Rattle.scql_model.specs.Replies.{Reply}
 use Rattle.scql_model.specs.Step.{step}
-use Rattle.scql_model.specs.Opens.{Opens}
-use Rattle.log_bench.specs.LogBench.{image_of, log_of}
-use Rattle.log_bench.specs.Writes.{applied}
-use Rattle.card_c.specs.HeldCard.{AnswersInto, HeldCard, IsCardAt, KeepsCuts}
-use Rattle.card_c.proofs.Cuts.{at-begun, keeps-cuts, logs-to, ready-begun}
+use Rattle.terminal.specs.Holding.{Holding}
+use Rattle.card_c.specs.HeldCard.{AnswersInto, HeldCard, IsCardAt, IsSeated, KeepsCuts}
+use Rattle.card_c.proofs.Begun.{at-begun}
+use Rattle.card_c.proofs.Cuts.{keeps-cuts, logs-to, of-command}
+use Rattle.card_c.proofs.Seated.{mapped, noted}
 use Rattle.card_c.proofs.held.Held.answer.Goals as goal
-
-pub answer-requires : goal.answer-requires
-answer-requires c =
-    let was : HeldCard = record { card = c.self.inside.card; bench = c.self.inside.bench } in
-    let live : IsTrue c.self.inside.card.live = search rules in
-    record { ready = ready-begun was c.begin.new.self c.begin.ensures.image (c.self.invariant live) }
 
 pub returns-clause-step : goal.returns-clause-step
 returns-clause-step c m at is =
-    let was : HeldCard = record { card = c.self.inside.card; bench = c.self.inside.bench } in
     let there = subst (λ (held : HeldCard). IsCardAt held m) (sym c.self.view_is) at in
-    let begun = at-begun was c.begin.new.self m c.begin.ensures.image there in
-    let answered = c.in-Replied.ensures.step m begun.0 refl in
-    (subst (λ (reply : Reply). AnswersInto reply c.write_octets.result c.write_octets.new.into) answered.reply c.write_octets.ensures.octets, (answered.at, c.in-Replied.ensures.ready refl))
+    let begun = at-begun c.self.inside.desk c.begin.new.self m c.begin.ensures there in
+    let answered = c.in-Replied.ensures.step m begun refl in
+    (subst (λ (reply : Reply). AnswersInto reply c.write_octets.result c.write_octets.new.into) answered.reply c.write_octets.ensures.octets, answered.at)
+
+pub returns-clause-seat : goal.returns-clause-seat
+returns-clause-seat c state seated is =
+    let sits = subst (λ (held : HeldCard). IsSeated held state) (sym c.self.view_is) seated in
+    let begun = at-begun c.self.inside.desk c.begin.new.self state.machine c.begin.ensures sits.sits.at in
+    let answered = c.in-Replied.ensures.step state.machine begun refl in
+    let command = c.args.command.now in
+    let f = λ (h : Holding). (let after : Holding = record { channel = h.channel; transaction = held_after_octets command c.exchange.new.reply.word h.transaction } in after) in
+    noted state sits.holding command c.exchange.new.reply.word _ sits.sits.channel sits.sits.knows (ap (λ (reply : Reply). reply.word) answered.reply) answered.at
+    (c.note.ensures ∙ mapped (λ b. b.value) f c.self.inside.terminal sits.holding sits.there)
 
 pub returns-in_default-clause-cuts : goal.returns-in_default-clause-cuts
 returns-in_default-clause-cuts c m at ends =
-    let was : HeldCard = record { card = c.self.inside.card; bench = c.self.inside.bench } in
-    let new : HeldCard = record { card = c.answer.new.self; bench = c.answer.new.bench } in
-    let dbs = m.committed ∷ (step m c.args.command.now).commits in
+    let commits = (step m c.args.command.now).commits in
     let there = subst (λ (held : HeldCard). IsCardAt held m) (sym c.self.view_is) at in
-    let begun = at-begun was c.begin.new.self m c.begin.ensures.image there in
-    subst (λ (held : HeldCard). KeepsCuts dbs held new) c.self.view_is
-    (keeps-cuts m (step m c.args.command.now).commits was new c.begin.new.self there c.begin.ensures.image c.begin.ensures.none (c.answer.ensures.moments m begun.0))
+    let begun = at-begun c.self.inside.desk c.begin.new.self m c.begin.ensures there in
+    subst (λ (held : HeldCard). KeepsCuts (m.committed ∷ commits) (image_of held.bench) c.exchange.new.self.bench) c.self.view_is
+    (keeps-cuts m commits c.self.inside.desk c.begin.new.self c.exchange.new.self there c.begin.ensures (of-command m commits c.begin.new.self c.exchange.new.self (c.exchange.ensures.moments m begun)))
 
 pub returns-clause-cuts : goal.returns-clause-cuts
 returns-clause-cuts c m at ends =
-    let was : HeldCard = record { card = c.self.inside.card; bench = c.self.inside.bench } in
-    let new : HeldCard = record { card = c.answer.new.self; bench = c.answer.new.bench } in
-    let dbs = m.committed ∷ (step m c.args.command.now).commits in
+    let commits = (step m c.args.command.now).commits in
     let there = subst (λ (held : HeldCard). IsCardAt held m) (sym c.self.view_is) at in
-    let begun = at-begun was c.begin.new.self m c.begin.ensures.image there in
-    subst (λ (held : HeldCard). KeepsCuts dbs held new) c.self.view_is
-    (keeps-cuts m (step m c.args.command.now).commits was new c.begin.new.self there c.begin.ensures.image c.begin.ensures.none (c.answer.ensures.moments m begun.0))
+    let begun = at-begun c.self.inside.desk c.begin.new.self m c.begin.ensures there in
+    subst (λ (held : HeldCard). KeepsCuts (m.committed ∷ commits) (image_of held.bench) c.exchange.new.self.bench) c.self.view_is
+    (keeps-cuts m commits c.self.inside.desk c.begin.new.self c.exchange.new.self there c.begin.ensures (of-command m commits c.begin.new.self c.exchange.new.self (c.exchange.ensures.moments m begun)))
 
 pub returns-clause-last : goal.returns-clause-last
 returns-clause-last c m at is =
-    let was : HeldCard = record { card = c.self.inside.card; bench = c.self.inside.bench } in
-    let new : HeldCard = record { card = c.answer.new.self; bench = c.answer.new.bench } in
     let answer = step m c.args.command.now in
     let there = subst (λ (held : HeldCard). IsCardAt held m) (sym c.self.view_is) at in
-    let begun = at-begun was c.begin.new.self m c.begin.ensures.image there in
-    subst (λ (held : HeldCard). Opens (applied (log_of new.bench) (image_of held.bench)) answer.machine.committed) c.self.view_is
-    (logs-to m answer.machine answer.commits was new c.begin.new.self there c.begin.ensures.image c.begin.ensures.none (c.answer.ensures.moments m begun.0)
-    ((c.in-Replied.ensures.step m begun.0 refl).at, c.in-Replied.ensures.ready refl))
+    let begun = at-begun c.self.inside.desk c.begin.new.self m c.begin.ensures there in
+    let cuts = keeps-cuts m answer.commits c.self.inside.desk c.begin.new.self c.exchange.new.self there c.begin.ensures (of-command m answer.commits c.begin.new.self c.exchange.new.self (c.exchange.ensures.moments m begun)) in
+    subst (λ (held : HeldCard). Opens (applied (writes_of c.exchange.new.self.bench) (image_of held.bench)) answer.machine.committed) c.self.view_is
+    (logs-to (m.committed ∷ answer.commits) (image_of c.self.inside.desk.bench) c.exchange.new.self answer.machine cuts (c.in-Replied.ensures.step m begun refl).at)

@@ -1,17 +1,16 @@
-use Rattle.std.proofs.Common.{IsTrue, rules, sym, subst}
-use Rattle.log_bench.specs.LogBench.{chip_of}
-use Rattle.card_c.specs.HeldCard.{HeldCard, IsCardAt}
-use Rattle.card_c.proofs.Cuts.{at-begun, ready-begun}
+use Rattle.std.proofs.Common.{◌∙◌, None, sym, subst}
+use Rattle.terminal.specs.Holding.{Holding}
+use Rattle.card_c.specs.HeldCard.{HeldCard, IsCardAt, IsSeated}
+use Rattle.card_c.proofs.Begun.{at-begun}
+use Rattle.card_c.proofs.Seated.{anew, mapped}
 use Rattle.card_c.proofs.held.Held.reset.Goals as goal
 
-pub invariant_of-self : goal.invariant_of-self
-invariant_of-self c now =
-    let was : HeldCard = record { card = c.self.inside.card; bench = c.self.inside.bench } in
-    let live : IsTrue c.self.inside.card.live = search rules in
-    c.reset.ensures.ready (chip_of c.begin.new.self) (ready-begun was c.begin.new.self c.begin.ensures.image (c.self.invariant live))
-
 pub returns-clause-done : goal.returns-clause-done
-returns-clause-done c m at is =
-    let was : HeldCard = record { card = c.self.inside.card; bench = c.self.inside.bench } in
-    let begun = at-begun was c.begin.new.self m c.begin.ensures.image (subst (λ (held : HeldCard). IsCardAt held m) (sym c.self.view_is) at) in
-    (c.reset.ensures.at (chip_of c.begin.new.self) m begun.0, c.reset.ensures.ready (chip_of c.begin.new.self) begun.1)
+returns-clause-done c m at is = c.reset.ensures.step m (at-begun c.self.inside.desk c.begin.new.self m c.begin.ensures (subst (λ (held : HeldCard). IsCardAt held m) (sym c.self.view_is) at))
+
+pub returns-clause-seat : goal.returns-clause-seat
+returns-clause-seat c state seated is =
+    let sits = subst (λ (held : HeldCard). IsSeated held state) (sym c.self.view_is) seated in
+    let first : Holding = record { channel = 0; transaction = None } in
+    anew state.machine _ (c.reset.ensures.step state.machine (at-begun c.self.inside.desk c.begin.new.self state.machine c.begin.ensures sits.sits.at))
+    (c.begin_anew.ensures ∙ mapped (λ b. b.value) (λ _. first) c.self.inside.terminal sits.holding sits.there)

@@ -1,0 +1,24 @@
+-- What a terminal says of a line, as the call that carries it out says it; and a line that is too long.
+use Rattle.std.proofs.Common.{◌≡◌, ◌<◌, List, ℕ, Option, None, length, refl}
+use Rattle.std.proofs.lemmas.Bool.{lt-ltb}
+use Rattle.planner.specs.StatementLines.{TerminalState, statement_lines}
+use Rattle.scql_model.specs.Lines.{Effect, line_effect}
+use Rattle.scql_model.specs.Machine.{Machine}
+use Rattle.scql_model.specs.Matching.{Values}
+use Rattle.terminal.specs.declared.line_end.LineEnd.{LineEnd}
+use Rattle.terminal.specs.declared.line_end.LineEnd.TheVariants as ends
+use Rattle.terminal.specs.declared.refusal.Refusal.{Refusal}
+use Rattle.terminal.specs.Holding.{Holding}
+use Rattle.terminal.specs.Line.{EndsBy, EndsSo}
+use Rattle.card_c.specs.Lines.{EndsLine}
+use Rattle.card_c.specs.OnLog.{IsDeskAt, OnLog, faults_of, given_by, is_live, text_faults_of}
+
+pub ends-line : (m : Machine) (does : Effect TerminalState) (rows : List Values) (refusal : Option Refusal) (holding : Holding) (end : LineEnd) (old new : OnLog)
+    → EndsSo IsDeskAt given_by m does rows refusal holding end old new → EndsBy is_live faults_of text_faults_of end old new → EndsLine m does holding end old new
+ends-line m does rows refusal holding ends.Answered old new so by = so.0
+ends-line m does rows refusal holding (ends.Refused why) old new so by = so.0
+ends-line m does rows refusal holding ends.Mute old new so by = by.0.gone
+ends-line m does rows refusal holding ends.SinkFault old new so by = so
+
+pub long-line : (state : TerminalState) (line : List ℕ) → 1000 < length line → line_effect statement_lines state line ≡ statement_lines.effect state None
+long-line state line long = rw (lt-ltb 1000 (length line) long) refl

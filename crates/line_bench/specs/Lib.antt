@@ -1,0 +1,2 @@
+pub mod LineBench
+pub mod Spans

@@ -1,0 +1,66 @@
+-- What an EEPROM in memory tells that keeps a log of its writes and a text.
+use Rattle.std.specs.Prelude.{◌≡◌, ℕ, ◌<◌, ◌^◌, suc, List, [], ◌∷◌, ◌++◌, length, Option, Some, None}
+use Rattle.eeprom.specs.Chip.{Chip, Stretch, giving}
+use Rattle.log_bench.specs.LogBench as log
+use Rattle.log_bench.specs.LogBench.{LogsWrite}
+use Rattle.log_bench.specs.Writes.{Write}
+use Rattle.line_bench.specs.Spans.{spans}
+use Rattle.line_bench.specs.declared.line_bench.LineBench.{LineBench}
+
+-- the image, the writes since the log was begun, the image when it was begun, and the text since then
+abbrev pub image_of : LineBench → List ℕ
+image_of b = log.image_of b.log
+
+abbrev pub writes_of : LineBench → List Write
+writes_of b = log.log_of b.log
+
+abbrev pub first_of : LineBench → List ℕ
+first_of b = log.first_of b.log
+
+abbrev pub text_of : LineBench → List ℕ
+text_of b = b.text.items
+
+-- What it tells of this: a line feed goes out, that of the line which is asked, and the log is begun meanwhile; the text comes behind it.
+abbrev pub given_line : List ℕ → List ℕ
+given_line text = 0x0A ∷ text
+
+abbrev pub line_past : List ℕ → List Write → List ℕ → ℕ → List Stretch
+line_past first writes marks now = giving first 0 1 ∷ spans 0 writes marks first now
+
+abbrev pub line_chip : List ℕ → List ℕ → List Write → List ℕ → List ℕ → ℕ → Chip
+line_chip image first writes marks text sink_faults = record {
+  still = record { size = length image; mark = suc (length text); given = Some (given_line text); sink_faults = sink_faults };
+  image = Some image;
+  written = None;
+  clock = length (line_past first writes marks (length text));
+  past = Some (line_past first writes marks (length text));
+}
+
+abbrev pub chip_of : LineBench → Chip
+chip_of b = line_chip (image_of b) (first_of b) (writes_of b) b.marks.items (text_of b) b.text_faults
+
+abbrev pub given_of : LineBench → Option (List ℕ)
+given_of b = Some (given_line (text_of b))
+
+-- the size fits a usize
+pub small_of : (b : LineBench) → (chip_of b).still.size < 2 ^ 64
+small_of b = log.small_of b.log
+
+-- what giving leaves: the text goes on, and all else stays
+pub record LeavesLog (old new : LineBench) : Type 0 where
+  pub more : List ℕ
+  pub text : text_of new ≡ text_of old ++ more
+  pub log : new.log ≡ old.log
+  pub marks : new.marks.items ≡ old.marks.items
+  pub faults : new.faults ≡ old.faults
+
+-- the image has these octets at this place, the log has the write as its last, and so much text had been given
+pub record Enters (at : ℕ) (octets : List ℕ) (old new : LineBench) : Type 0 where
+  pub logged : LogsWrite at octets old.log new.log
+  pub mark : new.marks.items ≡ old.marks.items ++ length (text_of old) ∷ []
+
+-- image, log and marks are as they were
+pub record IsAsBefore (old new : LineBench) : Type 0 where
+  pub image : image_of new ≡ image_of old
+  pub writes : writes_of new ≡ writes_of old
+  pub marks : new.marks.items ≡ old.marks.items
