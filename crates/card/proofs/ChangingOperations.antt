@@ -22,12 +22,16 @@ pub IsActorOf-acting : (db : Database) (user : Option ℕ) → IsActorOf db (act
 IsActorOf-acting db None = tt
 IsActorOf-acting db (Some stamp) = IsActorOf-stamped db stamp
 
--- for the user of a stamp that was found on a side, or for the public
+-- the user of a stamp that was found on a side is that of its database
+pub stamped-user : (store : Held) (side : Side) (chip : Chip) (db : Database) (stamp : ℕ) (found : Option User) → IsHeld store side chip db
+    → IfSome (slots_of store side chip) (λ slots. Rises user_kind.key (listed user_kind slots) → found ≡ user_stamped (listed user_kind slots) stamp) → found ≡ user_stamped db.users stamp
+stamped-user store side chip db stamp found held there =
+    let here = if_some-at (λ slots. Rises user_kind.key (listed user_kind slots) → found ≡ user_stamped (listed user_kind slots) stamp) (slots_of store side chip) held.slots held.told there in
+    let users : listed user_kind held.slots ≡ db.users = held.holds.users in
+    here (subst (Rises user_kind.key) (sym users) held.valid.users.rises) ∙ ap (λ (users : List User). user_stamped users stamp) users
+
+-- for it, or for the public
 pub acting-found : (store : Held) (side : Side) (chip : Chip) (db : Database) (stamp : ℕ) (found : Option User) → IsHeld store side chip db
     → IfSome (slots_of store side chip) (λ slots. Rises user_kind.key (listed user_kind slots) → found ≡ user_stamped (listed user_kind slots) stamp)
     → option_map_or (λ (u : User). a_user u.stamp u.profile) found Public ≡ acting db (Some stamp)
-acting-found store side chip db stamp found held there =
-    let here = if_some-at (λ slots. Rises user_kind.key (listed user_kind slots) → found ≡ user_stamped (listed user_kind slots) stamp) (slots_of store side chip) held.slots held.told there in
-    let users : listed user_kind held.slots ≡ db.users = held.holds.users in
-    ap (λ (o : Option User). option_map_or (λ (u : User). a_user u.stamp u.profile) o Public)
-    (here (subst (Rises user_kind.key) (sym users) held.valid.users.rises) ∙ ap (λ (users : List User). user_stamped users stamp) users)
+acting-found store side chip db stamp found held there = ap (λ (o : Option User). option_map_or (λ (u : User). a_user u.stamp u.profile) o Public) (stamped-user store side chip db stamp found held there)

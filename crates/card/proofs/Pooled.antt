@@ -28,15 +28,19 @@ place_stamp place = place.stamp
 abbrev pub entry_at : List ℕ → RecordPlace → KeptRecord
 entry_at octets place = record_of place.slot (slice_range octets place.start (place.start + place.length))
 
-pub found : (octets : List ℕ) (place : RecordPlace) → IsPlaceIn octets place → record_at octets place ≡ Some (entry_at octets place)
-found octets place is = go (record_at octets place) is.stamped
+-- octets of which the stamp was read are a record with that stamp
+pub spelled : (slot : ℕ) (octets : List ℕ) (stamp : ℕ) → option_map stamp_of (record_in slot octets) ≡ Some stamp → (record_in slot octets ≡ Some (record_of slot octets)) × (stamp ≡ stamp_of (record_of slot octets))
+spelled slot octets stamp read = go (record_in slot octets) read
   where
-    go : (o : Option KeptRecord) → option_map stamp_of o ≡ Some place.stamp → o ≡ Some (unwrap_or o (kept_as.User owner))
-    go None none = absurd (none-some place.stamp none)
-    go (Some r) stamped = refl
+    go : (o : Option KeptRecord) → option_map stamp_of o ≡ Some stamp → (o ≡ Some (unwrap_or o (kept_as.User owner))) × (stamp ≡ stamp_of (unwrap_or o (kept_as.User owner)))
+    go None none = absurd (none-some stamp none)
+    go (Some r) read = (refl, sym (same_Some (stamp_of r) stamp read))
+
+pub found : (octets : List ℕ) (place : RecordPlace) → IsPlaceIn octets place → record_at octets place ≡ Some (entry_at octets place)
+found octets place is = (spelled place.slot (slice_range octets place.start (place.start + place.length)) place.stamp is.stamped).0
 
 pub entry-stamp : (octets : List ℕ) (place : RecordPlace) → IsPlaceIn octets place → stamp_of (entry_at octets place) ≡ place.stamp
-entry-stamp octets place is = same_Some (stamp_of (entry_at octets place)) place.stamp (sym (ap (option_map stamp_of) (found octets place is)) ∙ is.stamped)
+entry-stamp octets place is = sym (spelled place.slot (slice_range octets place.start (place.start + place.length)) place.stamp is.stamped).1
 
 entries : (octets : List ℕ) (places : List RecordPlace) → AllByRecursion (IsPlaceIn octets) places → filter_map (record_at octets) places ≡ map (entry_at octets) places
 entries octets [] all = refl

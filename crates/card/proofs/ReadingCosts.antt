@@ -1,18 +1,23 @@
 -- What a reading command reads, from what its parts read.
-use Rattle.std.proofs.Common.{◌≡◌, ◌≤◌, ◌==◌, ◌+◌, ◌*◌, ℕ, true, false, List, [], ◌∷◌, length, take, drop, Option, Some, Result, Ok, Err, if◌then◌else◌, refl, sym, ap, subst, ◌∙◌, arith, inl, inr}
+use Rattle.std.proofs.Common.{◌≡◌, ◌≤◌, ◌==◌, ◌+◌, ◌*◌, ℕ, true, false, List, [], ◌∷◌, length, take, drop, Option, None, Some, Result, Ok, Err, if◌then◌else◌, refl, sym, ap, subst, ◌∙◌, arith, inl, inr}
 use Rattle.std.specs.Prelude.{IfSome, OnOk}
-use Rattle.std.proofs.lemmas.Bool.{cases_Bool}
+use Rattle.std.specs.Option.{option_map_or}
+use Rattle.std.proofs.lemmas.Bool.{cases_Bool, eqb-true}
+use Rattle.std.proofs.lemmas.Option.{none-some, same_Some}
+use Rattle.std.proofs.lemmas.List.Sums.{sum_by-cons}
 use Rattle.std.proofs.lemmas.List.{length-append, take-append-drop}
 use Rattle.eeprom.specs.Chip.{Becomes, Chip, RisesAtMost}
 use Rattle.eeprom.specs.StoreOf.{cell_size}
 use Rattle.eeprom.specs.declared.fault.EepromFault.{EepromFault}
 use Rattle.record_store.specs.Held.{Held}
 use Rattle.record_store.specs.declared.side.Side.{Side}
+use Rattle.record_store.specs.declared.tags.Tag.TheVariants.{Stamp}
 use Rattle.scql_base.specs.Words.{conditions_not_satisfied, done}
 use Rattle.scql_base.specs.declared.cursor.Cursor.{Cursor}
 use Rattle.scql_base.specs.declared.operation.Command.{Command}
 use Rattle.scql_base.specs.declared.operation.Operation.{Operation}
 use Rattle.scql_base.specs.declared.operation.Operation.TheVariants as asks
+use Rattle.scql_base.specs.declared.records.User.{User}
 use Rattle.scql_base.specs.declared.words.Actor.{Actor}
 use Rattle.scql_base.specs.declared.words.StatusWord.{StatusWord}
 use Rattle.scql_base.proofs.RowOctets.{row_size-spelled}
@@ -23,23 +28,29 @@ use Rattle.scql_model.specs.Machine.{Machine, Reading, actor, base, open_channel
 use Rattle.scql_model.specs.Matching.{Values}
 use Rattle.scql_model.specs.Moves.{move_of}
 use Rattle.scql_model.specs.Operations.{operations, kind_of}
-use Rattle.scql_model.specs.ReadBound.{RisesAtLeast, octets_for_operation, octets_for_reading}
+use Rattle.scql_model.specs.Edits.{cells_of_record, of_user}
+use Rattle.scql_model.specs.Creating.{actor_stamp}
+use Rattle.scql_model.specs.ReadBound.{RisesAtLeast}
+use Rattle.scql_model.specs.Rules.{user_stamped}
 use Rattle.scql_model.specs.ReadingCommands.{Move, ReadingCommand, get_response, or_stays, reading_command, row_octets}
 use Rattle.scql_model.specs.Sessions.{changing_session, command_chain, reading_of, without_chain}
 use Rattle.scql_model.specs.Step.{reading_done}
 use Rattle.scql_model.specs.Transactions.{is_kept_waiting, waits}
 use Rattle.scql_model.proofs.FormedParts.{read_on}
 use Rattle.scql_model.proofs.ReadingSteps.{ended-actor, ended-reading}
-use Rattle.catalog_codec.specs.Catalog.{grant_kind, object_kind, user_kind}
-use Rattle.catalog_codec.specs.CatalogLaws.{HaveOtherMarks-row-grant, HaveOtherMarks-row-object, HaveOtherMarks-row-user}
+use Rattle.scql_model.proofs.LongerLists.{find-passes}
+use Rattle.catalog_codec.specs.Catalog.{user_kind}
 use Rattle.privilege_table.proofs.Seen.{told-held}
-use Rattle.record_table.specs.Listed.{cells_marked, slots_of}
+use Rattle.record_table.specs.Listed.{slots_of}
 use Rattle.record_table.specs.Making.{IsHeld}
 use Rattle.cursor.specs.Costs.{RisesBetween, least_read}
 use Rattle.cursor.specs.Moved.{refuses}
 use Rattle.apdu_chain.proofs.TakenForms.{taken_at}
 use Rattle.db_read.specs.Answered.{given}
-use Rattle.db_read.proofs.HeldCosts.{catalogue-held}
+use Rattle.record_table.specs.Reading.{NeverFalls}
+use Rattle.record_table.specs.Tagged.{cells_tagged}
+use Rattle.record_table.proofs.TaggedCosts.{user-of_stamp}
+use Rattle.db_read.specs.Searched.{cells_selected, octets_for_operation, octets_for_reading, user_cells}
 use Rattle.card.specs.ReadCosts.{ReadsAsked, ReadsFor, ReadsOctets, ReadsOn, row_answered, size_given}
 use Rattle.card.specs.Reading.{is_reading}
 use Rattle.apdu_chain.proofs.CarriedOut.{carried_out-reads, carried_out-waits}
@@ -52,27 +63,41 @@ on-then (Err fault) then' holds = tt
 pub rises-more : (few most : ℕ) (a b : Option ℕ) → few ≤ most → Becomes (RisesAtMost few) a b → Becomes (RisesAtMost most) a b
 rises-more few most a b le rises = λ after told. (let r = rises after told in (r.0, r.1, omega (arith, le, r.2)))
 
-module _ (store : Held) (side : Side) (chip : Chip) (db : Database) (held : IsHeld store side chip db) where
-  -- the search of GET RESPONSE for its object, and the grants on it
-  pub asked-read : (actor : Actor) (cursor : Option Cursor) (le : ℕ) (a b : Option ℕ)
-      → IfSome (slots_of store side chip) (λ slots. Becomes (RisesAtMost (cell_size * cells_marked object_kind slots + cell_size * cells_marked grant_kind slots)) a b)
-      → Becomes (RisesAtMost (octets_for_operation db actor cursor (get_response le))) a b
-  asked-read actor cursor le a b read =
-      let objects = catalogue-held object_kind held.slots db HaveOtherMarks-row-object held.holds in
-      let grants = catalogue-held grant_kind held.slots db HaveOtherMarks-row-grant held.holds in
-      rises-more (cell_size * cells_marked object_kind held.slots + cell_size * cells_marked grant_kind held.slots) (octets_for_operation db actor cursor (get_response le)) a b (omega (arith, objects, grants))
-      (told-held store side chip db (λ slots. Becomes (RisesAtMost (cell_size * cells_marked object_kind slots + cell_size * cells_marked grant_kind slots)) a b) held read)
+-- the search of GET RESPONSE for its object, and the grants on it
+pub asked-read : (db : Database) (actor : Actor) (c : Cursor) (le : ℕ) (a b : Option ℕ) → Becomes (RisesAtMost (cell_size * cells_selected db actor c.object)) a b
+    → Becomes (RisesAtMost (octets_for_operation db actor (Some c) (get_response le))) a b
+asked-read db actor c le a b read = λ after told. let r = read after told in (r.0, r.1, omega (arith, r.2))
 
-  -- the search for the actor, and then an operation
-  pub acted-read : (actor : Actor) (reading : Reading) (command : ReadingCommand) (a b c : Option ℕ) → IfSome (slots_of store side chip) (λ slots. Becomes (RisesBetween 0 (cell_size * cells_marked user_kind slots)) a b)
-      → ReadsOctets (octets_for_operation db actor reading.cursor command) db actor reading command b c → ReadsOctets (octets_for_reading db actor reading.cursor command) db actor reading command a c
-  acted-read actor reading command a b c first reads =
-      let users = catalogue-held user_kind held.slots db HaveOtherMarks-row-user held.holds in
-      let searched = told-held store side chip db (λ slots. Becomes (RisesBetween 0 (cell_size * cells_marked user_kind slots)) a b) held first in
-      record {
-        within = λ on after told. (let r = reads.within on after told in let s = searched r.0 r.1 in (s.0, s.1, omega (arith, r.2, s.2.1, users)));
-        row = λ asked on after told. (let r = reads.row asked on after told in let s = searched r.0 r.1 in (s.0, s.1, omega (arith, r.2, s.2.0)));
-      }
+-- the search for the actor, and then an operation
+pub acted-read : (db : Database) (actor : Actor) (reading : Reading) (command : ReadingCommand) (a b c : Option ℕ) → Becomes (RisesBetween 0 (cell_size * user_cells db.users (actor_stamp actor))) a b
+    → ReadsOctets (octets_for_operation db actor reading.cursor command) db actor reading command b c → ReadsOctets (octets_for_reading db actor reading.cursor command) db actor reading command a c
+acted-read db actor reading command a b c searched reads = record {
+  within = λ on after told. (let r = reads.within on after told in let s = searched r.0 r.1 in (s.0, s.1, omega (arith, r.2, s.2.1)));
+  row = λ asked on after told. (let r = reads.row asked on after told in let s = searched r.0 r.1 in (s.0, s.1, omega (arith, r.2, s.2.0)));
+}
+
+-- the user of a stamp is who acts, and where there is none nothing was read
+pub actor-read : (store : Held) (side : Side) (chip : Chip) (db : Database) (stamp : ℕ) (found : Option User) (a b : Option ℕ) → IsHeld store side chip db → found ≡ user_stamped db.users stamp
+    → IfSome (slots_of store side chip) (λ slots. Becomes (RisesAtMost (cell_size * cells_tagged user_kind (Some (Stamp stamp)) slots)) a b) → NeverFalls (slots_of store side chip) a b
+    → Becomes (RisesBetween 0 (cell_size * user_cells db.users (option_map_or (λ (u : User). u.stamp) found 0))) a b
+actor-read store side chip db stamp found a b held is read rises = λ after told.
+    let most = told-held store side chip db (λ slots. Becomes (RisesAtMost (cell_size * cells_tagged user_kind (Some (Stamp stamp)) slots)) a b) held read after told in
+    let least = told-held store side chip db (λ _. Becomes (RisesAtLeast 0) a b) held rises after told in
+    let same : least.0 ≡ most.0 = same_Some least.0 most.0 (sym least.1 ∙ most.1) in
+    (most.0, most.1, (omega (arith, least.2, same), omega (arith, most.2, user-of_stamp stamp held.slots db held.holds, own-cells db.users stamp found is)))
+  where
+    none-there : (users : List User) (stamp : ℕ) → None ≡ user_stamped users stamp → user_cells users stamp ≡ 0
+    none-there [] stamp is = refl
+    none-there (u ∷ users) stamp is = elim (cases_Bool (u.stamp == stamp)) [
+      | inl here ↦ absurd (none-some u (rw here at is))
+      | inr other ↦ (let sum = sum_by-cons (λ (x : User). if x.stamp == stamp then cells_of_record (of_user x) else 0) u users in
+          let none : (if u.stamp == stamp then cells_of_record (of_user u) else 0) ≡ 0 = rw other refl in
+          omega (arith, sum, none, none-there users stamp (rw other at is)))
+    ]
+
+    own-cells : (users : List User) (stamp : ℕ) (found : Option User) → found ≡ user_stamped users stamp → user_cells users stamp ≤ user_cells users (option_map_or (λ (u : User). u.stamp) found 0)
+    own-cells users stamp None is = omega (arith, none-there users stamp is)
+    own-cells users stamp (Some u) is = (let same : u.stamp ≡ stamp = eqb-true u.stamp stamp (find-passes (λ (x : User). x.stamp == stamp) users u (sym is)) in rw same (omega arith))
 
 -- the same for the same actor and what was read before
 pub reads-there : (db : Database) (who actor : Actor) (reading before : Reading) (command : ReadingCommand) (a b : Option ℕ) → actor ≡ who → before ≡ reading

@@ -20,5 +20,6 @@ pub mod Reading
 pub mod Sessions
 pub mod Showing
 pub mod SlotCard
+pub mod SlotRecord
 pub mod Validity
 pub mod Waiting

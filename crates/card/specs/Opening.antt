@@ -1,5 +1,5 @@
 -- What the slots of a card hold, as far as they were read.
-use Rattle.std.specs.Prelude.{◌≡◌, ℕ, suc, ◌+◌, ◌*◌, ◌&&◌, Bool, true, List, [], ◌∷◌, Option, Some, None, option_map, unwrap_or}
+use Rattle.std.specs.Prelude.{◌≡◌, ℕ, suc, ◌+◌, ◌*◌, ◌&&◌, Bool, true, List, [], ◌∷◌, Option, option_map, unwrap_or}
 use Rattle.std.specs.Option.{option_or, option_map_or}
 use Rattle.std.specs.List.{cons_option}
 use Rattle.eeprom.specs.Chip.{RisesBy}
@@ -14,8 +14,6 @@ use Rattle.scql_model.specs.Database.{Database, weight}
 use Rattle.scql_model.specs.Opens.{is_spelled}
 use Rattle.card.specs.declared.kept_record.KeptRecord.{KeptRecord}
 use Rattle.card.specs.declared.kept_record.KeptRecord.TheVariants as kept_as
-use Rattle.card.specs.declared.slot_record.SlotRecord.{SlotRecord}
-use Rattle.card.specs.declared.slot_record.SlotRecord.TheVariants as found_as
 use Rattle.card.specs.KeptRecords.{stamp_of, users_in, objects_in, grants_in, rows_in}
 use Rattle.card.specs.Validity.{is_valid_database}
 
@@ -51,16 +49,6 @@ record_of slot octets = unwrap_or (record_in slot octets) (kept_as.User owner)
 abbrev pub gathered : ℕ → Slots → List KeptRecord
 gathered slot [] = []
 gathered slot (v ∷ slots) = cons_option (in_slot (record_in slot) v) (gathered (suc slot) slots)
-
--- the stamp that a counter gives next
-abbrev pub counter_of : SlotRecord → Option ℕ
-counter_of (found_as.Counter next) = Some next
-counter_of (found_as.Other r) = None
-
--- another record
-abbrev pub other_of : SlotRecord → Option KeptRecord
-other_of (found_as.Counter next) = None
-other_of (found_as.Other r) = Some r
 
 -- Records, in any order, of which no two have one stamp, and which pass the test of a valid database.
 pub record PassTest (next : ℕ) (records : List KeptRecord) : Type 0 where

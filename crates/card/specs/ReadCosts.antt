@@ -8,9 +8,10 @@ use Rattle.scql_model.specs.Accepting.{channel_named}
 use Rattle.scql_model.specs.Database.{Database}
 use Rattle.scql_model.specs.Machine.{Machine, Reading, actor, base}
 use Rattle.scql_model.specs.Moves.{move_of}
-use Rattle.scql_model.specs.ReadBound.{IsOnTableOrView, RisesAtLeast, octets_for_operation, octets_for_reading}
+use Rattle.scql_model.specs.ReadBound.{IsOnTableOrView, RisesAtLeast}
 use Rattle.scql_model.specs.ReadingCommands.{Move, ReadingCommand, declare, fetch, fetch_next, get_response, next, open_cursor, reading_command}
 use Rattle.scql_model.specs.Sessions.{cursor_of, reading_of}
+use Rattle.db_read.specs.Searched.{octets_for_operation, octets_for_reading}
 use Rattle.card.specs.Showing.{AreReading}
 
 -- a command goes over the rows of a cursor

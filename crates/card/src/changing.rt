@@ -8,20 +8,20 @@ ghost use Rattle.record_store.specs.Held.{IsOver};
 ghost use Rattle.record_store.specs.declared.side.Side.TheVariants.{Committed, Working};
 ghost use Rattle.scql_base.specs.declared.cursor.Cursor as model;
 ghost use Rattle.scql_model.specs.Changing.{edits_of};
-ghost use Rattle.scql_model.specs.Creating.{IsActorOf};
+ghost use Rattle.scql_model.specs.Creating.{IsActorOf, actor_stamp};
 ghost use Rattle.scql_model.specs.Cursors.{IsCursorOf};
 ghost use Rattle.scql_model.specs.Database.{Database};
 ghost use Rattle.scql_model.specs.Operations.{kind_of};
 ghost use Rattle.scql_model.specs.WellFormed.{HasForm, FitsCard};
-ghost use Rattle.catalog_codec.specs.Catalog.{user_kind};
 ghost use Rattle.cursor.specs.Costs.{RisesBetween};
-ghost use Rattle.record_table.specs.Listed.{cells_marked, slots_of};
+ghost use Rattle.record_table.specs.Listed.{slots_of};
 ghost use Rattle.record_table.specs.Making.{IsHeld, Ends, GoesOn, is_stop_fault};
 ghost use Rattle.row_index.specs.Index.{Indexes, is_above};
 ghost use Rattle.record_table.specs.AtRest.{IsAtRest};
 ghost use Rattle.card.specs.Card.{HoldsSome};
 ghost use Rattle.card.specs.Acting.{acting};
 ghost use Rattle.db_read.specs.Scan.{IsRightFor};
+ghost use Rattle.db_read.specs.Searched.{user_cells};
 ghost use Rattle.card.specs.Changing as specs;
 ghost use Rattle.card.specs.Changing.{IsChange, Changes, ConcludesWithin, KeepsCatalog, goes_through_cursor};
 
@@ -56,7 +56,7 @@ pub(crate) fn change<B: Eeprom>(
     known: Option<Actor>,
     cursor: &Option<Cursor>,
     operation: &Operation,
-    scan: &Scan,
+    scan: &mut Scan,
 ) -> Result<StatusWord, EepromFault>
     requires idle { store.old.begun ≡ false }
     requires over { IsOver store.old (B.chip bench.old) }
@@ -64,7 +64,7 @@ pub(crate) fn change<B: Eeprom>(
     requires index_idle { index.old.begun ≡ false }
     requires index { Indexes index.old store.old (B.chip bench.old) }
     requires known { (db : Database) → IsHeld store.old Committed (B.chip bench.old) db → IfSome known (λ actor. actor ≡ acting db user) }
-    requires right { (db : Database) → IsHeld store.old Committed (B.chip bench.old) db → IsRightFor db (acting db user) scan.now cursor.now }
+    requires right { (db : Database) → IsHeld store.old Committed (B.chip bench.old) db → IsRightFor db (acting db user) scan.old cursor.now }
     requires changes { IsChange operation.now }
     requires formed { HasForm operation.now }
     requires fits { FitsCard store.old.row_limit operation.now }
@@ -77,6 +77,7 @@ pub(crate) fn change<B: Eeprom>(
     ensures index_idle { OnOk result (index.new.begun ≡ false) }
     ensures index { OnOk result (Indexes index.new store.new (B.chip bench.new)) }
     ensures cells { OnOk result (store.new.chains.cells ≡ store.old.chains.cells) }
+    ensures scan_same { scan.new ≡ scan.old }
     ensures behind { Keeps (drop (image_size store.old.chains.cells)) (B.chip bench.old) (B.chip bench.new) }
     ensures cause { Counts (B.faults bench.old) (B.faults bench.new) result }
 {
@@ -107,7 +108,7 @@ pub(crate) fn change_within<B: Eeprom>(
     known: Option<Actor>,
     cursor: &Option<Cursor>,
     operation: &Operation,
-    scan: &Scan,
+    scan: &mut Scan,
 ) -> Result<StatusWord, EepromFault>
     requires begun { IsTrue store.old.begun }
     requires over { IsOver store.old (B.chip bench.old) }
@@ -116,7 +117,7 @@ pub(crate) fn change_within<B: Eeprom>(
     requires index { Indexes index.old store.old (B.chip bench.old) }
     requires last { (db : Database) → IsHeld store.old Working (B.chip bench.old) db → is_above db.next index.old.committed ≡ true }
     requires known { (db : Database) → IsHeld store.old Working (B.chip bench.old) db → IfSome known (λ actor. actor ≡ acting db user) }
-    requires right { (db : Database) → IsHeld store.old Working (B.chip bench.old) db → IsRightFor db (acting db user) scan.now cursor.now }
+    requires right { (db : Database) → IsHeld store.old Working (B.chip bench.old) db → IsRightFor db (acting db user) scan.old cursor.now }
     requires changes { IsChange operation.now }
     requires formed { HasForm operation.now }
     requires fits { FitsCard store.old.row_limit operation.now }
@@ -130,6 +131,7 @@ pub(crate) fn change_within<B: Eeprom>(
     ensures goes_on { OnOk result (GoesOn store.old store.new (B.chip bench.old) (B.chip bench.new)) }
     ensures index { OnOk result (Indexes index.new store.new (B.chip bench.new)) }
     ensures index_begun { OnOk result (IsTrue index.new.begun) }
+    ensures scan_same { scan.new ≡ scan.old }
     ensures moments { Keeps store_of (B.chip bench.old) (B.chip bench.new) }
     ensures behind { Keeps (drop (image_size store.old.chains.cells)) (B.chip bench.old) (B.chip bench.new) }
     ensures cause { Counts (B.faults bench.old) (B.faults bench.new) result }
@@ -150,14 +152,14 @@ fn make<B: Eeprom>(
     actor: Actor,
     cursor: &Option<Cursor>,
     operation: &Operation,
-    scan: &Scan,
+    scan: &mut Scan,
 ) -> Result<(), Stop>
     requires begun { IsTrue store.old.begun }
     requires over { IsOver store.old (B.chip bench.old) }
     requires index_begun { IsTrue index.old.begun }
     requires index { Indexes index.old store.old (B.chip bench.old) }
     requires last { (db : Database) → IsHeld store.old Working (B.chip bench.old) db → is_above db.next index.old.committed ≡ true }
-    requires right { (db : Database) → IsHeld store.old Working (B.chip bench.old) db → IsRightFor db actor scan.now cursor.now }
+    requires right { (db : Database) → IsHeld store.old Working (B.chip bench.old) db → IsRightFor db actor scan.old cursor.now }
     requires changes { IsChange operation.now }
     requires fits { FitsCard store.old.row_limit operation.now }
     ensures ends { (db : Database) → IsHeld store.old Working (B.chip bench.old) db → IfSome cursor.now (IsCursorOf db) → IsActorOf db actor → HasForm operation.now → FitsCard db.limit operation.now
@@ -171,6 +173,7 @@ fn make<B: Eeprom>(
     ensures index_cells { index.new.cells ≡ index.old.cells }
     ensures index_committed { index.new.committed ≡ index.old.committed }
     ensures index_begun { IsTrue index.new.begun }
+    ensures scan_same { scan.new ≡ scan.old }
     ensures moments { Keeps store_of (B.chip bench.old) (B.chip bench.new) }
     ensures behind { Keeps (drop (image_size store.old.chains.cells)) (B.chip bench.old) (B.chip bench.new) }
     ensures cause { CountsFaults is_stop_fault (B.faults bench.old) (B.faults bench.new) result }
@@ -299,8 +302,8 @@ pub(crate) fn actor_of<B: Eeprom>(
 ) -> Result<Actor, EepromFault>
     requires over { IsOver store.now (B.chip bench.old) }
     ensures actor { (db : Database) → IsHeld store.now side (B.chip bench.old) db → IfOk result (λ actor. actor ≡ acting db user) }
-    ensures octets_read { OnOk result (IfSome (slots_of store.now side (B.chip bench.old))
-        (λ slots. Becomes (RisesBetween 0 (cell_size * cells_marked user_kind slots)) (B.octets_read bench.old) (B.octets_read bench.new))) }
+    ensures octets_read { (db : Database) → IsHeld store.now side (B.chip bench.old) db
+        → IfOk result (λ actor. Becomes (RisesBetween 0 (cell_size * user_cells db.users (actor_stamp actor))) (B.octets_read bench.old) (B.octets_read bench.new)) }
     ensures frame { Reads each_error B.chip B.faults bench.old bench.new result }
 {
     let Some(stamp) = user else {

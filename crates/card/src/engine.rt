@@ -4,6 +4,7 @@ ghost use Rattle.eeprom.specs.Chip.{Chip, Becomes, Keeps};
 ghost use Rattle.eeprom.specs.Fault.{Counts, each_error};
 ghost use Rattle.eeprom.specs.Frame.{Reads};
 ghost use Rattle.eeprom.specs.StoreOf.{cell_size, image_size};
+ghost use Rattle.scql_model.specs.Creating.{actor_stamp};
 ghost use Rattle.scql_model.specs.Replies as model;
 ghost use Rattle.scql_model.specs.Machine as machine;
 ghost use Rattle.scql_model.specs.Step as stepping;
@@ -22,10 +23,9 @@ ghost use Rattle.scql_model.specs.Accepting as accepting;
 ghost use Rattle.scql_model.specs.Sessions.{without_pending};
 ghost use Rattle.scql_model.specs.Transactions.{for_others};
 ghost use Rattle.card.specs.Waiting.{keeps_waiting, side_of};
-ghost use Rattle.catalog_codec.specs.Catalog.{user_kind};
 ghost use Rattle.cursor.specs.Costs.{RisesBetween};
 ghost use Rattle.db_read.specs.Scan.{IsRightFor};
-ghost use Rattle.record_table.specs.Listed.{cells_marked, slots_of};
+ghost use Rattle.db_read.specs.Searched.{user_cells};
 ghost use Rattle.record_table.specs.Making.{IsHeld};
 ghost use Rattle.scql_model.specs.Operations.{kind_of};
 ghost use Rattle.scql_model.specs.WellFormed.{HasForm, FitsCard, IsWellFormed};
@@ -318,8 +318,8 @@ impl Engine {
         ensures right { (db : Database) → IsHeld self.old.store (side_of self.old.transaction channel) (B.chip bench.old) db
             → IfOk result (λ actor. IsRightFor db actor self.new.found.scan (cursor_on self.old.sessions channel)) }
         ensures kept { self.new ≡ record self.old { found = self.new.found } }
-        ensures octets_read { OnOk result (IfSome (slots_of self.old.store (side_of self.old.transaction channel) (B.chip bench.old))
-            (λ slots. Becomes (RisesBetween 0 (cell_size * cells_marked user_kind slots)) (B.octets_read bench.old) (B.octets_read bench.new))) }
+        ensures octets_read { (db : Database) → IsHeld self.old.store (side_of self.old.transaction channel) (B.chip bench.old) db
+            → IfOk result (λ actor. Becomes (RisesBetween 0 (cell_size * user_cells db.users (actor_stamp actor))) (B.octets_read bench.old) (B.octets_read bench.new)) }
         ensures frame { Reads each_error B.chip B.faults bench.old bench.new result }
     {
         if let Some(actor) = self.found.actor_on(channel) {
@@ -403,7 +403,7 @@ impl Engine {
             ..
         } = self;
         let sessions = &**sessions;
-        let scan = &found.scan;
+        let scan = &mut found.scan;
         let Some(session) = &sessions[usize::from(channel)] else {
             unreachable!();
         };

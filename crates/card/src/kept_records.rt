@@ -9,7 +9,6 @@ ghost use Rattle.card.specs.Opening.{record_in};
 ghost use Rattle.card.specs.Pool.{IsPlaceIn, record_at};
 ghost use Rattle.card.specs.declared.kept_record.KeptRecord as kept;
 
-use crate::kept_record::KeptRecord;
 use crate::spelled_record::SpelledRecord;
 use eeprom::Heap;
 use std::alloc::AllocError;
@@ -66,7 +65,7 @@ impl KeptRecords {
     }
 
     /// Adds a record, which is that of the octets of a slot.
-    pub(crate) fn push(&mut self, entry: &KeptRecord, octets: &[u8], slot: u16)
+    pub(crate) fn push(&mut self, entry: &SpelledRecord<'_>, octets: &[u8], slot: u16)
         requires is { record_in slot octets.now ≡ Some entry.now }
         requires short { length octets.now ≤ LONGEST }
         requires room { length self.old.items < self.old.cells }

@@ -146,7 +146,9 @@ impl Room {
 }
 
 impl Gathered {
-    // Adds the record of a slot, where it has one, on a card with this row limit.
+    // Adds the record of a slot, where it has one, on a card with this row limit. Neither this nor the test is inlined: the record that is read here has its
+    // place only for as long as that takes, and not while all are tested.
+    #[inline(never)]
     fn add_slot(&mut self, slot: u16, row_limit: u16, octets: &[u8]) -> Result<(), OpenRefusal>
         requires short { length octets.now ≤ LONGEST }
         requires room { length self.old.records.items < self.old.records.cells }
@@ -189,6 +191,7 @@ impl Gathered {
     }
 
     // The records in rising order of their stamps, where they are those of a valid database.
+    #[inline(never)]
     fn tested(self, numbers: &mut Vec<u64, Heap>) -> Option<KeptRecords>
         requires room { length self.records.items ≤ vec_capacity numbers.old }
         ensures records { IfSome result (λ records. records.items ≡ in_order stamp_of self.records.items) }

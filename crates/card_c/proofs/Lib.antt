@@ -2,6 +2,7 @@ pub mod BareValues
 pub mod Begun
 pub mod Cuts
 pub mod Handles
+pub mod Lacking
 pub mod LooseValues
 pub mod Replies
 pub mod Said

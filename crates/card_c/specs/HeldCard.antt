@@ -7,9 +7,10 @@ use Rattle.line_bench.specs.contracts.line_bench.LineBench as bench
 use Rattle.terminal.specs.contracts.terminal.Terminal as terminal
 use Rattle.card.specs.Card.{Kept}
 use Rattle.card.specs.LiveCard.{IsReadyAt}
-use Rattle.line_bench.specs.LineBench.{chip_of, image_of, text_of, writes_of}
+use Rattle.line_bench.specs.LineBench.{chip_of, faults_of, image_of, room_for_text, text_faults_of, text_of, writes_of}
 use Rattle.line_bench.specs.declared.line_bench.LineBench.{LineBench}
 use Rattle.log_bench.specs.Writes.{Write, MayBeCutTo, applied}
+use Rattle.eeprom.specs.Fault.{Rose}
 use Rattle.eeprom.specs.StoreOf.{two_octets}
 use Rattle.planner.specs.StatementLines.{TerminalState}
 use Rattle.scql_model.specs.Database.{Database}
@@ -67,6 +68,16 @@ pub record OpensByCuts (db : Database) (image : List ℕ) (bench : LineBench) : 
   pub all : applied (writes_of bench) image ≡ image_of bench
   pub cuts : (left : List ℕ) → MayBeCutTo (writes_of bench) image left → Opens left db
 
+-- a write found no memory for the log, and each piece of text found some
+pub record LacksLog (old new : LineBench) : Type 0 where
+  pub rose : Rose (faults_of old) (faults_of new)
+  pub texts : text_faults_of new ≡ text_faults_of old
+
+-- a piece of text found no memory, and each write found some for the log
+pub record LacksText (old new : LineBench) : Type 0 where
+  pub rose : Rose (text_faults_of old) (text_faults_of new)
+  pub writes : faults_of new ≡ faults_of old
+
 -- there is a write, and it has more octets than that
 abbrev pub IsLongerThan : ℕ → Option Write → Type 0
 IsLongerThan room write = MatchOption write ⊥ (λ w. room < length w.octets)
@@ -99,6 +110,10 @@ HasTextSize handle size = (held : HeldCard) × (handle ≡ Some held) × (size �
 abbrev pub HasLongerText : Option HeldCard → ℕ → Type 0
 HasLongerText handle room = (held : HeldCard) × (handle ≡ Some held) × (room < length (text_of held.bench))
 
+-- what a handle holds has room for so many octets of text without more memory
+abbrev pub HasTextRoom : Option HeldCard → ℕ → Type 0
+HasTextRoom handle room = (held : HeldCard) × (handle ≡ Some held) × (room ≡ room_for_text held.bench)
+
 -- what a handle holds has no terminal
 abbrev pub HasNoTerminal : Option HeldCard → Type 0
 HasNoTerminal handle = (held : HeldCard) × (handle ≡ Some held) × (held.terminal ≡ None)
@@ -106,6 +121,13 @@ HasNoTerminal handle = (held : HeldCard) × (handle ≡ Some held) × (held.term
 -- what a handle holds answers no more
 abbrev pub IsMute : Option HeldCard → Type 0
 IsMute handle = (held : HeldCard) × (handle ≡ Some held) × (held.card.live ≡ false)
+
+-- of what it held and what it holds: what found no memory meanwhile
+abbrev pub WantsLog : Option HeldCard → Option HeldCard → Type 0
+WantsLog before after = (old new : HeldCard) × (before ≡ Some old) × (after ≡ Some new) × LacksLog old.bench new.bench
+
+abbrev pub WantsText : Option HeldCard → Option HeldCard → Type 0
+WantsText before after = (old new : HeldCard) × (before ≡ Some old) × (after ≡ Some new) × LacksText old.bench new.bench
 
 -- what it held and what it holds
 abbrev pub HoldsCuts : List Database → Option HeldCard → Option HeldCard → Type 0

@@ -8,7 +8,8 @@ use Rattle.card.specs.contracts.card.Card as card
 use Rattle.card.specs.Card.{Kept}
 use Rattle.card.specs.LiveCard.{IsReadyAt}
 use Rattle.line_bench.specs.contracts.line_bench.LineBench as bench
-use Rattle.line_bench.specs.LineBench.{LeavesLog, chip_of, given_of, image_of, text_of, writes_of}
+use Rattle.line_bench.specs.LineBench as line_bench
+use Rattle.line_bench.specs.LineBench.{KeepsFaults, LeavesLog, chip_of, given_of, image_of, text_of, writes_of}
 use Rattle.line_bench.specs.declared.line_bench.LineBench.{LineBench}
 
 pub record OnLog : Type 0 where
@@ -27,7 +28,7 @@ abbrev pub is_live : OnLog → Bool
 is_live d = d.card.live
 
 abbrev pub faults_of : OnLog → ℕ
-faults_of d = d.bench.faults
+faults_of d = line_bench.faults_of d.bench
 
 abbrev pub desk_chip : OnLog → Chip
 desk_chip d = chip_of d.bench
@@ -39,14 +40,15 @@ abbrev pub given_by : OnLog → Option (List ℕ)
 given_by d = given_of d.bench
 
 abbrev pub text_faults_of : OnLog → ℕ
-text_faults_of d = d.bench.text_faults
+text_faults_of d = line_bench.text_faults_of d.bench
 
 -- giving leaves the card
 abbrev pub LeavesCard : OnLog → OnLog → Type 0
 LeavesCard old new = (new.card ≡ old.card) × LeavesLog old.bench new.bench
 
--- log and text are begun anew, and card and image stay
+-- log and text are begun anew, and card, image and counts of faults stay
 pub record IsBegun (old new : OnLog) : Type 0 where
   pub card : new.card ≡ old.card
   pub image : image_of new.bench ≡ image_of old.bench
   pub none : (writes_of new.bench ≡ []) × (text_of new.bench ≡ [])
+  pub faults : KeepsFaults old.bench new.bench

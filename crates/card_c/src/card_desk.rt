@@ -33,6 +33,8 @@ impl Model for CardDesk {
 }
 
 impl CardDesk {
+    ghost use Rattle.std.specs.Prelude.{vec_capacity};
+    ghost use Rattle.line_bench.specs.LineBench.{room_for_text};
     ghost use Rattle.card_c.specs.OnLog.{IsBegun};
 
     pub fn new(card: Card, bench: LineBench) -> CardDesk
@@ -57,7 +59,8 @@ impl CardDesk {
 
     /// The same, with this room for the text.
     pub fn begin_in(&mut self, room: Vec<u8, Heap>)
-        ensures { IsBegun self.old self.new }
+        ensures begun { IsBegun self.old self.new }
+        ensures room { room_for_text self.new.bench ≡ vec_capacity room }
     {
         self.bench.begin_in(room);
     }

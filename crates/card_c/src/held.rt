@@ -36,7 +36,7 @@ impl Model for Held {
 impl Held {
     ghost use Rattle.std.specs.Prelude.{◌≡◌, ◌≢◌, ◌⊎◌, ◌↔◌, ◌<◌, ◌≤◌, ◌∷◌, ℕ, List, length, false, None, slice_get};
     ghost use Rattle.card.specs.Card.{IsReady};
-    ghost use Rattle.line_bench.specs.LineBench.{chip_of, image_of, text_of, writes_of};
+    ghost use Rattle.line_bench.specs.LineBench.{chip_of, image_of, room_for_text, text_of, writes_of};
     ghost use Rattle.planner.specs.StatementLines.{TerminalState, statement_lines};
     ghost use Rattle.scql_model.specs.Lines.{line_effect};
     ghost use Rattle.scql_model.specs.Lives.{after_all};
@@ -45,7 +45,7 @@ impl Held {
     ghost use Rattle.scql_model.specs.Step.{step};
     ghost use Rattle.log_bench.specs.Writes.{applied};
     ghost use Rattle.terminal.specs.Holding.{terminal_at};
-    ghost use Rattle.card_c.specs.HeldCard.{AnswersInto, GivesText, GivesWrite, IsLongerThan, IsCardAt, IsSeated, IsSeatedWith, KeepsCuts};
+    ghost use Rattle.card_c.specs.HeldCard.{AnswersInto, GivesText, GivesWrite, IsLongerThan, IsCardAt, IsSeated, IsSeatedWith, KeepsCuts, LacksLog, LacksText};
     ghost use Rattle.card_c.specs.declared.status.TheConstants.{DONE, WRONG_HANDLE, TOO_SHORT, NO_MEMORY, MUTE, NO_WRITE, NO_TERMINAL};
 
     /// A card that was opened over this EEPROM. It has no terminal.
@@ -69,6 +69,7 @@ impl Held {
         ensures too_short { (result ≡ TOO_SHORT) ↔ (length reply.old < 258) }
         ensures mute { result ≡ MUTE → self.old.card.live ≡ false }
         ensures wanting { result ≡ NO_MEMORY → self.new.card.live ≡ false }
+        ensures cause { result ≡ NO_MEMORY → LacksLog self.old.bench self.new.bench }
         ensures refused { (result ≡ TOO_SHORT) ⊎ (result ≡ MUTE) → (self.new ≡ self.old) × (reply.new ≡ reply.old) × (count.new ≡ count.old) }
         ensures unanswered { result ≡ NO_MEMORY → (reply.new ≡ reply.old) × (count.new ≡ count.old) }
         ensures ends { (result ≡ DONE) ⊎ ((result ≡ TOO_SHORT) ⊎ ((result ≡ MUTE) ⊎ (result ≡ NO_MEMORY))) }
@@ -113,6 +114,7 @@ impl Held {
     /// Resets the card, and gives it a terminal, with room for so many octets of text.
     pub fn sit(&mut self, alloc: Heap, room: usize) -> u32
         ensures done { (m : Machine) → IsCardAt self.old m → result ≡ DONE → IsSeated self.new (terminal_at (reset m) 0) }
+        ensures room { result ≡ DONE → room_for_text self.new.bench ≡ room }
         ensures image { image_of self.new.bench ≡ image_of self.old.bench }
         ensures mute { (result ≡ MUTE) ↔ (self.old.card.live ≡ false) }
         ensures refused { (result ≡ DONE) ⊎ (self.new ≡ self.old) }
@@ -143,6 +145,7 @@ impl Held {
             → Opens (applied (writes_of self.new.bench) (image_of self.old.bench)) (line_effect statement_lines state line.now).next.machine.committed }
         ensures wanting { (state : TerminalState) → IsSeated self.old state → result ≡ NO_MEMORY
             → (self.new.card.live ≡ false) ⊎ IsSeatedWith self.new (after_all state.machine.committed (line_effect statement_lines state line.now).commits) }
+        ensures cause { result ≡ NO_MEMORY → ((self.new.card.live ≡ false) × LacksLog self.old.bench self.new.bench) ⊎ LacksText self.old.bench self.new.bench }
         ensures mute { result ≡ MUTE → self.old.card.live ≡ false }
         ensures none { (result ≡ NO_TERMINAL) ↔ (self.old.terminal ≡ None) }
         ensures refused { (result ≡ NO_TERMINAL) ⊎ (result ≡ MUTE) → self.new ≡ self.old }

@@ -21,7 +21,7 @@ ghost use Rattle.scql_model.specs.Machine.{Machine, start, reset};
 ghost use Rattle.scql_model.specs.Opens.{Opens};
 ghost use Rattle.scql_model.specs.Step.{step};
 ghost use Rattle.terminal.specs.Holding.{terminal_at};
-ghost use Rattle.card_c.specs.HeldCard.{AnswersInto, GivesWrite, HasImage, HasLongerWrite, HasLongerText, HasNoTerminal, HasNoWrite, HasSize, HasTextSize, HasWritten, HoldsCuts, HoldsDatabase, HoldsMachine, HoldsOpening, HoldsState, HoldsText, GivesHeldText, HoldsWrite, IsMute, LogsTo};
+ghost use Rattle.card_c.specs.HeldCard.{AnswersInto, GivesWrite, HasImage, HasLongerWrite, HasLongerText, HasNoTerminal, HasNoWrite, HasSize, HasTextRoom, HasTextSize, HasWritten, HoldsCuts, HoldsDatabase, HoldsMachine, HoldsOpening, HoldsState, HoldsText, GivesHeldText, HoldsWrite, IsMute, LogsTo, WantsLog, WantsText};
 ghost use Rattle.card_c.specs.declared.status.TheConstants.{DONE, WRONG_HANDLE, TOO_SHORT, NO_MEMORY, NOT_A_CARD, WRONG_CELLS, MUTE, NO_WRITE, NO_TERMINAL};
 
 use crate::handle::Handle;
@@ -97,6 +97,7 @@ pub extern "C" fn huwapire_answer(
     ensures too_short { result ≡ TOO_SHORT → length reply.old < 258 }
     ensures mute { result ≡ MUTE → IsMute card.old.bare.held }
     ensures wanting { result ≡ NO_MEMORY → IsMute card.new.bare.held }
+    ensures cause { result ≡ NO_MEMORY → WantsLog card.old.bare.held card.new.bare.held }
     ensures refused { (result ≡ DONE) ⊎ ((result ≡ NO_MEMORY) ⊎ (card.new.bare.held ≡ card.old.bare.held)) }
     ensures unanswered { (result ≡ DONE) ⊎ ((reply.new ≡ reply.old) × (count.new ≡ count.old)) }
     ensures ends { (result ≡ DONE) ⊎ ((result ≡ WRONG_HANDLE) ⊎ ((result ≡ TOO_SHORT) ⊎ ((result ≡ MUTE) ⊎ (result ≡ NO_MEMORY)))) }
@@ -135,6 +136,7 @@ pub extern "C" fn huwapire_reset(alloc: Heap, card: &mut Handle) -> u32
 #[unsafe(no_mangle)]
 pub extern "C" fn huwapire_terminal(alloc: Heap, card: &mut Handle, room: usize) -> u32
     ensures done { (m : Machine) → HoldsMachine card.old.bare.held m → result ≡ DONE → HoldsState card.new.bare.held (terminal_at (reset m) 0) }
+    ensures room { result ≡ DONE → HasTextRoom card.new.bare.held room }
     ensures handle { (result ≡ WRONG_HANDLE) ↔ (card.old.bare.held ≡ None) }
     ensures mute { result ≡ MUTE → IsMute card.old.bare.held }
     ensures refused { (result ≡ DONE) ⊎ (card.new.bare.held ≡ card.old.bare.held) }
@@ -166,6 +168,7 @@ pub extern "C" fn huwapire_line(alloc: Heap, card: &mut Handle, line: &[u8]) -> 
     // Where memory is wanting the card is mute, or all that the line commits is committed, and only its text isn't whole.
     ensures wanting { (state : TerminalState) → HoldsState card.old.bare.held state → result ≡ NO_MEMORY
         → IsMute card.new.bare.held ⊎ HoldsDatabase card.new.bare.held (after_all state.machine.committed (line_effect statement_lines state line.now).commits) }
+    ensures cause { result ≡ NO_MEMORY → (IsMute card.new.bare.held × WantsLog card.old.bare.held card.new.bare.held) ⊎ WantsText card.old.bare.held card.new.bare.held }
     ensures refused { (result ≡ DONE) ⊎ ((result ≡ NO_MEMORY) ⊎ (card.new.bare.held ≡ card.old.bare.held)) }
     ensures ends { (result ≡ DONE) ⊎ ((result ≡ WRONG_HANDLE) ⊎ ((result ≡ NO_TERMINAL) ⊎ ((result ≡ MUTE) ⊎ (result ≡ NO_MEMORY)))) }
 {

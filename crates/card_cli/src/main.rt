@@ -40,7 +40,9 @@ fn run_over(rt: &HostRuntime, path: &str, words: &[String]) -> Result<Status, En
     Ok(run_card(rt.alloc(), words, &mut source, &mut bench, &mut person))
 }
 
-// Tells a person of a file that is there already, before a new card is made in it.
+// Tells a person of a file that is there already, before a new card is made in it. It isn't inlined, so that what is put together for that has its place
+// only until it is said.
+#[inline(never)]
 fn say_what_goes(rt: &HostRuntime, path: &str) {
     if rt.stderr().is_terminal() && fs::metadata(rt, path).is_ok_and(|found| found.len() != 0) {
         // Where that can't be said, the card is made all the same.

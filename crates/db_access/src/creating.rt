@@ -5,6 +5,8 @@ ghost use Rattle.eeprom.specs.Fault.{CountsFaults, each_error};
 ghost use Rattle.eeprom.specs.Frame.{Reads};
 ghost use Rattle.eeprom.specs.StoreOf.{store_of, image_size, cell_size};
 ghost use Rattle.record_store.specs.Held.{IsOver};
+ghost use Rattle.record_store.specs.Tags as tags;
+ghost use Rattle.record_store.specs.declared.tags.Tag.TheVariants as by;
 ghost use Rattle.record_store.specs.declared.side.Side.TheVariants.{Committed, Working};
 ghost use Rattle.scql_base.specs.declared.operation.Operation.TheVariants as operation;
 ghost use Rattle.scql_base.specs.declared.words.StatusWord.{StatusWord};
@@ -13,8 +15,9 @@ ghost use Rattle.scql_model.specs.Creating.{IsActorOf, actor_stamp, may_create, 
 ghost use Rattle.scql_model.specs.Database.{Database};
 ghost use Rattle.scql_model.specs.WellFormed.{HasForm};
 ghost use Rattle.catalog_codec.specs.Catalog.{user_kind};
-ghost use Rattle.record_table.specs.Listed.{cells_marked, slots_of};
+ghost use Rattle.record_table.specs.Listed.{slots_of};
 ghost use Rattle.record_table.specs.Making.{IsHeld, Ends, GoesOn, KeepsRows, is_stop_fault};
+ghost use Rattle.record_table.specs.Tagged.{cells_tagged};
 
 use eeprom::{Eeprom, EepromFault};
 use record_store::{Side, Store};
@@ -94,7 +97,7 @@ fn is_taken<B: Eeprom>(store: &Store, bench: &mut B, name: &Name) -> Result<bool
     requires over { IsOver store.now (B.chip bench.old) }
     ensures taken { (db : Database) → IsHeld store.now Working (B.chip bench.old) db → IfOk result (λ taken. taken ≡ model.is_taken db name.now) }
     ensures octets_read { IfOk result (λ _. IfSome (slots_of store.now Working (B.chip bench.old))
-        (λ slots. Becomes (RisesAtMost (cell_size * cells_marked user_kind slots)) (B.octets_read bench.old) (B.octets_read bench.new))) }
+        (λ slots. Becomes (RisesAtMost (cell_size * cells_tagged user_kind (Some (by.Name (tags.name_tag name.now))) slots)) (B.octets_read bench.old) (B.octets_read bench.new))) }
     ensures frame { Reads each_error B.chip B.faults bench.old bench.new result }
 {
     if name.octets() == Name::PUBLIC {

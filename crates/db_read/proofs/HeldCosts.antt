@@ -1,30 +1,23 @@
 -- What reading the slots of a side costs, in cells of the database that it holds: for the rows of a table, and for the other records.
-use Rattle.std.proofs.Common.{◌≡◌, ℕ, ◌+◌, ◌*◌, ◌≤◌, ◌==◌, Bool, if◌then◌else◌, List, [], ◌∷◌, Option, Some, None, refl, sym, ap, ◌∙◌, inl, inr, arith}
-use Rattle.std.specs.Prelude.{slice_index}
+use Rattle.std.proofs.Common.{◌≡◌, ℕ, ◌+◌, ◌*◌, ◌==◌, Bool, if◌then◌else◌, List, [], ◌∷◌, Option, Some, None, refl, sym, ap, ◌∙◌, inl, inr, arith}
 use Rattle.std.specs.List.{cons_option, filter, filter_map, sum_by}
 use Rattle.std.proofs.lemmas.Bool.{cases_Bool}
 use Rattle.std.proofs.lemmas.List.Sums.{sum_by-cons}
 use Rattle.std.proofs.lemmas.Option.{none-some}
 use Rattle.eeprom.specs.Slots.{in_slot}
-use Rattle.eeprom.specs.StoreOf.{Slots, cell_size, cells_for, cells_of}
+use Rattle.eeprom.specs.StoreOf.{Slots, cell_size, cells_for}
 use Rattle.eeprom.proofs.InOrder.{sum_by-in_order}
-use Rattle.scql_base.specs.declared.records.Grant.{Grant}
-use Rattle.scql_base.specs.declared.records.Object.{Object}
 use Rattle.scql_base.specs.declared.records.RowRecord.{RowRecord}
-use Rattle.scql_base.specs.declared.records.User.{User}
-use Rattle.scql_model.specs.Database.{Database, counter_cells, rows_of, weight}
-use Rattle.scql_model.specs.Edits.{cells_of_record, of_user, of_object, of_grant, of_row}
+use Rattle.scql_model.specs.Database.{Database, rows_of}
+use Rattle.scql_model.specs.Edits.{cells_of_record, of_row}
 use Rattle.scql_model.specs.Opens.{Holds}
-use Rattle.scql_model.specs.ReadBound.{catalogue_cells, octets_of_searches}
-use Rattle.scql_model.proofs.RecordsOf.{weight-of_kinds}
-use Rattle.scql_model.proofs.Room.{cells-filled}
 use Rattle.scql_model.proofs.SpellingLengths.{length-row_in}
-use Rattle.catalog_codec.specs.Catalog.{grant_kind, object_kind, row_kind}
-use Rattle.catalog_codec.specs.CatalogLaws.{IsKind-row, HaveOtherMarks-row-grant, HaveOtherMarks-row-object}
-use Rattle.catalog_codec.specs.Kinds.{Kind, HaveOtherMarks, read_as}
-use Rattle.record_table.specs.Listed.{cells_marked, kind_cells}
+use Rattle.catalog_codec.specs.Catalog.{row_kind}
+use Rattle.catalog_codec.specs.CatalogLaws.{IsKind-row}
+use Rattle.catalog_codec.specs.Kinds.{read_as}
+use Rattle.record_table.specs.Listed.{kind_cells}
 use Rattle.cursor.specs.Costs.{Cost, cost_where}
-use Rattle.db_read.specs.Costs.{catalogue_cost, cost_in, row_costs}
+use Rattle.db_read.specs.Costs.{cost_in, row_costs}
 
 abbrev cells_of_row : RowRecord → ℕ
 cells_of_row r = cells_of_record (of_row r)
@@ -98,63 +91,3 @@ costs-held table passes slots db holds =
     let cells = told_cells table passes in
     let rows = filter_map (in_slot (read_as row_kind)) slots in
     costs-slots table passes slots ∙ ap (λ n. 32 * n) (sym (sum_by-in_order row_kind.key cells rows) ∙ (ap (sum_by cells) holds.rows ∙ filtered-cells table passes db.rows))
-
--- a slot isn't marked both so and as a row
-marked-slot : {X : Type 0} (kind : Kind X) (entry : Option (List ℕ)) → HaveOtherMarks row_kind kind → kind_cells kind entry + kind_cells row_kind entry ≤ cells_of entry
-marked-slot kind None apart = omega arith
-marked-slot kind (Some octets) apart =
-    let mark : ℕ = slice_index octets 0 in
-    elim (cases_Bool (row_kind.marks mark)) [
-      | inl t ↦ rw (t, apart mark t) (omega arith)
-      | inr f ↦ elim (cases_Bool (kind.marks mark)) [
-        | inl u ↦ rw (f, u) (omega arith)
-        | inr e ↦ rw (f, e) (omega arith)
-      ]
-    ]
-
-marked-slots : {X : Type 0} (kind : Kind X) (slots : Slots) → HaveOtherMarks row_kind kind → cells_marked kind slots + cells_marked row_kind slots ≤ sum_by cells_of slots
-marked-slots kind [] apart = omega arith
-marked-slots kind (entry ∷ slots) apart =
-    let one = marked-slot kind entry apart in
-    let rest = marked-slots kind slots apart in
-    let a = sum_by-cons (kind_cells kind) entry slots in
-    let b = sum_by-cons (kind_cells row_kind) entry slots in
-    let c = sum_by-cons cells_of entry slots in
-    omega (arith, one, rest, a, b, c)
-
-rows-marked_slot : (entry : Option (List ℕ)) (rows : List RowRecord) (most : ℕ) (o : Option RowRecord) → in_slot (read_as row_kind) entry ≡ o → sum_by cells_of_row rows ≤ most
-    → sum_by cells_of_row (cons_option (in_slot (read_as row_kind) entry) rows) ≤ kind_cells row_kind entry + most
-rows-marked_slot entry rows most None at rest = rw at (omega (arith, rest))
-rows-marked_slot entry rows most (Some r) at rest = (let cells = row-slot entry r at in let sum = sum_by-cons cells_of_row r rows in rw at (omega (arith, cells, sum, rest)))
-
-rows-marked : (slots : Slots) → sum_by cells_of_row (filter_map (in_slot (read_as row_kind)) slots) ≤ cells_marked row_kind slots
-rows-marked [] = omega arith
-rows-marked (entry ∷ slots) =
-    let next = sum_by-cons (kind_cells row_kind) entry slots in
-    let here = rows-marked_slot entry (filter_map (in_slot (read_as row_kind)) slots) (cells_marked row_kind slots) (in_slot (read_as row_kind) entry) refl (rows-marked slots) in
-    omega (arith, next, here)
-
--- the cells of a kind that has other marks than rows are among those of the records but the rows
-pub catalogue-held : {X : Type 0} (kind : Kind X) (slots : Slots) (db : Database) → HaveOtherMarks row_kind kind → Holds slots db → cells_marked kind slots ≤ catalogue_cells db
-catalogue-held kind slots db apart holds =
-    let both = marked-slots kind slots apart in
-    let most = rows-marked slots in
-    let all = cells-filled slots db holds in
-    let kinds : weight db ≡ counter_cells db + (sum_by (λ (u : User). cells_of_record (of_user u)) db.users
-    + (sum_by (λ (o : Object). cells_of_record (of_object o)) db.objects + (sum_by (λ (g : Grant). cells_of_record (of_grant g)) db.grants + sum_by cells_of_row db.rows))) = weight-of_kinds db in
-    let rows : sum_by cells_of_row (filter_map (in_slot (read_as row_kind)) slots) ≡ sum_by cells_of_row db.rows =
-    sym (sum_by-in_order row_kind.key cells_of_row (filter_map (in_slot (read_as row_kind)) slots)) ∙ ap (sum_by cells_of_row) holds.rows in
-    omega (arith, both, most, all, kinds, rows)
-
--- what the searches for an object read
-pub catalogue-searched : (slots : Slots) (db : Database) → Holds slots db → catalogue_cost slots ≤ octets_of_searches 7 db
-catalogue-searched slots db holds =
-    let objects = catalogue-held object_kind slots db HaveOtherMarks-row-object holds in
-    let grants = catalogue-held grant_kind slots db HaveOtherMarks-row-grant holds in
-    omega (arith, objects, grants)
-
-pub object-searched : (slots : Slots) (db : Database) → Holds slots db → cell_size * cells_marked object_kind slots + cell_size * cells_marked grant_kind slots ≤ octets_of_searches 7 db
-object-searched slots db holds =
-    let objects = catalogue-held object_kind slots db HaveOtherMarks-row-object holds in
-    let grants = catalogue-held grant_kind slots db HaveOtherMarks-row-grant holds in
-    omega (arith, objects, grants)

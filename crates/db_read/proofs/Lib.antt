@@ -9,6 +9,7 @@ pub mod HeldCosts
 pub mod MotionLaws
 pub mod ReadingOn
 pub mod RowReads
+pub mod Searching
 pub mod ShownRows
 pub mod Sighted
 pub mod Skipping

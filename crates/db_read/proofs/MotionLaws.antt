@@ -3,6 +3,7 @@ use Rattle.std.proofs.Common.{◌≡◌, ℕ, ◌+◌, ◌*◌, ◌≤◌, ◌==
 use Rattle.std.specs.Prelude.{IfOk, IfSome}
 use Rattle.std.proofs.lemmas.Bool.{cases_Bool, false≢true, not-true, or_parts}
 use Rattle.eeprom.specs.Chip.{Becomes, Chip, RisesAtMost}
+use Rattle.eeprom.specs.StoreOf.{cell_size}
 use Rattle.eeprom.specs.declared.fault.EepromFault.{EepromFault}
 use Rattle.record_store.specs.Held.{Held}
 use Rattle.record_store.specs.declared.side.Side.{Side}
@@ -16,9 +17,7 @@ use Rattle.scql_model.specs.Database.{Database}
 use Rattle.scql_model.specs.Matching.{Values}
 use Rattle.scql_model.specs.Moves.{first_row, moved, row_behind, rows_under}
 use Rattle.scql_model.specs.Objects.{StampedRow}
-use Rattle.scql_model.specs.ReadBound.{IsOnTableOrView, RisesAtLeast, cells_moved, is_passed, octets_for_operation, place_reached, row_cells}
-use Rattle.privilege_table.proofs.Seen.{told-held}
-use Rattle.record_table.specs.Listed.{slots_of}
+use Rattle.scql_model.specs.ReadBound.{IsOnTableOrView, RisesAtLeast, cells_moved, is_passed, place_reached, row_cells}
 use Rattle.record_table.specs.Making.{IsHeld}
 use Rattle.record_table.specs.declared.stop.Stop.{Stop}
 use Rattle.record_table.specs.declared.stop.Stop.TheVariants.{Refused, Fault}
@@ -26,12 +25,11 @@ use Rattle.cursor.specs.Costs.{Cost, RisesBetween, cost_between, cost_where}
 use Rattle.cursor.specs.Moved.{AreStamped, fetched, refuses}
 use Rattle.db_read.specs.Advanced.{Advances}
 use Rattle.db_read.specs.Answered.{Chooses, Stops, WhereStopped, given, stop_answer}
-use Rattle.db_read.specs.Costs.{catalogue_cost}
+use Rattle.db_read.specs.Searched.{cells_chosen, cells_searched, octets_for_operation}
 use Rattle.db_read.specs.Motion.{Goes, Stays, answer_of, asks_opened, command_of, cost_by, is_on_way, least_by}
 use Rattle.db_read.specs.declared.motion.Motion.{Motion}
 use Rattle.db_read.specs.declared.motion.Motion.TheVariants.{Open, Next, Fetch, FetchNext}
 use Rattle.db_read.proofs.Adding.{at-place, between-passed, first-behind}
-use Rattle.db_read.proofs.HeldCosts.{catalogue-searched}
 use Rattle.db_read.proofs.Went.{went-place, went-word}
 
 -- a word with a row is given as it was fetched
@@ -130,32 +128,38 @@ cells-by Next db actor c rows under = rw under refl
 cells-by (Fetch le) db actor c rows under = rw under refl
 cells-by (FetchNext le) db actor c rows under = rw under refl
 
-module _ (store : Held) (side : Side) (chip : Chip) (db : Database) (held : IsHeld store side chip db) (actor : Actor) (c : Cursor) (motion : Motion) (to : Place) (word : StatusWord) (values : Values) (z a b : Option ℕ) (kind : IsOnTableOrView db c)
-    (chose : IfSome (slots_of store side chip) (λ slots. Becomes (RisesBetween 0 (catalogue_cost slots)) z a)) (advances : Advances db actor c motion c.place to word values a b) where
+-- and its searches those of the command
+searched-by : (motion : Motion) (db : Database) (actor : Actor) (c : Cursor) → cells_searched db actor (Some c) (command_of motion) ≡ cells_chosen db actor c.object
+searched-by Open db actor c = refl
+searched-by Next db actor c = refl
+searched-by (Fetch le) db actor c = refl
+searched-by (FetchNext le) db actor c = refl
+
+module _ (db : Database) (actor : Actor) (c : Cursor) (motion : Motion) (to : Place) (word : StatusWord) (values : Values) (z a b : Option ℕ) (kind : IsOnTableOrView db c)
+    (chose : Becomes (RisesBetween 0 (cell_size * cells_chosen db actor c.object)) z a) (advances : Advances db actor c motion c.place to word values a b) where
   -- what was read to choose, and the motion
   pub advanced-most : Becomes (RisesAtMost (octets_for_operation db actor (Some c) (command_of motion))) z b
   advanced-most = λ after told.
       let h = advances.reads kind after told in
-      let s = told-held store side chip db (λ slots. Becomes (RisesBetween 0 (catalogue_cost slots)) z a) held chose h.0 h.1 in
+      let s = chose h.0 h.1 in
       let cells = cells-by motion db actor c advances.rows advances.under in
-      let searches = catalogue-searched held.slots db held.holds in
-      (s.0, s.1, omega (arith, h.2.1, s.2.1, searches, cells))
+      let searched = searched-by motion db actor c in
+      (s.0, s.1, omega (arith, h.2.1, s.2.1, searched, cells))
 
   pub advanced-least : Becomes (RisesAtLeast (least_by motion word values)) z b
   advanced-least = λ after told.
       let h = advances.reads kind after told in
-      let s = told-held store side chip db (λ slots. Becomes (RisesBetween 0 (catalogue_cost slots)) z a) held chose h.0 h.1 in
+      let s = chose h.0 h.1 in
       (s.0, s.1, omega (arith, h.2.0, s.2.0))
 
-module _ (store : Held) (side : Side) (chip : Chip) (db : Database) (held : IsHeld store side chip db) where
-  -- what was read to choose, where that was refused
-  pub chosen-most : (actor : Actor) (c : Cursor) (motion : Motion) (a b : Option ℕ) → IfSome (slots_of store side chip) (λ slots. Becomes (RisesBetween 0 (catalogue_cost slots)) a b)
-      → Becomes (RisesAtMost (octets_for_operation db actor (Some c) (command_of motion))) a b
-  chosen-most actor c motion a b chose = λ after told.
-      let s = told-held store side chip db (λ slots. Becomes (RisesBetween 0 (catalogue_cost slots)) a b) held chose after told in
-      let searches = catalogue-searched held.slots db held.holds in
-      (s.0, s.1, omega (arith, s.2.1, searches))
+-- what was read to choose, where that was refused
+pub chosen-most : (db : Database) (actor : Actor) (c : Cursor) (motion : Motion) (a b : Option ℕ) → Becomes (RisesBetween 0 (cell_size * cells_chosen db actor c.object)) a b
+    → Becomes (RisesAtMost (octets_for_operation db actor (Some c) (command_of motion))) a b
+chosen-most db actor c motion a b chose = λ after told.
+    let s = chose after told in
+    let searched = searched-by motion db actor c in
+    (s.0, s.1, omega (arith, s.2.1, searched))
 
-  pub chosen-least : (stop : Stop) (a b : Option ℕ) → WhereStopped stop (IfSome (slots_of store side chip) (λ slots. Becomes (RisesBetween 0 (catalogue_cost slots)) a b)) → WhereStopped stop (Becomes (RisesAtLeast 0) a b)
-  chosen-least (Refused word) a b chose = λ after told. let s = told-held store side chip db (λ slots. Becomes (RisesBetween 0 (catalogue_cost slots)) a b) held chose after told in (s.0, s.1, s.2.0)
-  chosen-least Fault a b chose = tt
+pub chosen-least : (most : ℕ) (stop : Stop) (a b : Option ℕ) → WhereStopped stop (Becomes (RisesBetween 0 most) a b) → WhereStopped stop (Becomes (RisesAtLeast 0) a b)
+chosen-least most (Refused word) a b chose = λ after told. let s = chose after told in (s.0, s.1, s.2.0)
+chosen-least most Fault a b chose = tt

@@ -1,14 +1,13 @@
 -- What reading the rows of a table may cost.
-use Rattle.std.specs.Prelude.{ℕ, ◌==◌, ◌*◌, ◌+◌, Bool, if◌then◌else◌, List, Option, Some, None, option_and_then, option_map}
+use Rattle.std.specs.Prelude.{ℕ, ◌==◌, ◌*◌, Bool, if◌then◌else◌, List, Option, Some, None, option_and_then, option_map}
 use Rattle.std.specs.List.{filter_map}
 use Rattle.eeprom.specs.Slots.{in_slot}
 use Rattle.eeprom.specs.StoreOf.{Slots, cell_size}
 use Rattle.scql_base.specs.Row.{row_size}
 use Rattle.scql_base.specs.declared.records.RowRecord.{RowRecord}
-use Rattle.scql_model.specs.Objects.{deepest}
-use Rattle.catalog_codec.specs.Catalog.{grant_kind, object_kind, row_kind}
+use Rattle.catalog_codec.specs.Catalog.{row_kind}
 use Rattle.catalog_codec.specs.Kinds.{read_as}
-use Rattle.record_table.specs.Listed.{cells_marked, kind_cells}
+use Rattle.record_table.specs.Listed.{kind_cells}
 use Rattle.cursor.specs.Costs.{Cost, cost_behind, cost_of}
 
 -- the cells of a slot that has a row of the table
@@ -27,14 +26,6 @@ cost_reached table slots (Some r) = cost_of r.stamp (row_costs table slots)
 -- what reading the rows behind a stamp may cost, up to one that was reached or to the end
 abbrev pub cost_passed : ℕ → ℕ → Slots → Option RowRecord → ℕ
 cost_passed table stamp slots reached = cost_behind stamp (option_map (λ (r : RowRecord). r.stamp) reached) (row_costs table slots)
-
--- what the way from a view down to its table may read
-abbrev pub way_cost : Slots → ℕ
-way_cost slots = deepest * (cell_size * cells_marked object_kind slots)
-
--- what the searches of a reading operation for its object may cost: one for the object, one for the grants on it, and one for each view down to the table
-abbrev pub catalogue_cost : Slots → ℕ
-catalogue_cost slots = (deepest + 1) * (cell_size * cells_marked object_kind slots) + cell_size * cells_marked grant_kind slots
 
 -- a row that is read has as many octets at least
 abbrev pub least_of : Option RowRecord → ℕ

@@ -5,4 +5,5 @@ pub mod Costs
 pub mod Motion
 pub mod Reader
 pub mod Scan
+pub mod Searched
 pub mod Told

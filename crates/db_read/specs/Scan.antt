@@ -17,7 +17,6 @@ use Rattle.views.specs.Resolved.{AreBound, ArePlaces, Reaches}
 use Rattle.views.specs.declared.resolving.Resolved.{Resolved}
 use Rattle.db_read.specs.Answered.{selectable}
 use Rattle.db_read.specs.declared.scan.Choice.{Choice}
-use Rattle.db_read.specs.declared.scan.FoundRows.{FoundRows}
 
 -- what a cursor chooses of its object: the stamp of the table under that and all its columns, the places of the columns that are shown among them, the cursor's
 -- conditions, and those of each view between; of a dictionary all its columns, these places and the cursor's conditions
@@ -39,10 +38,6 @@ found_in is_found k = if is_found then option_map (λ (o : Object). found_of o k
 -- whether its rows are of a table
 abbrev pub is_of_table : Found → Bool
 is_of_table f = is_table_or_view f.object.kind
-
--- the same, as it is lent
-abbrev pub found_lent : FoundRows → Found
-found_lent f = record { object = f.object.now; table = f.table; all = f.all.now; places = f.places.now.items; conditions = f.conditions.now; filters = f.filters.now }
 
 -- A cursor goes over rows of a table for who acts: its object, from which the actor may select, rests on the table; its columns have these places among the
 -- table's; and its conditions and those of the views between are bound to the table's columns.

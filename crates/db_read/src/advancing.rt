@@ -7,13 +7,14 @@ ghost use Rattle.record_store.specs.Held.{IsOver};
 ghost use Rattle.scql_model.specs.Cursors.{IsCursorOf};
 ghost use Rattle.scql_model.specs.Database.{Database};
 ghost use Rattle.scql_model.specs.Moves.{moved};
-ghost use Rattle.scql_model.specs.ReadBound.{IsOnTableOrView, RisesAtLeast, octets_for_operation};
+ghost use Rattle.scql_model.specs.ReadBound.{IsOnTableOrView, RisesAtLeast};
 ghost use Rattle.record_table.specs.Making.{IsHeld};
 ghost use Rattle.row_index.specs.Index.{Indexes};
 ghost use Rattle.cursor.specs.Moved.{refuses};
 ghost use Rattle.db_read.specs.Motion.{answer_of, command_of, least_by};
 ghost use Rattle.db_read.specs.Reader.{GoesOn};
 ghost use Rattle.db_read.specs.Scan.{IsRightFor};
+ghost use Rattle.db_read.specs.Searched.{octets_for_operation};
 
 use crate::choosing::choose;
 use crate::finding::stopped;

@@ -1,8 +1,9 @@
 // What a cursor chooses is found.
-ghost use Rattle.std.specs.Prelude.{◌≡◌, ◌≤◌, Some, IfOk, IfErr, IfSome, IsTrue, length, is_some, true};
+ghost use Rattle.std.specs.Prelude.{◌≡◌, ◌*◌, ◌≤◌, Some, IfOk, IfErr, IsTrue, length, is_some, true};
 ghost use Rattle.eeprom.specs.Chip.{Becomes, RisesAtMost};
 ghost use Rattle.eeprom.specs.Fault.{each_error};
 ghost use Rattle.eeprom.specs.Frame.{Reads};
+ghost use Rattle.eeprom.specs.StoreOf.{cell_size};
 ghost use Rattle.record_store.specs.Held.{IsOver};
 ghost use Rattle.scql_base.specs.declared.name_list.TheConstants.NameList.{MOST};
 ghost use Rattle.scql_model.specs.Cursors.{IsCursorOf};
@@ -12,12 +13,13 @@ ghost use Rattle.record_table.specs.Listed.{slots_of};
 ghost use Rattle.record_table.specs.Making.{IsHeld, is_stop_fault};
 ghost use Rattle.record_table.specs.Reading.{NeverFalls};
 ghost use Rattle.search_cond.specs.Bound.{Binds};
+ghost use Rattle.views.specs.Below.{cells_under};
 ghost use Rattle.views.specs.Resolved.{ArePlaces};
 ghost use Rattle.cursor.specs.Costs.{RisesBetween};
 ghost use Rattle.db_read.specs.Answered.{Stops, WhereRead};
-ghost use Rattle.db_read.specs.Costs.{catalogue_cost, way_cost};
 ghost use Rattle.db_read.specs.Reader.{GoesOn};
 ghost use Rattle.db_read.specs.Scan.{IsResolved, IsRight};
+ghost use Rattle.db_read.specs.Searched.{cells_chosen};
 
 use crate::finding::find_selected;
 use crate::reader::Reader;
@@ -43,8 +45,7 @@ pub(crate) fn choose<B: Eeprom>(
     ensures refused { (db : Database) → IsHeld reader.old.store.now reader.old.side (B.chip reader.old.bench.now) db → IsCursorOf db cursor.now
         → IfErr result (Stops (rows_under db actor cursor.now)) }
     ensures octets_read { (db : Database) → IsHeld reader.old.store.now reader.old.side (B.chip reader.old.bench.now) db → IsCursorOf db cursor.now
-        → WhereRead result (IfSome (slots_of reader.old.store.now reader.old.side (B.chip reader.old.bench.now))
-        (λ slots. Becomes (RisesBetween 0 (catalogue_cost slots)) (B.octets_read reader.old.bench.now) (B.octets_read reader.new.bench.now))) }
+        → WhereRead result (Becomes (RisesBetween 0 (cell_size * cells_chosen db actor cursor.now.object)) (B.octets_read reader.old.bench.now) (B.octets_read reader.new.bench.now)) }
     ensures goes_on { GoesOn reader.old reader.new }
     ensures frame { Reads is_stop_fault B.chip B.faults reader.old.bench.now reader.new.bench.now result }
 {
@@ -72,8 +73,8 @@ pub(crate) fn choose<B: Eeprom>(
     Ok(())
 }
 
-// Finds all columns among which those of a cursor on an object are: those of the table under it, or of the dictionary that it is.
-fn resolve<B: Eeprom>(
+/// Finds all columns among which those of a cursor on an object are: those of the table under it, or of the dictionary that it is.
+pub fn resolve<B: Eeprom>(
     reader: &mut Reader<'_, B>,
     object: &Object,
     resolved: &mut Resolved,
@@ -81,8 +82,8 @@ fn resolve<B: Eeprom>(
     requires over { IsOver reader.old.store.now (B.chip reader.old.bench.now) }
     ensures rests { (db : Database) → IsHeld reader.old.store.now reader.old.side (B.chip reader.old.bench.now) db → object_stamped db.objects object.now.stamp ≡ Some object.now
         → IfOk result (λ _. IsResolved db.objects object.now resolved.new) }
-    ensures octets_read { IfOk result (λ _. IfSome (slots_of reader.old.store.now reader.old.side (B.chip reader.old.bench.now))
-        (λ slots. Becomes (RisesAtMost (way_cost slots)) (B.octets_read reader.old.bench.now) (B.octets_read reader.new.bench.now))) }
+    ensures octets_read { (db : Database) → IsHeld reader.old.store.now reader.old.side (B.chip reader.old.bench.now) db
+        → IfOk result (λ _. Becomes (RisesAtMost (cell_size * cells_under db.objects object.now.kind)) (B.octets_read reader.old.bench.now) (B.octets_read reader.new.bench.now)) }
     ensures rises { IfOk result (λ _. NeverFalls (slots_of reader.old.store.now reader.old.side (B.chip reader.old.bench.now)) (B.octets_read reader.old.bench.now) (B.octets_read reader.new.bench.now)) }
     ensures goes_on { GoesOn reader.old reader.new }
     ensures frame { Reads each_error B.chip B.faults reader.old.bench.now reader.new.bench.now result }

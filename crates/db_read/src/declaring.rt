@@ -1,5 +1,5 @@
 // DECLARE CURSOR.
-ghost use Rattle.std.specs.Prelude.{◌≡◌, ◌+◌, ◌*◌, Some, Ok, IfOk, IfErr, IfSome, IsTrue, OnErr, false, true, List, ℕ, option_map};
+ghost use Rattle.std.specs.Prelude.{◌≡◌, ◌*◌, Some, Ok, IfOk, IfErr, IsTrue, OnErr, false, true, List, ℕ, option_map};
 ghost use Rattle.std.specs.List.{list_all, list_any};
 ghost use Rattle.std.specs.Str.{bytes_eq};
 ghost use Rattle.eeprom.specs.Chip.{Becomes, RisesAtMost};
@@ -12,15 +12,13 @@ ghost use Rattle.scql_base.specs.declared.cursor.Place.TheVariants.{NotOpen};
 ghost use Rattle.scql_model.specs.Database.{Database, are_among, are_named_among};
 ghost use Rattle.scql_model.specs.Machine.{Reading};
 ghost use Rattle.scql_model.specs.Moves.{moved, moved_to};
-ghost use Rattle.scql_model.specs.ReadBound.{octets_for_operation};
 ghost use Rattle.scql_model.specs.ReadingCommands as commands;
 ghost use Rattle.scql_model.specs.ReadingCommands.{wanted_of};
-ghost use Rattle.catalog_codec.specs.Catalog.{grant_kind, object_kind};
-ghost use Rattle.record_table.specs.Listed.{cells_marked, slots_of};
 ghost use Rattle.record_table.specs.Making.{IsHeld, is_stop_fault};
 ghost use Rattle.cursor.specs.Moved.{refuses};
 ghost use Rattle.db_read.specs.Answered.{Stops, WhereRead, answered};
 ghost use Rattle.db_read.specs.Reader.{GoesOn};
+ghost use Rattle.db_read.specs.Searched.{cells_named, octets_for_operation};
 
 use crate::columns::columns_of;
 use crate::finding::{find_named, stopped};
@@ -71,8 +69,8 @@ fn cursor_on<B: Eeprom>(
     ensures new { IfOk result (λ cursor. cursor.place ≡ NotOpen) }
     ensures refused { (db : Database) → IsHeld reader.old.store.now reader.old.side (B.chip reader.old.bench.now) db → (before : Reading)
         → IfErr result (Stops (moved db actor before (commands.declare object columns.now conditions.now))) }
-    ensures octets_read { WhereRead result (IfSome (slots_of reader.old.store.now reader.old.side (B.chip reader.old.bench.now))
-        (λ slots. Becomes (RisesAtMost (cell_size * cells_marked object_kind slots + cell_size * cells_marked grant_kind slots)) (B.octets_read reader.old.bench.now) (B.octets_read reader.new.bench.now))) }
+    ensures octets_read { (db : Database) → IsHeld reader.old.store.now reader.old.side (B.chip reader.old.bench.now) db
+        → WhereRead result (Becomes (RisesAtMost (cell_size * cells_named db actor object)) (B.octets_read reader.old.bench.now) (B.octets_read reader.new.bench.now)) }
     ensures goes_on { GoesOn reader.old reader.new }
     ensures frame { Reads is_stop_fault B.chip B.faults reader.old.bench.now reader.new.bench.now result }
 {

@@ -1,5 +1,5 @@
 // The object from which a cursor reads.
-ghost use Rattle.std.specs.Prelude.{◌≡◌, ◌+◌, ◌*◌, Ok, Some, IfOk, IfErr, IfSome, is_some, true};
+ghost use Rattle.std.specs.Prelude.{◌≡◌, ◌*◌, Ok, Some, IfOk, IfErr, IfSome, is_some, true};
 ghost use Rattle.std.proofs.lemmas.Map.Entries.{option_filter};
 ghost use Rattle.eeprom.specs.Chip.{Becomes, RisesAtMost};
 ghost use Rattle.eeprom.specs.Frame.{Reads};
@@ -8,12 +8,12 @@ ghost use Rattle.record_store.specs.Held.{IsOver};
 ghost use Rattle.scql_model.specs.Database.{Database};
 ghost use Rattle.scql_model.specs.Rights as model;
 ghost use Rattle.scql_model.specs.Rights.{seen_named, seen_stamped};
-ghost use Rattle.catalog_codec.specs.Catalog.{grant_kind, object_kind};
-ghost use Rattle.record_table.specs.Listed.{cells_marked, slots_of};
+ghost use Rattle.record_table.specs.Listed.{slots_of};
 ghost use Rattle.record_table.specs.Making.{IsHeld, is_stop_fault};
 ghost use Rattle.record_table.specs.Reading.{NeverFalls};
 ghost use Rattle.db_read.specs.Answered.{Stops, WhereRead, selectable, stop_answer};
 ghost use Rattle.db_read.specs.Reader.{GoesOn};
+ghost use Rattle.db_read.specs.Searched.{cells_named, cells_selected, rights_cells};
 
 use crate::reader::Reader;
 use eeprom::{Eeprom, EepromFault};
@@ -33,8 +33,8 @@ pub fn find_selected<B: Eeprom>(
     ensures found { (db : Database) → IsHeld reader.old.store.now reader.old.side (B.chip reader.old.bench.now) db → IfOk result (λ _. IfSome place.new (λ object. selectable db actor (seen_stamped db actor stamp) ≡ Ok object)) }
     ensures there { IfOk result (λ _. is_some place.new ≡ true) }
     ensures refused { (db : Database) → IsHeld reader.old.store.now reader.old.side (B.chip reader.old.bench.now) db → IfErr result (Stops (selectable db actor (seen_stamped db actor stamp))) }
-    ensures octets_read { WhereRead result (IfSome (slots_of reader.old.store.now reader.old.side (B.chip reader.old.bench.now))
-        (λ slots. Becomes (RisesAtMost (cell_size * cells_marked object_kind slots + cell_size * cells_marked grant_kind slots)) (B.octets_read reader.old.bench.now) (B.octets_read reader.new.bench.now))) }
+    ensures octets_read { (db : Database) → IsHeld reader.old.store.now reader.old.side (B.chip reader.old.bench.now) db
+        → WhereRead result (Becomes (RisesAtMost (cell_size * cells_selected db actor stamp)) (B.octets_read reader.old.bench.now) (B.octets_read reader.new.bench.now)) }
     ensures rises { WhereRead result (NeverFalls (slots_of reader.old.store.now reader.old.side (B.chip reader.old.bench.now)) (B.octets_read reader.old.bench.now) (B.octets_read reader.new.bench.now)) }
     ensures goes_on { GoesOn reader.old reader.new }
     ensures frame { Reads is_stop_fault B.chip B.faults reader.old.bench.now reader.new.bench.now result }
@@ -54,8 +54,8 @@ pub(crate) fn find_named<'a, B: Eeprom>(
     requires over { IsOver reader.old.store.now (B.chip reader.old.bench.now) }
     ensures found { (db : Database) → IsHeld reader.old.store.now reader.old.side (B.chip reader.old.bench.now) db → IfOk result (λ object. selectable db actor (seen_named db actor name) ≡ Ok object.now) }
     ensures refused { (db : Database) → IsHeld reader.old.store.now reader.old.side (B.chip reader.old.bench.now) db → IfErr result (Stops (selectable db actor (seen_named db actor name))) }
-    ensures octets_read { WhereRead result (IfSome (slots_of reader.old.store.now reader.old.side (B.chip reader.old.bench.now))
-        (λ slots. Becomes (RisesAtMost (cell_size * cells_marked object_kind slots + cell_size * cells_marked grant_kind slots)) (B.octets_read reader.old.bench.now) (B.octets_read reader.new.bench.now))) }
+    ensures octets_read { (db : Database) → IsHeld reader.old.store.now reader.old.side (B.chip reader.old.bench.now) db
+        → WhereRead result (Becomes (RisesAtMost (cell_size * cells_named db actor name)) (B.octets_read reader.old.bench.now) (B.octets_read reader.new.bench.now)) }
     ensures goes_on { GoesOn reader.old reader.new }
     ensures frame { Reads is_stop_fault B.chip B.faults reader.old.bench.now reader.new.bench.now result }
 {
@@ -75,8 +75,8 @@ fn select<'a, B: Eeprom>(
     ensures refused { (db : Database) → IsHeld reader.old.store.now reader.old.side (B.chip reader.old.bench.now) db
         → IfErr result (Stops (selectable db actor (option_filter (model.appears db actor) found.now))) }
     ensures there { IfOk result (λ object. found.now ≡ Some object.now) }
-    ensures octets_read { WhereRead result (IfSome (slots_of reader.old.store.now reader.old.side (B.chip reader.old.bench.now))
-        (λ slots. Becomes (RisesAtMost (cell_size * cells_marked grant_kind slots)) (B.octets_read reader.old.bench.now) (B.octets_read reader.new.bench.now))) }
+    ensures octets_read { (db : Database) → IsHeld reader.old.store.now reader.old.side (B.chip reader.old.bench.now) db
+        → WhereRead result (Becomes (RisesAtMost (cell_size * rights_cells db actor found.now)) (B.octets_read reader.old.bench.now) (B.octets_read reader.new.bench.now)) }
     ensures rises { WhereRead result (NeverFalls (slots_of reader.old.store.now reader.old.side (B.chip reader.old.bench.now)) (B.octets_read reader.old.bench.now) (B.octets_read reader.new.bench.now)) }
     ensures goes_on { GoesOn reader.old reader.new }
     ensures frame { Reads is_stop_fault B.chip B.faults reader.old.bench.now reader.new.bench.now result }

@@ -16,8 +16,10 @@ mod scan;
 mod telling;
 
 pub use advancing::advance;
+pub use choosing::resolve;
 pub use declaring::declare;
 pub use finding::find_selected;
 pub use motion::Motion;
 pub use reader::Reader;
-pub use scan::{FoundRows, Scan};
+pub use rows::row_in;
+pub use scan::{Choice, RowRoom, Scan, is_table_or_view};

@@ -233,9 +233,9 @@ fn row_of_table<B: Eeprom>(
     row_in(reader, slot, room)
 }
 
-// Reads the row of a slot into a place, and answers whether the slot has one.
+/// Reads the row of a slot into a place, and answers whether the slot has one.
 #[inline(always)]
-fn row_in<B: Eeprom>(
+pub fn row_in<B: Eeprom>(
     reader: &mut Reader<'_, B>,
     slot: u16,
     room: &mut RowRoom,

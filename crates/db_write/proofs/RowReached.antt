@@ -17,7 +17,6 @@ use Rattle.scql_base.specs.declared.cursor.Cursor.{Cursor}
 use Rattle.scql_base.specs.declared.cursor.Place.{Place}
 use Rattle.scql_base.specs.declared.cursor.Place.TheVariants.{NotOpen, At, End}
 use Rattle.scql_base.specs.declared.records.Object.{Object}
-use Rattle.scql_base.specs.declared.records.ObjectKind.TheVariants.{Table}
 use Rattle.scql_base.specs.declared.records.RowRecord.{RowRecord}
 use Rattle.scql_model.specs.Contents.{contents_of, cut_to, of_table}
 use Rattle.scql_model.specs.Cursors.{IsCursorOf}
@@ -29,19 +28,22 @@ use Rattle.scql_model.specs.Resolving as model
 use Rattle.scql_model.specs.Resolving.{AreKnown, passes_filters}
 use Rattle.scql_model.specs.Writing.{columns_of_row, record_at_cursor, row_at_place}
 use Rattle.scql_model.proofs.Keeping.{key-found}
-use Rattle.scql_model.proofs.LongerLists.{find-passes}
 use Rattle.scql_model.proofs.SeenThrough.{IsSeenThrough-resolved_of}
 use Rattle.catalog_codec.specs.Catalog.{row_kind}
 use Rattle.privilege_table.proofs.Seen.{find-both}
-use Rattle.record_table.specs.Listed.{listed, slots_of}
+use Rattle.record_table.specs.Listed.{at_slot, listed, slots_of}
 use Rattle.record_table.specs.Making.{IsHeld}
+use Rattle.row_index.specs.Index.{Index, Indexes, side_places}
+use Rattle.row_index.specs.Places.{place_stamp}
+use Rattle.row_index.specs.declared.place.RowPlace.{RowPlace}
 use Rattle.row_index.proofs.Scans.{find-agree, find-map}
 use Rattle.row_index.proofs.Tables.{find-filter}
+use Rattle.row_table.proofs.FoundRows.{finds-told, none-found}
 use Rattle.search_cond.specs.Bound.{Binds, passes}
 use Rattle.search_cond.specs.declared.placed.Placed.{Placed}
-use Rattle.views.specs.Resolved.{AreBound, Resolves}
-use Rattle.views.specs.declared.resolving.Resolved.{Resolved}
+use Rattle.views.specs.Resolved.{AreBound}
 use Rattle.scql_model.proofs.KnownNames.{IsKnown, IsKnown-resolved_of, among-within, names-valid}
+use Rattle.db_read.proofs.RowReads.{IsIndexed, indexed-told}
 use Rattle.db_write.specs.Reached.{RestsOn, is_reached, stamp_at, without_conditions}
 
 swap : (a b c : Bool) → (a && (b && c)) ≡ (c && (a && b))
@@ -137,9 +139,21 @@ reaches db c table columns filters bound stamp valid of rests binds at =
     ∙ sym (ap (λ place. option_and_then again (row_at_place (contents_of db c.object) c place)) (at-place c.place stamp at)
     ∙ ap (λ rows. option_and_then again (row_at stamp rows)) (through.rows c.columns c.conditions (named-shown db c r of known)))
 
--- the object of a stamp has that stamp
-pub stamp-found : (objects : List Object) (stamp : ℕ) (o : Object) → object_stamped objects stamp ≡ Some o → o.stamp ≡ stamp
-stamp-found objects stamp o is = eqb-true o.stamp stamp (find-passes (λ (x : Object). x.stamp == stamp) objects o is)
+-- the slot that the index answers has the row that a search finds
+pub indexed-row : (index : Index) (store : Held) (chip : Chip) (stamp of slot : ℕ) (o : Option (ℕ × ℕ)) (value : Option RowRecord) → o ≡ option_map (λ (place : RowPlace). (place.table, place.slot)) (find (has place_stamp stamp) (side_places index Working))
+    → Indexes index store chip → o ≡ Some (of, slot) → IfSome (slots_of store Working chip) (λ slots. value ≡ at_slot row_kind slot slots) → IfSome (slots_of store Working chip) (λ slots. value ≡ find (has row_kind.key stamp) (listed row_kind slots))
+indexed-row index store chip stamp of slot o value answers stands is at = told (slots_of store Working chip) (indexed-told index store chip Working stamp of slot o answers stands is) at
+  where
+    told : (slots : Option Slots) → IfSome slots (IsIndexed stamp of slot) → IfSome slots (λ slots. value ≡ at_slot row_kind slot slots) → IfSome slots (λ slots. value ≡ find (has row_kind.key stamp) (listed row_kind slots))
+    told None indexed at = tt
+    told (Some slots) indexed at = at ∙ (indexed.at ∙ sym indexed.found)
+
+-- and where it answers none there is none
+pub indexed-no-row : (index : Index) (store : Held) (chip : Chip) (stamp : ℕ) (o : Option (ℕ × ℕ)) → o ≡ option_map (λ (place : RowPlace). (place.table, place.slot)) (find (has place_stamp stamp) (side_places index Working))
+    → Indexes index store chip → o ≡ None → IfSome (slots_of store Working chip) (λ slots. None ≡ find (has row_kind.key stamp) (listed row_kind slots))
+indexed-no-row index store chip stamp o answers stands is =
+    none-found (slots_of store Working chip) o (has row_kind.key stamp) is
+    (finds-told index store chip Working (has place_stamp stamp) (has row_kind.key stamp) (λ slot row. refl) (λ (place : RowPlace). (place.table, place.slot)) (λ place. refl) o answers stands)
 
 -- the row of a stamp that the slots list is the database's
 pub row-held : (store : Held) (chip : Chip) (db : Database) (stamp : ℕ) (found : Option RowRecord) → IsHeld store Working chip db
@@ -191,24 +205,3 @@ columns-reached db c table columns filters bound r valid rests is =
     let same : r.table ≡ rests.is.table = eqb-true r.table table own.0 ∙ rests.on in
     let of : Option Object → Columns = (λ found. option_map_or (λ (o : Object). columns_of o.kind) found []) in
     ap (λ (stamp : ℕ). of (object_stamped db.objects stamp)) same ∙ (ap of known.found_table ∙ (known.all ∙ sym rests.all))
-
--- a table rests on itself
-pub RestsOn-table : (objects : List Object) (stamp : ℕ) (o : Object) (columns : Columns) → object_stamped objects stamp ≡ Some o → o.kind ≡ Table columns → RestsOn objects stamp o.stamp columns []
-unfolding model.resolved_of
-RestsOn-table objects stamp o columns at kind = record {
-  is = record { table = o.stamp; all = columns; columns = columns; filters = [] };
-  resolved = rw (at, kind) refl;
-  on = refl;
-  all = refl;
-  bound = tt;
-}
-
--- and a view on the table to which it is resolved
-pub RestsOn-resolved : (objects : List Object) (stamp : ℕ) (o : Object) (answer : Resolved) → object_stamped objects stamp ≡ Some o → Resolves objects o.stamp answer → RestsOn objects stamp answer.table answer.all answer.filters.items
-RestsOn-resolved objects stamp o answer at resolves = record {
-  is = resolves.is;
-  resolved = ap (model.resolved_of objects) (sym (stamp-found objects stamp o at)) ∙ resolves.resolved;
-  on = resolves.stands.table;
-  all = resolves.stands.all;
-  bound = resolves.stands.filters;
-}

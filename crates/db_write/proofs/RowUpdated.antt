@@ -1,6 +1,6 @@
 -- UPDATE: the row after the changes, or the first refusal.
 use Rattle.std.proofs.Common.{◌≡◌, ◌==◌, ◌&&◌, ◌^◌, ℕ, Bool, true, false, List, [], ◌∷◌, length, map, nat_le, Option, Some, None, Result, Ok, Err, refl, sym, ap, subst, ◌∙◌, inl, inr}
-use Rattle.std.specs.Prelude.{nat_lt, option_and_then}
+use Rattle.std.specs.Prelude.{IfSome, nat_lt, option_and_then}
 use Rattle.std.specs.List.{find, list_all}
 use Rattle.std.specs.Option.{option_map_or}
 use Rattle.std.proofs.lemmas.Bool.{and_parts, cases_Bool, eqb-true, false≢true, le-leb, ltb-false}
@@ -17,6 +17,7 @@ use Rattle.scql_base.specs.declared.records.RowRecord.{RowRecord}
 use Rattle.scql_base.specs.declared.words.Actor.{Actor}
 use Rattle.scql_base.specs.declared.words.StatusWord.{StatusWord}
 use Rattle.scql_model.specs.Database.{Database, IsValid, are_among, is_table, object_stamped, weight}
+use Rattle.scql_model.specs.Defining.{is_table_or_view}
 use Rattle.scql_model.specs.Edits.{Edit, applied, changing, with_edits}
 use Rattle.scql_model.specs.Matching.{Columns, Values}
 use Rattle.scql_model.specs.Moves.{opened}
@@ -37,7 +38,7 @@ use Rattle.record_table.specs.Making.{Ends, IsValidWith}
 use Rattle.record_table.specs.declared.stop.Stop.{Stop}
 use Rattle.record_table.specs.declared.stop.Stop.TheVariants.{Refused, Fault}
 use Rattle.db_write.specs.Assigned.{within_limit}
-use Rattle.db_write.specs.Reached.{Answers, IsStopOf}
+use Rattle.db_write.specs.Reached.{Answers, HasObject, IsStopOf}
 
 pub updates-closed : (db : Database) (actor : Actor) (cursor : Option Cursor) (assignments : List Assignment) → opened cursor ≡ Err conditions_not_satisfied → row_updated db actor cursor assignments ≡ Err conditions_not_satisfied
 unfolding row_updated
@@ -52,6 +53,12 @@ updates-stopped db actor cursor assignments c Fault ready stopped = tt
 
 abbrev pub named : List Assignment → Columns → Bool
 named assignments columns = are_among (map (λ (a : Assignment). a.0) assignments) columns
+
+-- the columns that are named are asked of the object that was found
+pub named-found : (db : Database) (c : Cursor) (found : Option Object) (assignments : List Assignment) (are : Bool) (has : HasObject db c found)
+    → IfSome found (λ (o : Object). is_table_or_view o.kind ≡ true → are ≡ named assignments (columns_of o.kind)) → are ≡ named assignments (columns_of has.object.kind)
+named-found db c found assignments are has says =
+    subst (λ (found : Option Object). IfSome found (λ (o : Object). is_table_or_view o.kind ≡ true → are ≡ named assignments (columns_of o.kind))) has.is says has.kind
 
 pub updates-unnamed : (db : Database) (actor : Actor) (cursor : Option Cursor) (assignments : List Assignment) (c : Cursor) (o : Object) → opened cursor ≡ Ok c → written_through db actor update_privilege c ≡ Ok o
     → named assignments (columns_of o.kind) ≡ false → row_updated db actor cursor assignments ≡ Err not_found

@@ -1,23 +1,24 @@
 -- Which row a cursor reaches, and what a part of an operation answers.
-use Rattle.std.specs.Prelude.{◌≡◌, ℕ, ◌==◌, ◌&&◌, Bool, List, [], Option, Some, None, Result, Ok, Err}
+use Rattle.std.specs.Prelude.{◌≡◌, ℕ, ◌==◌, ◌&&◌, Bool, true, List, [], Option, Some, None, Result, Ok, Err}
 use Rattle.std.specs.List.{list_all}
 use Rattle.scql_base.specs.declared.cursor.Cursor.{Cursor}
 use Rattle.scql_base.specs.declared.cursor.Place.{Place}
 use Rattle.scql_base.specs.declared.cursor.Place.TheVariants.{At}
 use Rattle.scql_base.specs.declared.records.Object.{Object}
 use Rattle.scql_base.specs.declared.records.RowRecord.{RowRecord}
+use Rattle.scql_base.specs.declared.words.Actor.{Actor}
 use Rattle.scql_base.specs.declared.words.StatusWord.{StatusWord}
-use Rattle.scql_model.specs.Database.{Database}
+use Rattle.scql_model.specs.Database.{Database, object_stamped}
+use Rattle.scql_model.specs.Defining.{is_table_or_view}
 use Rattle.scql_model.specs.Edits.{Edit}
 use Rattle.scql_model.specs.Matching.{Columns}
 use Rattle.scql_model.specs.Resolving.{Resolved, resolved_of}
-use Rattle.scql_model.specs.Writing.{columns_of_row, record_at_cursor}
+use Rattle.scql_model.specs.Writing.{columns_of_row, record_at_cursor, written_through}
 use Rattle.record_table.specs.declared.stop.Stop.{Stop}
 use Rattle.record_table.specs.declared.stop.Stop.TheVariants.{Refused, Fault}
 use Rattle.search_cond.specs.Bound.{passes}
 use Rattle.search_cond.specs.declared.placed.Placed.{Placed}
 use Rattle.views.specs.Resolved.{AreBound}
-use Rattle.db_write.specs.declared.reaching.Reached.{Reached}
 
 -- a stop is the refusal of an outcome, or the EEPROM's fault
 abbrev pub IsStopOf : {T : Type 0} → Result T StatusWord → Stop → Type 0
@@ -50,7 +51,19 @@ pub record RestsOn (objects : List Object) (stamp : ℕ) (table : ℕ) (columns 
 abbrev pub without_conditions : Cursor → Cursor
 without_conditions c = record c { columns = []; conditions = [] }
 
--- whatever a cursor's conditions are, the row at which it stands is one of its object, and the columns are all those of the row's table
-pub record IsRowOfObject (db : Database) (c : Cursor) (reached : Reached) : Type 0 where
-  pub row : Some reached.row ≡ record_at_cursor db (without_conditions c)
-  pub columns : columns_of_row db reached.row ≡ reached.columns
+-- the object of a cursor was found, and is a table or a view
+pub record HasObject (db : Database) (c : Cursor) (found : Option Object) : Type 0 where
+  pub object : Object
+  pub is : found ≡ Some object
+  pub at : object_stamped db.objects c.object ≡ Some object
+  pub kind : is_table_or_view object.kind ≡ true
+
+-- and through it who acts may write by a privilege
+pub record IsWritten (db : Database) (actor : Actor) (privilege : ℕ) (c : Cursor) (found : Option Object) : Type 0 where
+  pub has : HasObject db c found
+  pub written : written_through db actor privilege c ≡ Ok has.object
+
+-- whatever a cursor's conditions are, a row is the one of its object at which it stands, and the columns are all those of the row's table
+pub record IsRowOfObject (db : Database) (c : Cursor) (r : RowRecord) (columns : Columns) : Type 0 where
+  pub row : Some r ≡ record_at_cursor db (without_conditions c)
+  pub all : columns_of_row db r ≡ columns

@@ -1,5 +1,5 @@
 // A row after changes to named columns.
-ghost use Rattle.std.specs.Prelude.{◌≡◌, ◌<◌, ◌≤◌, IfSome, MatchOption, length, option_map};
+ghost use Rattle.std.specs.Prelude.{◌≡◌, ◌<◌, ◌≤◌, [], IfSome, MatchOption, length, option_map};
 ghost use Rattle.scql_base.specs.declared.row.TheConstants.Row.{LARGEST, LONGEST_VALUE};
 ghost use Rattle.scql_base.specs.Row.{row_size};
 ghost use Rattle.scql_model.specs.Writing.{all_assigned};
@@ -7,7 +7,7 @@ ghost use Rattle.db_write.specs.Assigned.{value_given, within_limit};
 
 use scql_base::{Name, NameList, PackedChanges, Params, Row};
 
-/// Puts a row of these columns after changes into a place, where it is within a limit of octets.
+/// Puts a row of these columns after changes into an empty place, where it is within a limit of octets.
 pub(crate) fn row_after(
     columns: &NameList,
     changes: &PackedChanges,
@@ -16,6 +16,7 @@ pub(crate) fn row_after(
     after: &mut Row,
 ) -> Option<()>
     requires limit { limit ≤ LARGEST }
+    requires empty { after.old ≡ [] }
     ensures after { length columns.now ≡ length row.now → option_map (λ _. after.new) result ≡ within_limit limit (all_assigned changes.now columns.now row.now) }
 {
     assigned(columns, changes, row, after)?;
@@ -28,11 +29,11 @@ pub(crate) fn row_after(
 
 // The row after changes, where its values are a row.
 fn assigned(columns: &NameList, changes: &PackedChanges, row: &Row, after: &mut Row) -> Option<()>
+    requires empty { after.old ≡ [] }
     ensures after { length columns.now ≡ length row.now
         → MatchOption result (LARGEST < row_size (all_assigned changes.now columns.now row.now)) (λ _. after.new ≡ all_assigned changes.now columns.now row.now) }
 {
     prove!(row.len() <= Row::MOST);
-    *after = Row::new();
     let mut rest = row.octets();
     for column in columns.as_slice() {
         let (value, behind) = Params::first_in(rest)?;

@@ -22,20 +22,20 @@ use record_table::{Stop, refused, remove};
 use row_index::RowIndex;
 use scql_base::{Actor, Cursor, StatusWord};
 
-/// DELETE: takes out the row of a table at which a cursor stands. The index follows.
+/// DELETE: takes out the row of a table at which a cursor stands. The index follows. What a scan has found isn't looked for again.
 pub fn delete<B: Eeprom>(
     store: &mut Store,
     bench: &mut B,
     actor: Actor,
     cursor: &Option<Cursor>,
     index: &mut RowIndex,
-    scan: &Scan,
+    scan: &mut Scan,
 ) -> Result<(), Stop>
     requires begun { IsTrue store.old.begun }
     requires over { IsOver store.old (B.chip bench.old) }
     requires index_begun { IsTrue index.old.begun }
     requires index { Indexes index.old store.old (B.chip bench.old) }
-    requires right { (db : Database) → IsHeld store.old Working (B.chip bench.old) db → IsRightFor db actor scan.now cursor.now }
+    requires right { (db : Database) → IsHeld store.old Working (B.chip bench.old) db → IsRightFor db actor scan.old cursor.now }
     ensures ends { (db : Database) → IsHeld store.old Working (B.chip bench.old) db → IfSome cursor.now (IsCursorOf db)
         → Ends db (row_deleted db actor cursor.now) result store.old store.new (B.chip bench.old) (B.chip bench.new) }
     // Whatever the cursor is, it ends as through some cursor.
@@ -49,25 +49,29 @@ pub fn delete<B: Eeprom>(
     ensures index_cells { index.new.cells ≡ index.old.cells }
     ensures index_committed { index.new.committed ≡ index.old.committed }
     ensures index_begun { IsTrue index.new.begun }
+    ensures scan_same { scan.new ≡ scan.old }
 {
     let Some(cursor) = opened(cursor) else {
         return refused(StatusWord::CONDITIONS_NOT_SATISFIED);
     };
-    let mut place = None;
-    let object = find_written(
+    let Scan {
+        is_found,
+        choice,
+        room,
+    } = scan;
+    find_written(
         store,
         bench,
         actor,
         cursor,
         Privilege::Delete,
-        scan,
-        &mut place,
+        is_found,
+        choice,
     )?;
-    let mut row = None;
-    let Some(reached) = find_row(store, bench, cursor, object, index, scan, &mut row)? else {
+    let Some(slot) = find_row(store, bench, cursor, index, *is_found, choice, room)? else {
         return refused(StatusWord::RECORD_NOT_FOUND);
     };
-    remove(store, reached.slot);
-    index.removed(reached.slot);
+    remove(store, slot);
+    index.removed(slot);
     Ok(())
 }

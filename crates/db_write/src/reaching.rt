@@ -1,5 +1,5 @@
 // The row that a cursor reaches.
-ghost use Rattle.std.specs.Prelude.{◌≡◌, ◌<◌, Ok, Err, Some, IfErr, IfOk, IfSome, MatchOption, option_map, true};
+ghost use Rattle.std.specs.Prelude.{◌≡◌, ◌<◌, Ok, Err, Some, IfErr, IfOk, IfSome, IsTrue, MatchOption, option_map, true};
 ghost use Rattle.std.specs.List.{list_all};
 ghost use Rattle.eeprom.specs.Fault.{each_error};
 ghost use Rattle.eeprom.specs.Frame.{Reads};
@@ -9,7 +9,6 @@ ghost use Rattle.scql_base.specs.Words.{conditions_not_satisfied};
 ghost use Rattle.scql_base.specs.declared.words.Actor as model;
 ghost use Rattle.scql_model.specs.Cursors.{IsCursorOf};
 ghost use Rattle.scql_model.specs.Database.{Database, object_stamped};
-ghost use Rattle.scql_model.specs.Defining as defining;
 ghost use Rattle.scql_model.specs.Moves as moves;
 ghost use Rattle.scql_model.specs.Writing.{record_at_cursor, written_through};
 ghost use Rattle.catalog_codec.specs.Catalog.{row_kind};
@@ -18,28 +17,20 @@ ghost use Rattle.record_table.specs.Listed.{at_slot, slots_of};
 ghost use Rattle.record_table.specs.Making.{IsHeld, is_stop_fault};
 ghost use Rattle.row_index.specs.Index.{Indexes};
 ghost use Rattle.search_cond.specs.Bound.{Binds, passes};
-ghost use Rattle.db_read.specs.Scan.{IsRight};
-ghost use Rattle.db_write.specs.Reached.{IsRowOfObject, IsStopOf, RestsOn, is_reached};
+ghost use Rattle.db_read.specs.Reader.{GoesOn};
+ghost use Rattle.db_read.specs.Scan.{IsRight, found_in};
+ghost use Rattle.db_write.specs.Reached.{HasObject, IsRowOfObject, IsStopOf, IsWritten, RestsOn, is_reached};
 ghost use Rattle.db_write.specs.Reached as reached;
 
-use db_read::Scan;
+use db_read::{Choice, Reader, RowRoom, is_table_or_view, resolve, row_in};
 use eeprom::{Eeprom, EepromFault};
 use object_table::find_stamp_into;
 use privilege_table::{Privilege, rights_on};
 use record_store::{Side, Store};
 use record_table::{Stop, refused};
 use row_index::RowIndex;
-use scql_base::{Actor, Cursor, NameList, Object, ObjectKind, Place, Row, RowRecord, StatusWord};
-use search_cond::{Bound, Placed, bind_into, meets_each};
-use views::{Resolved, resolve_into};
-
-/// The row of a table that a cursor reaches, its slot, and all columns of the table.
-#[derive(Drop)]
-pub(crate) struct Reached {
-    pub(crate) slot: u16,
-    pub(crate) row: RowRecord,
-    pub(crate) columns: NameList,
-}
+use scql_base::{Actor, Cursor, Place, Row, RowRecord, StatusWord};
+use search_cond::{Bound, bind_into, meets_each};
 
 /// The cursor, if it was opened.
 pub(crate) fn opened(cursor: &Option<Cursor>) -> Option<&Cursor>
@@ -62,53 +53,26 @@ fn is_opened(place: Place) -> bool
     }
 }
 
-/// The table or view whose rows the actor may change through a cursor, or the first refusal: what a scan found, or else what is found of the cursor's object, which is
-/// read into a place of the caller's.
-pub(crate) fn find_written<'a, B: Eeprom>(
+/// Finds the table or view whose rows the actor may change through a cursor, or the first refusal. It stands in the choice afterwards: where nothing was
+/// found yet it is looked for, and else it is there.
+pub(crate) fn find_written<B: Eeprom>(
     store: &Store,
     bench: &mut B,
     actor: Actor,
     cursor: &Cursor,
     privilege: Privilege,
-    scan: &'a Scan,
-    place: &'a mut Option<Object>,
-) -> Result<&'a Object, Stop>
+    is_found: &mut bool,
+    choice: &mut Choice,
+) -> Result<(), Stop>
     requires over { IsOver store.now (B.chip bench.old) }
-    requires right { (db : Database) → IsHeld store.now Working (B.chip bench.old) db → IsRight db actor scan.now cursor.now }
-    ensures written { (db : Database) → IsHeld store.now Working (B.chip bench.old) db → IfOk result (λ object. written_through db actor (privilege_bit privilege) cursor.now ≡ Ok object.now) }
-    ensures there { (db : Database) → IsHeld store.now Working (B.chip bench.old) db
-        → IfOk result (λ object. (object_stamped db.objects cursor.now.object ≡ Some object.now) × (defining.is_table_or_view object.now.kind ≡ true)) }
+    requires right { (db : Database) → IsHeld store.now Working (B.chip bench.old) db → IsRight db actor (found_in is_found.old choice.old) cursor.now }
+    ensures written { (db : Database) → IsHeld store.now Working (B.chip bench.old) db → IfOk result (λ _. IsWritten db actor (privilege_bit privilege) cursor.now choice.new.object) }
     ensures refused { (db : Database) → IsHeld store.now Working (B.chip bench.old) db → IfErr result (IsStopOf (written_through db actor (privilege_bit privilege) cursor.now)) }
+    ensures same { found_in is_found.new choice.new ≡ found_in is_found.old choice.old }
     ensures frame { Reads is_stop_fault B.chip B.faults bench.old bench.new result }
 {
-    let Some(found) = scan.found() else {
-        return find_written_anew(store, bench, actor, cursor, privilege, place);
-    };
-    let rights = rights_on(store, bench, Side::Working, actor, found.object)?;
-    if !rights.have(privilege) {
-        return refused(StatusWord::SECURITY_NOT_SATISFIED);
-    }
-    Ok(found.object)
-}
-
-// The same, where nothing was found.
-fn find_written_anew<'a, B: Eeprom>(
-    store: &Store,
-    bench: &mut B,
-    actor: Actor,
-    cursor: &Cursor,
-    privilege: Privilege,
-    place: &'a mut Option<Object>,
-) -> Result<&'a Object, Stop>
-    requires over { IsOver store.now (B.chip bench.old) }
-    ensures written { (db : Database) → IsHeld store.now Working (B.chip bench.old) db → IfOk result (λ object. written_through db actor (privilege_bit privilege) cursor.now ≡ Ok object.now) }
-    ensures there { (db : Database) → IsHeld store.now Working (B.chip bench.old) db
-        → IfOk result (λ object. (object_stamped db.objects cursor.now.object ≡ Some object.now) × (defining.is_table_or_view object.now.kind ≡ true)) }
-    ensures refused { (db : Database) → IsHeld store.now Working (B.chip bench.old) db → IfErr result (IsStopOf (written_through db actor (privilege_bit privilege) cursor.now)) }
-    ensures frame { Reads is_stop_fault B.chip B.faults bench.old bench.new result }
-{
-    find_stamp_into(store, bench, Side::Working, cursor.object, place)?;
-    let Some(object) = place else {
+    find_object(store, bench, cursor, is_found, choice)?;
+    let Some(object) = &choice.object else {
         return refused(StatusWord::NOT_FOUND);
     };
     let rights = rights_on(store, bench, Side::Working, actor, object)?;
@@ -121,200 +85,116 @@ fn find_written_anew<'a, B: Eeprom>(
     if !rights.have(privilege) {
         return refused(StatusWord::SECURITY_NOT_SATISFIED);
     }
-    Ok(object)
+    Ok(())
 }
 
-fn is_table_or_view(kind: &ObjectKind) -> bool
-    ensures { result ≡ defining.is_table_or_view kind.now }
+// Finds the object of a cursor, where nothing was found yet.
+fn find_object<B: Eeprom>(
+    store: &Store,
+    bench: &mut B,
+    cursor: &Cursor,
+    is_found: &mut bool,
+    choice: &mut Choice,
+) -> Result<(), EepromFault>
+    requires over { IsOver store.now (B.chip bench.old) }
+    ensures found { (db : Database) (actor : model.Actor) → IsHeld store.now Working (B.chip bench.old) db → IsRight db actor (found_in is_found.old choice.old) cursor.now
+        → IfOk result (λ _. choice.new.object ≡ object_stamped db.objects cursor.now.object) }
+    ensures same { found_in is_found.new choice.new ≡ found_in is_found.old choice.old }
+    ensures frame { Reads each_error B.chip B.faults bench.old bench.new result }
 {
-    match kind {
-        ObjectKind::Table { .. } | ObjectKind::View { .. } => true,
-        ObjectKind::Dictionary { .. } => false,
+    if *is_found && choice.object.is_some() {
+        return Ok(());
     }
-}
-
-/// The row at which a cursor on this object stands, where it is among the cursor's rows. It is read into a place of the caller's.
-pub(crate) fn find_row<'a, B: Eeprom>(
-    store: &Store,
-    bench: &mut B,
-    cursor: &Cursor,
-    object: &Object,
-    index: &RowIndex,
-    scan: &Scan,
-    place: &'a mut Option<Reached>,
-) -> Result<Option<&'a Reached>, EepromFault>
-    requires over { IsOver store.now (B.chip bench.old) }
-    requires index { Indexes index.now store.now (B.chip bench.old) }
-    requires right { (db : Database) → IsHeld store.now Working (B.chip bench.old) db → (actor : model.Actor) × IsRight db actor scan.now cursor.now }
-    ensures there { IfOk result (λ reached. IfSome reached (λ reached. reached.now.slot < store.now.chains.cells)) }
-    ensures at { IfOk result (λ reached. IfSome reached (λ reached. IfSome (slots_of store.now Working (B.chip bench.old)) (λ slots. Some reached.now.row ≡ at_slot row_kind reached.now.slot slots))) }
-    ensures row { (db : Database) → IsHeld store.now Working (B.chip bench.old) db → IsCursorOf db cursor.now → object_stamped db.objects cursor.now.object ≡ Some object.now
-        → defining.is_table_or_view object.now.kind ≡ true → IfOk result (λ reached. option_map (λ reached. reached.now.row) reached ≡ record_at_cursor db cursor.now) }
-    ensures of_object { (db : Database) → IsHeld store.now Working (B.chip bench.old) db → object_stamped db.objects cursor.now.object ≡ Some object.now
-        → defining.is_table_or_view object.now.kind ≡ true → IfOk result (λ reached. IfSome reached (λ reached. IsRowOfObject db cursor.now reached.now)) }
-    ensures frame { Reads each_error B.chip B.faults bench.old bench.new result }
-{
-    let Some(found) = scan.found() else {
-        return find_row_anew(store, bench, cursor, object, index, place);
-    };
-    find_in_table(
+    *is_found = false;
+    find_stamp_into(
         store,
         bench,
-        cursor,
-        found.table,
-        found.all,
-        found.conditions,
-        found.filters,
-        index,
-        place,
-    )
+        Side::Working,
+        cursor.object,
+        &mut choice.object,
+    )?;
+    Ok(())
 }
 
-// The same, where nothing was found. What only a view needs room for is in a function of its own, so that a table doesn't pay for it.
-fn find_row_anew<'a, B: Eeprom>(
+/// The slot of the row at which a cursor on the chosen object stands, where the row is among the cursor's rows. It is read into a place.
+pub(crate) fn find_row<B: Eeprom>(
     store: &Store,
     bench: &mut B,
     cursor: &Cursor,
-    object: &Object,
     index: &RowIndex,
-    place: &'a mut Option<Reached>,
-) -> Result<Option<&'a Reached>, EepromFault>
+    is_found: bool,
+    choice: &mut Choice,
+    room: &mut RowRoom,
+) -> Result<Option<u16>, EepromFault>
     requires over { IsOver store.now (B.chip bench.old) }
     requires index { Indexes index.now store.now (B.chip bench.old) }
-    ensures there { IfOk result (λ reached. IfSome reached (λ reached. reached.now.slot < store.now.chains.cells)) }
-    ensures at { IfOk result (λ reached. IfSome reached (λ reached. IfSome (slots_of store.now Working (B.chip bench.old)) (λ slots. Some reached.now.row ≡ at_slot row_kind reached.now.slot slots))) }
-    ensures row { (db : Database) → IsHeld store.now Working (B.chip bench.old) db → IsCursorOf db cursor.now → object_stamped db.objects cursor.now.object ≡ Some object.now
-        → defining.is_table_or_view object.now.kind ≡ true → IfOk result (λ reached. option_map (λ reached. reached.now.row) reached ≡ record_at_cursor db cursor.now) }
-    ensures of_object { (db : Database) → IsHeld store.now Working (B.chip bench.old) db → object_stamped db.objects cursor.now.object ≡ Some object.now
-        → defining.is_table_or_view object.now.kind ≡ true → IfOk result (λ reached. IfSome reached (λ reached. IsRowOfObject db cursor.now reached.now)) }
-    ensures frame { Reads each_error B.chip B.faults bench.old bench.new result }
-{
-    match &object.kind {
-        ObjectKind::Table { columns } => {
-            bind_and_find(
-                store,
-                bench,
-                cursor,
-                object.stamp,
-                columns,
-                &[],
-                index,
-                place,
-            )
-        }
-        ObjectKind::View { .. } => find_under_view(store, bench, cursor, object, index, place),
-        ObjectKind::Dictionary { .. } => Ok(None),
-    }
-}
-
-// The row at which a cursor on a view stands.
-fn find_under_view<'a, B: Eeprom>(
-    store: &Store,
-    bench: &mut B,
-    cursor: &Cursor,
-    object: &Object,
-    index: &RowIndex,
-    place: &'a mut Option<Reached>,
-) -> Result<Option<&'a Reached>, EepromFault>
-    requires over { IsOver store.now (B.chip bench.old) }
-    requires index { Indexes index.now store.now (B.chip bench.old) }
-    ensures there { IfOk result (λ reached. IfSome reached (λ reached. reached.now.slot < store.now.chains.cells)) }
-    ensures at { IfOk result (λ reached. IfSome reached (λ reached. IfSome (slots_of store.now Working (B.chip bench.old)) (λ slots. Some reached.now.row ≡ at_slot row_kind reached.now.slot slots))) }
-    ensures row { (db : Database) → IsHeld store.now Working (B.chip bench.old) db → IsCursorOf db cursor.now → object_stamped db.objects cursor.now.object ≡ Some object.now
-        → defining.is_table_or_view object.now.kind ≡ true → IfOk result (λ reached. option_map (λ reached. reached.now.row) reached ≡ record_at_cursor db cursor.now) }
-    ensures of_object { (db : Database) → IsHeld store.now Working (B.chip bench.old) db → object_stamped db.objects cursor.now.object ≡ Some object.now
-        → defining.is_table_or_view object.now.kind ≡ true → IfOk result (λ reached. IfSome reached (λ reached. IsRowOfObject db cursor.now reached.now)) }
-    ensures frame { Reads each_error B.chip B.faults bench.old bench.new result }
-{
-    let mut resolved = Resolved::default();
-    resolve_into(store, bench, Side::Working, object, &mut resolved)?;
-    bind_and_find(
-        store,
-        bench,
-        cursor,
-        resolved.table,
-        &resolved.all,
-        resolved.filters.as_slice(),
-        index,
-        place,
-    )
-}
-
-// The row at which a cursor stands in the table under its object, which these columns and filters describe. The cursor's conditions are bound to the columns.
-fn bind_and_find<'a, B: Eeprom>(
-    store: &Store,
-    bench: &mut B,
-    cursor: &Cursor,
-    table: u32,
-    columns: &NameList,
-    filters: &[Bound],
-    index: &RowIndex,
-    place: &'a mut Option<Reached>,
-) -> Result<Option<&'a Reached>, EepromFault>
-    requires over { IsOver store.now (B.chip bench.old) }
-    requires index { Indexes index.now store.now (B.chip bench.old) }
-    ensures there { IfOk result (λ reached. IfSome reached (λ reached. reached.now.slot < store.now.chains.cells)) }
-    ensures at { IfOk result (λ reached. IfSome reached (λ reached. IfSome (slots_of store.now Working (B.chip bench.old)) (λ slots. Some reached.now.row ≡ at_slot row_kind reached.now.slot slots))) }
-    ensures row { (db : Database) → IsHeld store.now Working (B.chip bench.old) db → IsCursorOf db cursor.now → RestsOn db.objects cursor.now.object table columns.now filters.now
-        → IfOk result (λ reached. option_map (λ reached. reached.now.row) reached ≡ record_at_cursor db cursor.now) }
-    ensures of_object { (db : Database) → IsHeld store.now Working (B.chip bench.old) db → RestsOn db.objects cursor.now.object table columns.now filters.now
-        → IfOk result (λ reached. IfSome reached (λ reached. IsRowOfObject db cursor.now reached.now)) }
-    ensures frame { Reads each_error B.chip B.faults bench.old bench.new result }
-{
-    let mut conditions = Bound::default();
-    // A cursor's conditions are on columns of its object.
-    let Ok(()) = bind_into(columns, &cursor.conditions, &mut conditions) else {
-        return Ok(None);
-    };
-    find_in_table(
-        store,
-        bench,
-        cursor,
-        table,
-        columns,
-        conditions.as_slice(),
-        filters,
-        index,
-        place,
-    )
-}
-
-// The row at which a cursor stands in the table under its object, which these columns and filters describe, where it meets these conditions.
-fn find_in_table<'a, B: Eeprom>(
-    store: &Store,
-    bench: &mut B,
-    cursor: &Cursor,
-    table: u32,
-    columns: &NameList,
-    conditions: &[Placed],
-    filters: &[Bound],
-    index: &RowIndex,
-    place: &'a mut Option<Reached>,
-) -> Result<Option<&'a Reached>, EepromFault>
-    requires over { IsOver store.now (B.chip bench.old) }
-    requires index { Indexes index.now store.now (B.chip bench.old) }
-    ensures there { IfOk result (λ reached. IfSome reached (λ reached. reached.now.slot < store.now.chains.cells)) }
-    ensures at { IfOk result (λ reached. IfSome reached (λ reached. IfSome (slots_of store.now Working (B.chip bench.old)) (λ slots. Some reached.now.row ≡ at_slot row_kind reached.now.slot slots))) }
-    ensures row { (db : Database) → IsHeld store.now Working (B.chip bench.old) db → IsCursorOf db cursor.now → RestsOn db.objects cursor.now.object table columns.now filters.now
-        → Binds conditions.now columns.now cursor.now.conditions → IfOk result (λ reached. option_map (λ reached. reached.now.row) reached ≡ record_at_cursor db cursor.now) }
-    ensures of_object { (db : Database) → IsHeld store.now Working (B.chip bench.old) db → RestsOn db.objects cursor.now.object table columns.now filters.now
-        → IfOk result (λ reached. IfSome reached (λ reached. IsRowOfObject db cursor.now reached.now)) }
+    requires right { (db : Database) → IsHeld store.now Working (B.chip bench.old) db → (actor : model.Actor) × IsRight db actor (found_in is_found choice.old) cursor.now }
+    requires object { (db : Database) → IsHeld store.now Working (B.chip bench.old) db → HasObject db cursor.now choice.old.object }
+    ensures there { IfOk result (λ slot. IfSome slot (λ slot. slot < store.now.chains.cells)) }
+    ensures at { IfOk result (λ slot. IfSome slot (λ slot. IfSome (slots_of store.now Working (B.chip bench.old)) (λ slots. Some room.new.row ≡ at_slot row_kind slot slots))) }
+    ensures row { (db : Database) → IsHeld store.now Working (B.chip bench.old) db → IsCursorOf db cursor.now
+        → IfOk result (λ slot. option_map (λ _. room.new.row) slot ≡ record_at_cursor db cursor.now) }
+    ensures of_object { (db : Database) → IsHeld store.now Working (B.chip bench.old) db
+        → IfOk result (λ slot. IfSome slot (λ _. IsRowOfObject db cursor.now room.new.row choice.new.resolved.all)) }
+    ensures same { found_in is_found choice.new ≡ found_in is_found choice.old }
     ensures frame { Reads each_error B.chip B.faults bench.old bench.new result }
 {
     let Some(stamp) = stamp_at(cursor.place) else {
         return Ok(None);
     };
-    let Some(found) = row_table::find_stamp(store, bench, Side::Working, stamp, index)? else {
-        return Ok(None);
+    let mut reader = Reader {
+        store,
+        index,
+        bench,
+        side: Side::Working,
     };
-    if !is_row_reached(table, filters, conditions, &found.value) {
+    if !find_table(&mut reader, cursor, is_found, choice)? {
         return Ok(None);
     }
-    Ok(Some(place.insert(Reached {
-        slot: found.slot,
-        row: found.value,
-        columns: columns.copy(),
-    })))
+    let Some((_, slot)) = index.find(Side::Working, stamp) else {
+        return Ok(None);
+    };
+    if !row_in(&mut reader, slot, room)? {
+        return Ok(None);
+    }
+    if !is_row_reached(choice, &room.row) {
+        return Ok(None);
+    }
+    Ok(Some(slot))
+}
+
+// Finds the table under the chosen object, and binds the conditions of a cursor to its columns, where that wasn't found yet; and answers whether they are bound.
+fn find_table<B: Eeprom>(
+    reader: &mut Reader<'_, B>,
+    cursor: &Cursor,
+    is_found: bool,
+    choice: &mut Choice,
+) -> Result<bool, EepromFault>
+    requires over { IsOver reader.old.store.now (B.chip reader.old.bench.now) }
+    ensures rests { (db : Database) (actor : model.Actor) → IsHeld reader.old.store.now reader.old.side (B.chip reader.old.bench.now) db → IsRight db actor (found_in is_found choice.old) cursor.now → HasObject db cursor.now choice.old.object
+        → IfOk result (λ _. RestsOn db.objects cursor.now.object choice.new.resolved.table choice.new.resolved.all choice.new.resolved.filters.items) }
+    ensures binds { (db : Database) (actor : model.Actor) → IsHeld reader.old.store.now reader.old.side (B.chip reader.old.bench.now) db → IsRight db actor (found_in is_found choice.old) cursor.now → HasObject db cursor.now choice.old.object
+        → IfOk result (λ bound. IsTrue bound → Binds choice.new.conditions choice.new.resolved.all cursor.now.conditions) }
+    // A cursor's conditions are on columns of its object.
+    ensures bound { (db : Database) → IsHeld reader.old.store.now reader.old.side (B.chip reader.old.bench.now) db → HasObject db cursor.now choice.old.object → IsCursorOf db cursor.now → IfOk result (λ bound. bound ≡ true) }
+    ensures same { found_in is_found choice.new ≡ found_in is_found choice.old }
+    ensures goes_on { GoesOn reader.old reader.new }
+    ensures frame { Reads each_error B.chip B.faults reader.old.bench.now reader.new.bench.now result }
+{
+    if is_found {
+        return Ok(true);
+    }
+    let Choice {
+        object,
+        resolved,
+        conditions,
+        ..
+    } = choice;
+    let Some(object) = object else {
+        return Ok(false);
+    };
+    resolve(reader, object, resolved)?;
+    Ok(bind_into(&resolved.all, &cursor.conditions, conditions).is_ok())
 }
 
 // The stamp of the row at which a cursor stands.
@@ -327,11 +207,13 @@ fn stamp_at(place: Place) -> Option<u32>
     }
 }
 
-// Whether a row is one of the table, and meets the cursor's conditions and those of each view.
-fn is_row_reached(table: u32, filters: &[Bound], conditions: &[Placed], row: &RowRecord) -> bool
-    ensures { result ≡ is_reached table filters.now conditions.now row.now }
+// Whether a row is one of the chosen table, and meets the cursor's conditions and those of each view.
+fn is_row_reached(choice: &Choice, row: &RowRecord) -> bool
+    ensures { result ≡ is_reached choice.now.resolved.table choice.now.resolved.filters.items choice.now.conditions row.now }
 {
-    row.table == table && meets_each(&row.row, conditions) && passes_each(filters, &row.row)
+    row.table == choice.resolved.table
+        && meets_each(&row.row, choice.conditions.as_slice())
+        && passes_each(choice.resolved.filters.as_slice(), &row.row)
 }
 
 fn passes_each(filters: &[Bound], row: &Row) -> bool

@@ -38,9 +38,12 @@ use privilege_table::Privilege;
 use record_store::Store;
 use record_table::{Stop, change, refused};
 use row_index::RowIndex;
-use scql_base::{Actor, Cursor, NameList, ObjectKind, PackedChanges, Row, RowRecord, StatusWord};
+use scql_base::{
+    Actor, Cursor, NameList, Object, ObjectKind, PackedChanges, Row, RowRecord, StatusWord,
+};
 
 /// UPDATE: gives named columns of the row at which a cursor stands new values. The row keeps its stamp, its table and its slot, and so the index stands as it did.
+/// What a scan has found isn't looked for again.
 pub fn update<B: Eeprom>(
     store: &mut Store,
     bench: &mut B,
@@ -48,12 +51,12 @@ pub fn update<B: Eeprom>(
     cursor: &Option<Cursor>,
     changes: &PackedChanges,
     index: &mut RowIndex,
-    scan: &Scan,
+    scan: &mut Scan,
 ) -> Result<(), Stop>
     requires begun { IsTrue store.old.begun }
     requires over { IsOver store.old (B.chip bench.old) }
     requires index { Indexes index.old store.old (B.chip bench.old) }
-    requires right { (db : Database) → IsHeld store.old Working (B.chip bench.old) db → IsRightFor db actor scan.now cursor.now }
+    requires right { (db : Database) → IsHeld store.old Working (B.chip bench.old) db → IsRightFor db actor scan.old cursor.now }
     ensures ends { (db : Database) → IsHeld store.old Working (B.chip bench.old) db → IfSome cursor.now (IsCursorOf db) → HasForm (operation.Update changes.now)
         → Ends db (row_updated db actor cursor.now changes.now) result store.old store.new (B.chip bench.old) (B.chip bench.new) }
     // Whatever the cursor is, it ends as through some cursor.
@@ -66,6 +69,7 @@ pub fn update<B: Eeprom>(
     ensures index { (db : Database) → IsHeld store.old Working (B.chip bench.old) db → HasForm (operation.Update changes.now)
         → ¬ IsErrOf result Stop.Fault → Indexes index.new store.new (B.chip bench.new) }
     ensures index_same { index.new ≡ index.old }
+    ensures scan_same { scan.new ≡ scan.old }
 {
     let mut updated = RowRecord {
         stamp: 0,
@@ -86,7 +90,7 @@ pub fn update<B: Eeprom>(
     Ok(())
 }
 
-// The slot of the row at which a cursor stands, or the first refusal. The row as it is after the changes is put into a place.
+// The slot of the row at which a cursor stands, or the first refusal. The row as it is after the changes is put into an empty place.
 fn find_updated<B: Eeprom>(
     store: &Store,
     bench: &mut B,
@@ -94,12 +98,13 @@ fn find_updated<B: Eeprom>(
     cursor: &Option<Cursor>,
     changes: &PackedChanges,
     index: &RowIndex,
-    scan: &Scan,
+    scan: &mut Scan,
     updated: &mut RowRecord,
 ) -> Result<u16, Stop>
     requires over { IsOver store.now (B.chip bench.old) }
     requires index { Indexes index.now store.now (B.chip bench.old) }
-    requires right { (db : Database) → IsHeld store.now Working (B.chip bench.old) db → IsRightFor db actor scan.now cursor.now }
+    requires right { (db : Database) → IsHeld store.now Working (B.chip bench.old) db → IsRightFor db actor scan.old cursor.now }
+    requires empty { updated.old.row ≡ [] }
     ensures there { IfOk result (λ slot. slot < store.now.chains.cells) }
     ensures like { IfOk result (λ slot. IfSome (slots_of store.now Working (B.chip bench.old)) (HasRowLike updated.new slot)) }
     ensures short { IfOk result (λ _. FitsChain row_kind updated.new) }
@@ -108,40 +113,47 @@ fn find_updated<B: Eeprom>(
         → Answers (λ _. changing (of_row updated.new) ∷ []) (row_updated db actor cursor.now changes.now) result }
     ensures through { (db : Database) → IsHeld store.now Working (B.chip bench.old) db
         → (through : Option model.Cursor) × Answers (λ _. changing (of_row updated.new) ∷ []) (row_updated db actor through changes.now) result }
+    ensures scan_same { scan.new ≡ scan.old }
     ensures frame { Reads is_stop_fault B.chip B.faults bench.old bench.new result }
 {
     let Some(cursor) = opened(cursor) else {
         return refused(StatusWord::CONDITIONS_NOT_SATISFIED);
     };
-    let mut place = None;
-    let object = find_written(
+    let Scan {
+        is_found,
+        choice,
+        room,
+    } = scan;
+    find_written(
         store,
         bench,
         actor,
         cursor,
         Privilege::Update,
-        scan,
-        &mut place,
+        is_found,
+        choice,
     )?;
-    if !are_columns(&object.kind, changes) {
+    if !are_columns(&choice.object, changes) {
         return refused(StatusWord::NOT_FOUND);
     }
-    let mut row = None;
-    let Some(reached) = find_row(store, bench, cursor, object, index, scan, &mut row)? else {
+    let Some(slot) = find_row(store, bench, cursor, index, *is_found, choice, room)? else {
         return refused(StatusWord::RECORD_NOT_FOUND);
     };
     let limit = store.row_limit();
-    match record_after(&reached.columns, changes, &reached.row, limit, updated) {
-        Some(()) => Ok(reached.slot),
-        None => refused(StatusWord::WRONG_DATA),
-    }
+    let Some(()) = record_after(&choice.resolved.all, changes, &room.row, limit, updated) else {
+        return refused(StatusWord::WRONG_DATA);
+    };
+    Ok(slot)
 }
 
-// Whether the changes are to columns of a table or a view.
-fn are_columns(kind: &ObjectKind, changes: &PackedChanges) -> bool
-    ensures { is_table_or_view kind.now ≡ true → result ≡ are_among (map (λ (change : Assignment). change.0) changes.now) (columns_of kind.now) }
+// Whether the changes are to columns of the table or the view that was found.
+fn are_columns(found: &Option<Object>, changes: &PackedChanges) -> bool
+    ensures { IfSome found.now (λ object. is_table_or_view object.kind ≡ true → result ≡ are_among (map (λ (change : Assignment). change.0) changes.now) (columns_of object.kind)) }
 {
-    match kind {
+    let Some(object) = found else {
+        return false;
+    };
+    match &object.kind {
         ObjectKind::Table { columns } | ObjectKind::View { columns, .. } => {
             are_named(columns, changes)
         }
@@ -171,7 +183,7 @@ fn is_column(columns: &NameList, name: &[u8]) -> bool
         .any(|column| name == column.octets())
 }
 
-// Puts a row of a table with its values after changes into a place, where they are within a limit of octets: a store can have its record.
+// Puts a row of a table with its values after changes into an empty place, where they are within a limit of octets: a store can have its record.
 fn record_after(
     columns: &NameList,
     changes: &PackedChanges,
@@ -180,6 +192,7 @@ fn record_after(
     updated: &mut RowRecord,
 ) -> Option<()>
     requires limit { limit ≤ LARGEST }
+    requires empty { updated.old.row ≡ [] }
     ensures after { length columns.now ≡ length was.now.row → option_map (λ _. updated.new.row) result ≡ within_limit limit (all_assigned changes.now columns.now was.now.row) }
     ensures record { IfSome result (λ _. updated.new ≡ record { stamp = was.now.stamp; table = was.now.table; row = updated.new.row }) }
     ensures is_row { IfSome result (λ _. IsRow updated.new.row) }

@@ -3,33 +3,33 @@ ghost use Rattle.std.specs.Prelude.{◌≡◌, None};
 
 use crate::fault_count::count_fault;
 use eeprom::{Source, SourceFault};
-use std::io::Read;
+use std::io::{Read, Stdin};
 
-/// Standard input. It doesn't tell what is still to come.
+/// Standard input, from which nothing is read ahead. It doesn't tell what is still to come.
 #[derive(Drop)]
-pub struct StdSource<R: Input + Drop> {
-    reader: R::Reader,
+pub struct StdSource {
+    input: Stdin,
     faults: u64,
 }
 
-impl<R: Input + Drop> StdSource<R> {
-    pub fn new(rt: R) -> StdSource<R>
-        ensures { ⟦<StdSource<R> as Source>⟧.source_faults result ≡ 0 }
+impl StdSource {
+    pub fn new(rt: HostRuntime) -> StdSource
+        ensures { ⟦<StdSource as Source>⟧.source_faults result ≡ 0 }
     {
         StdSource {
-            reader: rt.reader(),
+            input: rt.stdin(),
             faults: 0,
         }
     }
 }
 
-impl<R: Input + Drop> Source for StdSource<R> {
+impl Source for StdSource {
     ghost left = { λ _. None };
 
     ghost source_faults = { λ source. source.faults };
 
     fn read(&mut self, into: &mut [u8]) -> Result<usize, SourceFault> {
-        let answer = self.reader.read(into);
+        let answer = self.input.read(into);
         count_fault(&mut self.faults, answer, SourceFault)
     }
 }

@@ -4,15 +4,15 @@ use Rattle.std.proofs.lemmas.Option.{same_Some}
 use Rattle.eeprom.specs.Chip.{Chip, Writes, Becomes, LeavesOf}
 use Rattle.eeprom.specs.Frame.{HasRoom}
 use Rattle.eeprom.specs.Image.{overwrite, IsTorn}
-use Rattle.eeprom.specs.StoreOf.{image_size, journal_place, is_gate_open, written_directory, with_entries}
+use Rattle.eeprom.specs.StoreOf.{front_size, image_size, journal_place, is_gate_open, written_directory, with_entries}
 use Rattle.eeprom.specs.declared.entry.Entry.{Entry}
 use Rattle.eeprom.proofs.Overwrite.{map-some}
 use Rattle.journal.specs.Journal.{TakesEntries, IsBetweenDirectories, IsReplayed, KeepsDirectory}
 use Rattle.journal.specs.Redo.{HasJournal, IsOpenWith, IsRewritten}
 use Rattle.eeprom.proofs.Leaves.{at-told, write-leaves, leaves-weaker, leaves-then, leaves-last}
-use Rattle.journal.specs.Writing.{AreJournal}
+use Rattle.journal.specs.Run.{SameOutside}
 use Rattle.journal.proofs.Redoing.{directory-closed, redo-keeps, closing-keeps, redo-done}
-use Rattle.journal.proofs.Committing.{IsJournaled, IsOpened, journaled-torn, journaled-between, journal-there, opening-between, opened, opened-between, opened-done}
+use Rattle.journal.proofs.Committing.{IsJournaled, IsOpened, journaled-same, journaled-between, opening-between, opened, opened-between, opened-done}
 
 -- what is known of whatever is told
 pub if-told : (P : List ℕ → Type 0) (image : Option (List ℕ)) → ((was : List ℕ) → image ≡ Some was → P was) → IfSome image P
@@ -73,15 +73,9 @@ redo-replays n entries old mid new gate is room sized over moments written last 
     )
 
 -- the journal is written
-pub journaled-leaves : (n : ℕ) (entries : List Entry) (octets : List ℕ) (place : ℕ) (old mid : Chip) → place ≡ journal_place n → AreJournal n entries octets → HasRoom n old → IfSome old.image (λ image. length image ≡ old.still.size)
-    → IfSome old.image (λ image. is_gate_open image ≡ false) → IfSome old.past (λ past. length past ≡ old.clock) → Writes place octets old mid → LeavesOf (IsJournaled n) old mid
-journaled-leaves n entries octets place old mid begins are room sized closed clocked w =
-    let count = are.count in
-    let few = are.few in
-    leaves-weaker old mid (λ was left. IsTorn was place (length octets) left) (IsJournaled n)
-    (λ was left told torn. journaled-torn n (length octets) was left (long-enough n old was room sized told) (omega arith) (at-told (λ image. is_gate_open image ≡ false) old.image was told closed)
-    (subst (λ (place : ℕ). IsTorn was place (length octets) left) begins torn))
-    (write-leaves place octets old mid clocked w)
+pub journaled-leaves : (n : ℕ) (old mid : Chip) → IfSome old.image (λ image. is_gate_open image ≡ false) → LeavesOf (SameOutside (journal_place n) (front_size n)) old mid → LeavesOf (IsJournaled n) old mid
+journaled-leaves n old mid closed =
+    leaves-weaker old mid (SameOutside (journal_place n) (front_size n)) (IsJournaled n) (λ was left told same. journaled-same n was left (at-told (λ image. is_gate_open image ≡ false) old.image was told closed) same)
 
 pub commit-first : (n : ℕ) (entries : List Entry) (old mid : Chip) → LeavesOf (IsJournaled n) old mid → LeavesOf (IsBetweenDirectories n entries) old mid
 commit-first n entries old mid = leaves-weaker old mid (IsJournaled n) (IsBetweenDirectories n entries) (λ was left told is. journaled-between n entries was left is)
@@ -92,40 +86,28 @@ record IsWhole (n : ℕ) (entries : List Entry) (was mid : List ℕ) : Type 0 wh
   has : HasJournal n entries mid
   room : 9 ≤ length mid
 
-whole : (n : ℕ) (entries : List Entry) (octets : List ℕ) (place : ℕ) (old mid : Chip) → place ≡ journal_place n → AreJournal n entries octets → HasRoom n old → IfSome old.image (λ image. length image ≡ old.still.size)
-    → LeavesOf (IsJournaled n) old mid → mid.image ≡ option_map (λ image. overwrite image place octets) old.image → Becomes (IsWhole n entries) old.image mid.image
-whole n entries octets place old mid begins are room sized moments written after told =
+whole : (n : ℕ) (entries : List Entry) (old mid : Chip) → HasRoom n old → IfSome old.image (λ image. length image ≡ old.still.size) → LeavesOf (IsJournaled n) old mid → IfSome mid.image (HasJournal n entries)
+    → Becomes (IsWhole n entries) old.image mid.image
+whole n entries old mid room sized moments written after told =
     let j = leaves-last (IsJournaled n) old mid moments after told in
-    let from = map-some (λ image. overwrite image place octets) old.image after (sym written ∙ told) in
-    let same : from.0 ≡ j.0 = same_Some from.0 j.0 (sym from.1 ∙ j.1) in
-    let is : after ≡ overwrite j.0 (journal_place n) octets = from.2 ∙ ap (λ (was : List ℕ). overwrite was place octets) same ∙ ap (λ (place : ℕ). overwrite j.0 place octets) begins in
     let long = long-enough n old j.0 room sized j.1 in
     let journaled = j.2 in
-    let rest = journaled.rest in (
-      j.0,
-      j.1,
-      record {
-        journaled = journaled;
-        has = subst (λ (image : List ℕ). HasJournal n entries image) (sym is) (journal-there n entries j.0 octets long are);
-        room = omega (arith, rest.size);
-      },
-    )
+    let rest = journaled.rest in
+    (j.0, j.1, record { journaled = journaled; has = at-told (HasJournal n entries) mid.image after told written; room = omega (arith, rest.size) })
 
 -- and then its gate is opened
-pub commit-second : (n : ℕ) (entries : List Entry) (octets : List ℕ) (place : ℕ) (old mid new : Chip) (gate : List ℕ) → gate ≡ 1 ∷ [] → mid.still ≡ old.still → place ≡ journal_place n → AreJournal n entries octets → HasRoom n old
-    → IfSome old.image (λ image. length image ≡ old.still.size) → LeavesOf (IsJournaled n) old mid → mid.image ≡ option_map (λ image. overwrite image place octets) old.image
-    → IfSome mid.past (λ past. length past ≡ mid.clock) → Writes 8 gate mid new → LeavesOf (IsBetweenDirectories n entries) old new
-commit-second n entries octets place old mid new gate is still begins are room sized moments written clocked w =
-    leaves-then old mid new (IsWhole n entries) (λ was left. IsTorn was 8 (length gate) left) (IsBetweenDirectories n entries) still (whole n entries octets place old mid begins are room sized moments written)
+pub commit-second : (n : ℕ) (entries : List Entry) (old mid new : Chip) (gate : List ℕ) → gate ≡ 1 ∷ [] → mid.still ≡ old.still → HasRoom n old → IfSome old.image (λ image. length image ≡ old.still.size) → LeavesOf (IsJournaled n) old mid
+    → IfSome mid.image (HasJournal n entries) → IfSome mid.past (λ past. length past ≡ mid.clock) → Writes 8 gate mid new → LeavesOf (IsBetweenDirectories n entries) old new
+commit-second n entries old mid new gate is still room sized moments written clocked w =
+    leaves-then old mid new (IsWhole n entries) (λ was left. IsTorn was 8 (length gate) left) (IsBetweenDirectories n entries) still (whole n entries old mid room sized moments written)
     (λ was mid left done torn. opening-between n entries was mid left done.journaled done.has done.room (subst (λ (gate : List ℕ). IsTorn mid 8 (length gate) left) is torn))
     (commit-first n entries old mid moments) (write-leaves 8 gate mid new clocked w)
 
-pub opened-there : (n : ℕ) (entries : List Entry) (octets : List ℕ) (place : ℕ) (old mid new : Chip) (gate : List ℕ) → gate ≡ 1 ∷ [] → place ≡ journal_place n → AreJournal n entries octets → HasRoom n old
-    → IfSome old.image (λ image. length image ≡ old.still.size) → LeavesOf (IsJournaled n) old mid → mid.image ≡ option_map (λ image. overwrite image place octets) old.image
-    → new.image ≡ option_map (λ image. overwrite image 8 gate) mid.image → Becomes (IsOpened n entries) old.image new.image
-opened-there n entries octets place old mid new gate is begins are room sized moments written last after told =
+pub opened-there : (n : ℕ) (entries : List Entry) (old mid new : Chip) (gate : List ℕ) → gate ≡ 1 ∷ [] → HasRoom n old → IfSome old.image (λ image. length image ≡ old.still.size) → LeavesOf (IsJournaled n) old mid
+    → IfSome mid.image (HasJournal n entries) → new.image ≡ option_map (λ image. overwrite image 8 gate) mid.image → Becomes (IsOpened n entries) old.image new.image
+opened-there n entries old mid new gate is room sized moments written last after told =
     let between = map-some (λ image. overwrite image 8 gate) mid.image after (sym last ∙ told) in
-    let from = whole n entries octets place old mid begins are room sized moments written between.0 between.1 in
+    let from = whole n entries old mid room sized moments written between.0 between.1 in
     let done = from.2 in (
       from.0,
       from.1,

@@ -1,3 +1,4 @@
+pub mod Begun
 pub mod Committing
 pub mod Entries
 pub mod Finishing

@@ -1,8 +1,7 @@
 -- Entries pushed at the end of a journal's octets, and taken from them.
-use Rattle.std.proofs.Common.{◌≡◌, ℕ, zero, suc, ◌+◌, ◌*◌, ◌/◌, ◌%◌, ◌≤◌, List, [], ◌∷◌, ◌++◌, length, get_or, sym, refl, ap, ap₂, ◌∙◌, arith, append_assoc, add-zero, suc-add, get_or-append-add, length-append, Option, Some, None, IfSome, slice_range, false}
+use Rattle.std.proofs.Common.{◌≡◌, ℕ, zero, suc, ◌+◌, ◌*◌, ◌/◌, ◌%◌, ◌≤◌, List, [], ◌∷◌, ◌++◌, length, get_or, sym, refl, ap, ap₂, ◌∙◌, arith, append_assoc, add-zero, suc-add, get_or-append-add, length-append, Option, Some, None, IfSome, slice_range}
 use Rattle.std.proofs.lemmas.List.{get_or_append_left}
-use Rattle.std.specs.List.{list_all}
-use Rattle.eeprom.specs.StoreOf.{number_at, entries_at, two_octets, is_entry}
+use Rattle.eeprom.specs.StoreOf.{number_at, entries_at, two_octets}
 use Rattle.eeprom.specs.declared.entry.Entry.{Entry}
 use Rattle.journal.proofs.Outside.{Alike, alike-read, number-alike, entries-alike}
 
@@ -50,28 +49,34 @@ entries-pushed octets count slot first entries size before =
     ∙ entries-more all 2 count
     ∙ ap₂ (λ (es : List Entry) (entry : Entry). es ++ entry ∷ []) front (ap₂ (λ (slot first : ℕ). record { slot = slot; first = first }) a b)
 
-pub entries-grown : (octets mid last : List ℕ) (count slot first : ℕ) (entries : List Entry) → mid ≡ octets ++ two_octets slot → last ≡ mid ++ two_octets first → length octets ≡ 2 + 4 * count → entries_at octets 2 count ≡ entries
-    → entries_at last 2 (count + 1) ≡ entries ++ record { slot = slot; first = first } ∷ []
-entries-grown octets mid last count slot first entries a b size before =
-    ap (λ (xs : List ℕ). entries_at xs 2 (count + 1)) (b ∙ ap (λ (xs : List ℕ). xs ++ two_octets first) a) ∙ entries-pushed octets count slot first entries size before
-
 -- one entry more is taken
-pub taken-more : (octets : List ℕ) (entries : List Entry) (i : ℕ) (entry : Entry) → entries ≡ entries_at octets 0 i → entry.slot ≡ number_at octets (4 * i) → entry.first ≡ number_at octets (4 * i + 2)
-    → entries ++ entry ∷ [] ≡ entries_at octets 0 (i + 1)
-taken-more octets entries i entry before slot first =
+pub taken-more : (octets : List ℕ) (old entries : List Entry) (i : ℕ) (entry : Entry) → entries ≡ old ++ entries_at octets 0 i → entry.slot ≡ number_at octets (4 * i) → entry.first ≡ number_at octets (4 * i + 2)
+    → entries ++ entry ∷ [] ≡ old ++ entries_at octets 0 (i + 1)
+taken-more octets old entries i entry before slot first =
     let place : 0 + 4 * i ≡ 4 * i = omega arith in
     ap₂ (λ (es : List Entry) (entry : Entry). es ++ entry ∷ []) before (ap₂ (λ (slot first : ℕ). record { slot = slot; first = first }) slot first)
-    ∙ ap (λ (place : ℕ). entries_at octets 0 i ++ record { slot = number_at octets place; first = number_at octets (place + 2) } ∷ []) (sym place)
-    ∙ sym (entries-more octets 0 i)
+    ∙ append_assoc old (entries_at octets 0 i) _
+    ∙ ap (λ (es : List Entry). old ++ es) (ap (λ (place : ℕ). entries_at octets 0 i ++ record { slot = number_at octets place; first = number_at octets (place + 2) } ∷ []) (sym place) ∙ sym (entries-more octets 0 i))
 
 -- the entries of octets that were read
-pub entries-read : (image : Option (List ℕ)) (octets : List ℕ) (entries : List Entry) (place count size : ℕ) → size ≡ 4 * count → IfSome image (λ image. octets ≡ slice_range image place (place + size)) → entries ≡ entries_at octets 0 count
-    → IfSome image (λ image. entries ≡ entries_at image place count)
-entries-read None octets entries place count size is read taken = tt
-entries-read (Some image) octets entries place count size is read taken =
-    taken ∙ entries-alike octets image 0 place count (λ k i j below e e'. alike-read image octets place size read k i j (omega arith) e e')
+pub more-read : (image : Option (List ℕ)) (octets : List ℕ) (old entries : List Entry) (at place count size : ℕ) → IfSome image (λ image. octets ≡ slice_range image at (at + size)) → at ≡ place → size ≡ 4 * count → entries ≡ old ++ entries_at octets 0 count
+    → IfSome image (λ image. entries ≡ old ++ entries_at image place count)
+more-read None octets old entries at place count size read begins is taken = tt
+more-read (Some image) octets old entries at place count size read begins is taken =
+    taken
+    ∙ ap (λ (es : List Entry). old ++ es) (entries-alike octets image 0 at count (λ k i j below e e'. alike-read image octets at size read k i j (omega arith) e e'))
+    ∙ ap (λ (place : ℕ). old ++ entries_at image place count) begins
 
-pub entries-refused : (image : Option (List ℕ)) (n : ℕ) (entries : List Entry) (place count : ℕ) → IfSome image (λ image. entries ≡ entries_at image place count) → list_all (is_entry n) entries ≡ false
-    → IfSome image (λ image. list_all (is_entry n) (entries_at image place count) ≡ false)
-entries-refused None n entries place count is none = tt
-entries-refused (Some image) n entries place count is none = ap (λ (es : List Entry). list_all (is_entry n) es) (sym is) ∙ none
+entries-split : (octets : List ℕ) (place before behind : ℕ) → entries_at octets place (before + behind) ≡ entries_at octets place before ++ entries_at octets (place + 4 * before) behind
+entries-split octets place zero behind = ap₂ (λ (place count : ℕ). entries_at octets place count) (omega arith) (omega arith)
+entries-split octets place (suc before) behind =
+    let next : (place + 4) + 4 * before ≡ place + 4 * suc before = omega arith in
+    rw (suc-add) (ap (λ (rest : List Entry). record { slot = number_at octets place; first = number_at octets (place + 2) } ∷ rest) (entries-split octets (place + 4) before behind
+    ∙ ap (λ (from : ℕ). entries_at octets (place + 4) before ++ entries_at octets from behind) next))
+
+-- some more of them
+pub read-on : (image : Option (List ℕ)) (place few : ℕ) (entries more : List Entry) → IfSome image (λ image. entries ≡ entries_at image place (length entries))
+    → IfSome image (λ image. more ≡ entries ++ entries_at image (place + 4 * length entries) few) → length more ≡ length entries + few → IfSome image (λ image. more ≡ entries_at image place (length more))
+read-on None place few entries more before read count = tt
+read-on (Some image) place few entries more before read count =
+    read ∙ ap (λ (es : List Entry). es ++ entries_at image (place + 4 * length entries) few) before ∙ sym (entries-split image place (length entries) few) ∙ ap (λ (count : ℕ). entries_at image place count) (sym count)

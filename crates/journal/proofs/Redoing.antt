@@ -2,32 +2,33 @@
 use Rattle.std.proofs.Common.{◌≡◌, ◌⊎◌, inl, inr, ℕ, ◌+◌, ◌*◌, ◌%◌, ◌<◌, ◌≤◌, ◌==◌, Bool, true, false, if◌then◌else◌, List, [], ◌∷◌, length, slice_index, Option, Some, None, sym, refl, ap, ap₂, ◌∙◌, arith, add-zero}
 use Rattle.std.proofs.lemmas.Bool.{cases_Bool}
 use Rattle.eeprom.specs.Image.{overwrite, IsTorn}
-use Rattle.eeprom.specs.StoreOf.{journal_place, journal, is_in_range, is_gate_open, written_directory, with_entries, directory, image_size}
+use Rattle.eeprom.specs.StoreOf.{journal_place, journal, is_in_range, is_gate_open, written_directory, with_entries, directory}
 use Rattle.eeprom.specs.declared.entry.Entry.{Entry}
 use Rattle.eeprom.proofs.Places.{length-numbers_at, get_or-numbers_at}
 use Rattle.eeprom.proofs.Regions.{get-inside}
 use Rattle.journal.specs.Journal.{KeepsRest, IsReplayed, KeepsDirectory}
-use Rattle.journal.specs.Redo.{HasJournal, IsOpenWith, IsRewritten, IsRun, Numbers, names, place_of}
+use Rattle.journal.specs.Redo.{HasJournal, IsOpenWith, IsRewritten, IsRun, names}
+use Rattle.journal.specs.Run.{Numbers, SameOutside, place_of}
 use Rattle.journal.proofs.Entries.{with-agree}
-use Rattle.journal.proofs.Outside.{SameOutside, torn-outside, torn-whole, alike-before, alike-behind, number-alike, journal-stays, range-stays, gate-stays, directory-behind, rest-gate, rest-body, rest-then}
+use Rattle.journal.proofs.Outside.{torn-outside, torn-whole, take-less, drop-more, alike-before, alike-behind, number-alike, journal-stays, range-stays, gate-stays, directory-behind, rest-gate, rest-body, rest-then}
 
--- a torn write of a run
-pub rewritten-torn : (n : ℕ) (entries : List Entry) (run : Numbers) (was left : List ℕ) → image_size n ≤ length was → IsRun n entries run → IsTorn was (place_of run) (length run.octets) left → IsRewritten n entries was left
-rewritten-torn n entries run was left room is torn =
+-- nothing but the octets of a run is other
+pub rewritten-run : (n : ℕ) (entries : List Entry) (run : Numbers) (was left : List ℕ) → IsRun n entries run → SameOutside (place_of run) (place_of run + length run.octets) was left → IsRewritten n entries was left
+rewritten-run n entries run was left is same =
     let size : length run.octets ≡ 2 * is.count = is.size in
-    let within : run.slot + is.count ≤ n = is.within in
-    let whole = torn-outside was left (32 + 2 * run.slot) (length run.octets) 32 (32 + 2 * n) (omega arith) (omega arith) (omega arith) torn in
-    let exact = torn-outside was left (32 + 2 * run.slot) (length run.octets) (32 + 2 * run.slot) (32 + 2 * (run.slot + is.count)) (omega arith) (omega arith) (omega arith) torn in
+    let within : run.index + is.count ≤ n = is.within in
+    let from = place_of run in
+    let to = place_of run + length run.octets in
     record {
-      size = whole.size;
-      before = whole.before;
-      behind = whole.behind;
+      size = same.size;
+      before = take-less from to 32 left was (omega arith) same;
+      behind = drop-more from to (32 + 2 * n) left was (omega arith) same;
       others = λ slot inside other.
           get_or-numbers_at left 32 n slot 0 inside
-          ∙ elim (apart slot run.slot is.count) [
-            | inl before ↦ number-alike left was (32 + 2 * slot) (32 + 2 * slot) (alike-before (32 + 2 * run.slot) (32 + 2 * (run.slot + is.count)) (32 + 2 * slot) 2 left was (omega arith) exact)
+          ∙ elim (apart slot run.index is.count) [
+            | inl before ↦ number-alike left was (32 + 2 * slot) (32 + 2 * slot) (alike-before from to (32 + 2 * slot) 2 left was (omega arith) same)
             | inr more ↦ elim more [
-              | inl behind ↦ number-alike left was (32 + 2 * slot) (32 + 2 * slot) (alike-behind (32 + 2 * run.slot) (32 + 2 * (run.slot + is.count)) (32 + 2 * slot) 2 left was (omega arith) exact)
+              | inl behind ↦ number-alike left was (32 + 2 * slot) (32 + 2 * slot) (alike-behind from to (32 + 2 * slot) 2 left was (omega arith) same)
               | inr named ↦ absurd (both (names entries slot) (is.named slot named.0 named.1) other)
             ]
           ]
@@ -40,9 +41,6 @@ rewritten-torn n entries run was left room is torn =
     both : (b : Bool) → b ≡ true → b ≡ false → ⊥
     both b t f = cc
 
-pub rewritten-none : (n : ℕ) (entries : List Entry) (was : List ℕ) → IsRewritten n entries was was
-rewritten-none n entries was = record { size = refl; before = refl; behind = refl; others = λ slot inside other. refl }
-
 pub rewritten-then : (n : ℕ) (entries : List Entry) (was mid left : List ℕ) → IsRewritten n entries was mid → IsRewritten n entries mid left → IsRewritten n entries was left
 rewritten-then n entries was mid left first second = record {
   size = second.size ∙ first.size;
@@ -51,7 +49,7 @@ rewritten-then n entries was mid left first second = record {
   others = λ slot inside other. second.others slot inside other ∙ first.others slot inside other;
 }
 
-same-outside : (n : ℕ) (entries : List Entry) (was left : List ℕ) → IsRewritten n entries was left → SameOutside 32 (32 + 2 * n) left was
+same-outside : (n : ℕ) (entries : List Entry) (was left : List ℕ) → IsRewritten n entries was left → SameOutside 32 (32 + 2 * n) was left
 same-outside n entries was left is = record { size = is.size; before = is.before; behind = is.behind }
 
 rewritten-rest : (n : ℕ) (entries : List Entry) (was left : List ℕ) → IsRewritten n entries was left → KeepsRest n was left
@@ -79,7 +77,7 @@ pub directory-closed : (n : ℕ) (image written : List ℕ) → is_gate_open ima
 directory-closed n image written closed is =
     ap (λ (gate : Bool). in_force gate (is_in_range image n) (journal image n) (written_directory image n)) closed ∙ ap Some is
 
-pub journal-kept : (from to n : ℕ) (entries : List Entry) (left was : List ℕ) → to ≤ journal_place n → SameOutside from to left was → HasJournal n entries was → HasJournal n entries left
+pub journal-kept : (from to n : ℕ) (entries : List Entry) (left was : List ℕ) → to ≤ journal_place n → SameOutside from to was left → HasJournal n entries was → HasJournal n entries left
 journal-kept from to n entries left was before same has = record {
   range = range-stays from to n left was before same ∙ has.range;
   listed = journal-stays from to n left was before same ∙ has.listed;

@@ -12,19 +12,25 @@ use Rattle.eeprom.specs.StoreOf.{image_size, is_entry, two_octets, written_direc
 use Rattle.eeprom.specs.declared.entry.Entry.{Entry}
 use Rattle.eeprom.proofs.Overwrite.{map-some, overwrite-behind}
 use Rattle.eeprom.proofs.Regions.{length-overwrite}
-use Rattle.journal.specs.Redo.{IsRewritten, IsRun, Numbers, names, place_of, promised}
+use Rattle.journal.specs.Redo.{IsRewritten, IsRun, names}
+use Rattle.journal.specs.Run.{Numbers, SameOutside, place_of, promised}
 use Rattle.journal.proofs.Entries.{number-set, with-more}
 use Rattle.eeprom.proofs.Leaves.{at-told, write-leaves, leaves-weaker, leaves-then, leaves-last}
-use Rattle.journal.proofs.Redoing.{rewritten-torn, rewritten-then}
+use Rattle.journal.proofs.Redoing.{rewritten-run, rewritten-then}
+use Rattle.journal.proofs.Outside.{torn-outside}
 
 -- a run that is written
-pub run-leaves : (n : ℕ) (entries : List Entry) (run : Numbers) (octets : List ℕ) (old new : Chip) → octets ≡ run.octets → IfSome old.past (λ past. length past ≡ old.clock) → IfSome old.image (λ image. length image ≡ old.still.size)
-    → Writes (place_of run) octets old new → HasRoom n old → IsRun n entries run → LeavesOf (IsRewritten n entries) old new
-run-leaves n entries run octets old new same clocked sized w room is =
-    leaves-weaker old new (λ was left. IsTorn was (place_of run) (length octets) left) (IsRewritten n entries)
-    (λ was left told torn. rewritten-torn n entries run was left (omega (arith, at-told (λ image. length image ≡ old.still.size) old.image was told sized, room)) is
+pub run-leaves : (run : Numbers) (octets : List ℕ) (from to : ℕ) (old new : Chip) → octets ≡ run.octets → IfSome old.past (λ past. length past ≡ old.clock) → IfSome old.image (λ image. length image ≡ old.still.size)
+    → Writes (place_of run) octets old new → place_of run + length run.octets ≤ old.still.size → from ≤ place_of run → place_of run + length run.octets ≤ to → LeavesOf (SameOutside from to) old new
+run-leaves run octets from to old new same clocked sized w room after before =
+    leaves-weaker old new (λ was left. IsTorn was (place_of run) (length octets) left) (SameOutside from to)
+    (λ was left told torn. torn-outside was left (place_of run) (length run.octets) from to after before (omega (arith, at-told (λ image. length image ≡ old.still.size) old.image was told sized))
     (subst (λ (xs : List ℕ). IsTorn was (place_of run) (length xs) left) same torn))
     (write-leaves (place_of run) octets old new clocked w)
+
+pub rewritten-leaves-run : (n : ℕ) (entries : List Entry) (run : Numbers) (old new : Chip) → IsRun n entries run → LeavesOf (SameOutside (place_of run) (place_of run + length run.octets)) old new → LeavesOf (IsRewritten n entries) old new
+rewritten-leaves-run n entries run old new is =
+    leaves-weaker old new (SameOutside (place_of run) (place_of run + length run.octets)) (IsRewritten n entries) (λ was left told same. rewritten-run n entries run was left is same)
 
 -- one run after another
 pub rewritten-leaves : (n : ℕ) (entries : List Entry) (old mid new : Chip) → mid.still ≡ old.still → LeavesOf (IsRewritten n entries) old mid → LeavesOf (IsRewritten n entries) mid new → LeavesOf (IsRewritten n entries) old new
@@ -45,19 +51,19 @@ pub entry-named : (entries : List Entry) (i : ℕ) (d : Entry) → i < length en
 entry-named entries i d inside = list_any_at (λ entry. entry.slot == (get_or entries i d).slot) entries i d inside (eq-eqb (get_or entries i d).slot (get_or entries i d).slot refl)
 
 -- a run with one number more
-pub run-pushed : (n : ℕ) (entries : List Entry) (run pushed : Numbers) (slot first : ℕ) → IsRun n entries run → length run.octets + 2 * run.slot ≡ 2 * slot → slot < n → names entries slot ≡ true
-    → pushed.octets ≡ run.octets ++ two_octets first → pushed.slot ≡ run.slot → IsRun n entries pushed
+pub run-pushed : (n : ℕ) (entries : List Entry) (run pushed : Numbers) (slot first : ℕ) → IsRun n entries run → length run.octets + 2 * run.index ≡ 2 * slot → slot < n → names entries slot ≡ true
+    → pushed.octets ≡ run.octets ++ two_octets first → pushed.index ≡ run.index → IsRun n entries pushed
 run-pushed n entries run pushed slot first is next within named items same =
     let size = is.size in
     let more : length pushed.octets ≡ length run.octets + 2 = ap (λ (xs : List ℕ). length xs) items ∙ length-append run.octets (two_octets first) in
-    let last : run.slot + is.count ≡ slot = omega arith in
+    let last : run.index + is.count ≡ slot = omega arith in
     record {
       count = is.count + 1;
       size = omega arith;
       within = omega arith;
       named = λ k from below. elim (cases_Bool (slot == k)) [
         | inl t ↦ subst (λ (k : ℕ). names entries k ≡ true) (eqb-true slot k t) named
-        | inr f ↦ is.named k (omega arith) (below-last k slot (run.slot + is.count) f last (omega arith))
+        | inr f ↦ is.named k (omega arith) (below-last k slot (run.index + is.count) f last (omega arith))
       ];
     }
   where
@@ -65,29 +71,29 @@ run-pushed n entries run pushed slot first is next within named items same =
     below-last k slot end f last below = grind arith
 
 -- the image that it promises
-promised-pushed : (run pushed : Numbers) (slot first : ℕ) (image : List ℕ) → length run.octets + 2 * run.slot ≡ 2 * slot → pushed.octets ≡ run.octets ++ two_octets first → pushed.slot ≡ run.slot
+promised-pushed : (run pushed : Numbers) (slot first : ℕ) (image : List ℕ) → length run.octets + 2 * run.index ≡ 2 * slot → pushed.octets ≡ run.octets ++ two_octets first → pushed.index ≡ run.index
     → promised pushed image ≡ overwrite (promised run image) (32 + 2 * slot) (two_octets first)
 promised-pushed run pushed slot first image next items same =
-    let place : 32 + 2 * run.slot + length run.octets ≡ 32 + 2 * slot = omega arith in
+    let place : 32 + 2 * run.index + length run.octets ≡ 32 + 2 * slot = omega arith in
     ap (λ (slot : ℕ). overwrite image (32 + 2 * slot) pushed.octets) same
-    ∙ ap (λ (octets : List ℕ). overwrite image (32 + 2 * run.slot) octets) items
-    ∙ sym (overwrite-behind image (32 + 2 * run.slot) run.octets (two_octets first))
+    ∙ ap (λ (octets : List ℕ). overwrite image (32 + 2 * run.index) octets) items
+    ∙ sym (overwrite-behind image (32 + 2 * run.index) run.octets (two_octets first))
     ∙ ap (λ (place : ℕ). overwrite (promised run image) place (two_octets first)) place
 
-pub directory-pushed : (n : ℕ) (entries : List Entry) (run pushed : Numbers) (slot first : ℕ) (image : List ℕ) → IsRun n entries run → image_size n ≤ length image → length run.octets + 2 * run.slot ≡ 2 * slot → slot < n
-    → pushed.octets ≡ run.octets ++ two_octets first → pushed.slot ≡ run.slot → written_directory (promised pushed image) n ≡ set (written_directory (promised run image) n) slot first
+pub directory-pushed : (n : ℕ) (entries : List Entry) (run pushed : Numbers) (slot first : ℕ) (image : List ℕ) → IsRun n entries run → image_size n ≤ length image → length run.octets + 2 * run.index ≡ 2 * slot → slot < n
+    → pushed.octets ≡ run.octets ++ two_octets first → pushed.index ≡ run.index → written_directory (promised pushed image) n ≡ set (written_directory (promised run image) n) slot first
 directory-pushed n entries run pushed slot first image is room next within items same =
     let size = is.size in
     let end = is.within in
-    let whole : length (promised run image) ≡ length image = length-overwrite image (32 + 2 * run.slot) run.octets (omega arith) in
+    let whole : length (promised run image) ≡ length image = length-overwrite image (32 + 2 * run.index) run.octets (omega arith) in
     ap (λ (xs : List ℕ). written_directory xs n) (promised-pushed run pushed slot first image next items same)
     ∙ number-set (promised run image) n slot first (32 + 2 * slot) within (omega arith) refl
 
 -- one entry more
 pub written-more : (n : ℕ) (entries : List Entry) (i : ℕ) (d : Entry) (run mid pushed : Numbers) (old between new : Chip) → i < length entries → list_all (is_entry n) entries ≡ true
     → IfSome new.image (λ image. length image ≡ new.still.size) → HasRoom n new
-    → IsRun n entries mid → length mid.octets + 2 * mid.slot ≡ 2 * (get_or entries i d).slot
-    → pushed.octets ≡ mid.octets ++ two_octets (get_or entries i d).first → pushed.slot ≡ mid.slot
+    → IsRun n entries mid → length mid.octets + 2 * mid.index ≡ 2 * (get_or entries i d).slot
+    → pushed.octets ≡ mid.octets ++ two_octets (get_or entries i d).first → pushed.index ≡ mid.index
     → Becomes (λ was now. written_directory (promised run now) n ≡ with_entries (take i entries) (written_directory was n)) old.image between.image
     → Becomes (λ was now. promised mid now ≡ promised run was) between.image new.image
     → Becomes (λ was now. written_directory (promised pushed now) n ≡ with_entries (take (i + 1) entries) (written_directory was n)) old.image new.image
@@ -112,13 +118,9 @@ run-done n i entries run old mid new all before last after told =
     let whole : take i entries ≡ entries = take_all i entries all in
     (a.0, a.1, ap (λ (xs : List ℕ). written_directory xs n) from.2 ∙ a.2 ∙ ap (λ (es : List Entry). with_entries es (written_directory a.0 n)) whole)
 
-pub octets-more : (old between new : Option ℕ) (waits mids pushes i : ℕ) → pushes ≡ mids + 2 → Becomes (λ before after. after + waits ≡ before + 2 * i) old between → Becomes (λ before after. after + mids ≡ before + waits) between new
-    → Becomes (λ before after. after + pushes ≡ before + 2 * (i + 1)) old new
-octets-more old between new waits mids pushes i more before now after told =
-    let b = now after told in
-    let a = before b.0 b.1 in
+pub octets-more : (old between new : Option ℕ) (waits mids pushes more before all : ℕ) → pushes ≡ mids + more → all ≡ before + more → Becomes (λ was now. now + waits ≡ was + before) old between
+    → Becomes (λ was now. now + mids ≡ was + waits) between new → Becomes (λ was now. now + pushes ≡ was + all) old new
+octets-more old between new waits mids pushes more before all longer sum now after told' told =
+    let b = after told' told in
+    let a = now b.0 b.1 in
     (a.0, a.1, omega (arith, a.2, b.2))
-
--- the numbers that are there, and those of the next slot
-pub run-next : (n : ℕ) (entries : List Entry) (run mid : Numbers) (slot : ℕ) → IsRun n entries run → ((count : ℕ) → length run.octets ≡ 2 * count → length mid.octets + 2 * mid.slot ≡ 2 * slot) → length mid.octets + 2 * mid.slot ≡ 2 * slot
-run-next n entries run mid slot is next = next is.count is.size

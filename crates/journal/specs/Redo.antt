@@ -2,9 +2,9 @@
 use Rattle.std.specs.Prelude.{◌≡◌, ℕ, ◌+◌, ◌*◌, ◌<◌, ◌≤◌, ◌==◌, Bool, true, false, List, length, take, drop, get_or, is_some, Result, OnOk}
 use Rattle.std.specs.List.{list_any}
 use Rattle.eeprom.specs.Chip.{Chip, Becomes, RisesBy, LeavesOf}
-use Rattle.eeprom.specs.Image.{overwrite}
 use Rattle.eeprom.specs.StoreOf.{header_size, journal_place, written_directory, journal, is_in_range, is_gate_open, with_entries}
 use Rattle.eeprom.specs.declared.entry.Entry.{Entry}
+use Rattle.journal.specs.Run.{Numbers}
 
 -- an entry names this slot
 abbrev pub names : List Entry → ℕ → Bool
@@ -28,25 +28,12 @@ pub record IsRewritten (n : ℕ) (entries : List Entry) (was left : List ℕ) : 
   pub behind : drop (journal_place n) left ≡ drop (journal_place n) was
   pub others : (slot : ℕ) → slot < n → names entries slot ≡ false → get_or (written_directory left n) slot 0 ≡ get_or (written_directory was n) slot 0
 
--- the numbers of neighbouring slots from this one on, in octets
-pub record Numbers : Type 0 where
-  pub slot : ℕ
-  pub octets : List ℕ
-
--- where the octets of a run go
-abbrev pub place_of : Numbers → ℕ
-place_of run = header_size + 2 * run.slot
-
--- the image once the octets of a run are written
-abbrev pub promised : Numbers → List ℕ → List ℕ
-promised run image = overwrite image (place_of run) run.octets
-
 -- the slots of a run are those of a directory, and entries name them
 pub record IsRun (n : ℕ) (entries : List Entry) (run : Numbers) : Type 0 where
   pub count : ℕ
   pub size : length run.octets ≡ 2 * count
-  pub within : run.slot + count ≤ n
-  pub named : (slot : ℕ) → run.slot ≤ slot → slot < run.slot + count → names entries slot ≡ true
+  pub within : run.index + count ≤ n
+  pub named : (slot : ℕ) → run.index ≤ slot → slot < run.index + count → names entries slot ≡ true
 
 -- The entries are written into the directory, of which at each moment nothing but the numbers of their slots may be other.
 pub record WritesEntries {E : Type 0} (n : ℕ) (entries : List Entry) (old new : Chip) (result : Result (Unit {0}) E) : Type 0 where

@@ -48,7 +48,8 @@ impl Journal {
     }
 
     /// Makes the entries of the journal those of the directory, where the gate is open, and closes the gate.
-    /// Where it is closed nothing is written.
+    /// Where it is closed nothing is written. It isn't inlined, so that the entries have their place only where a journal is replayed.
+    #[inline(never)]
     pub fn replay<B: Eeprom>(bench: &mut B, cells: u16) -> Result<(), ReplayRefusal>
         requires many { cells ≤ most_cells }
         requires room { HasRoom cells (B.chip bench.old) }

@@ -1,15 +1,22 @@
 // The journal of an image, read where it is in range.
-ghost use Rattle.std.specs.Prelude.{◌≡◌, ◌+◌, ◌*◌, ◌≤◌, ◌<◌, true, false, length, IfSome, IfOk, OnOk, IsErrOf};
+ghost use Rattle.std.specs.Prelude.{◌≡◌, ◌+◌, ◌*◌, ◌≤◌, ◌<◌, ◌++◌, true, false, length, IfSome, IfOk, OnOk, IsErrOf};
 ghost use Rattle.std.specs.List.{list_all};
 ghost use Rattle.eeprom.specs.Chip.{Becomes, RisesAtMost, RisesBy};
+ghost use Rattle.eeprom.specs.Fault.{each_error};
 ghost use Rattle.eeprom.specs.Frame.{HasRoom, Reads};
 ghost use Rattle.eeprom.specs.StoreOf.{most_cells, is_entry, is_in_range, number_at, entries_at, journal_place};
+ghost use Rattle.journal.specs.declared.reading.TheConstants.{MOST_AT_ONCE};
 ghost use Rattle.journal.specs.Faults.{is_replay_fault};
 ghost use Rattle.journal.specs.Redo.{HasJournal};
 
 use crate::ReplayRefusal;
-use crate::octets::{Entries, LARGEST_ENTRIES, are_entries, take_entries};
-use eeprom::{Eeprom, journal_place};
+use crate::octets::{ENTRY_SIZE, Entries, are_entries, push_entries};
+use eeprom::{Eeprom, EepromFault, journal_place};
+
+/// How many entries are read at once at most, and how many octets these have.
+const MOST_AT_ONCE: u16 = 128;
+
+const LARGEST_PIECE: usize = ENTRY_SIZE * MOST_AT_ONCE as usize;
 
 /// Makes these the entries of the journal, where it is in range.
 pub fn read_journal<B: Eeprom>(
@@ -64,15 +71,43 @@ fn read_entries<B: Eeprom>(
     ensures range { OnOk result (list_all (is_entry cells) entries.new.items ≡ true) }
     ensures bad_journal { IsErrOf result ReplayRefusal.BadJournal
         → IfSome (B.chip bench.old).image (λ image. list_all (is_entry cells) (entries_at image (journal_place cells + 2) count) ≡ false) }
-    ensures octets_read { Becomes (RisesBy (4 * count)) (B.octets_read bench.old) (B.octets_read bench.new) }
+    ensures octets_read { Becomes (RisesAtMost (4 * count)) (B.octets_read bench.old) (B.octets_read bench.new) }
     ensures frame { Reads is_replay_fault B.chip B.faults bench.old bench.new result }
 {
-    let mut octets = [0; LARGEST_ENTRIES];
-    let octets = &mut octets[..4 * count as usize];
-    bench.read(journal_place(cells) + 2, octets)?;
-    take_entries(octets, count, entries);
+    entries.clear();
+    let mut left = count;
+    while left > 0 {
+        let few = left.min(MOST_AT_ONCE);
+        read_more(bench, cells, few, entries)?;
+        left -= few;
+    }
     if !are_entries(entries.as_slice(), cells) {
         return Err(ReplayRefusal::BadJournal);
     }
+    Ok(())
+}
+
+/// Reads so many entries more of the journal.
+fn read_more<B: Eeprom>(
+    bench: &mut B,
+    cells: u16,
+    count: u16,
+    entries: &mut Entries,
+) -> Result<(), EepromFault>
+    requires many { cells ≤ most_cells }
+    requires few { count ≤ MOST_AT_ONCE }
+    requires there { length entries.old.items + count ≤ cells }
+    requires room { HasRoom cells (B.chip bench.old) }
+    ensures entries { OnOk result (IfSome (B.chip bench.old).image (λ image. entries.new.items
+        ≡ entries.old.items ++ entries_at image (journal_place cells + 2 + 4 * length entries.old.items) count)) }
+    ensures count { OnOk result (length entries.new.items ≡ length entries.old.items + count) }
+    ensures octets_read { Becomes (RisesBy (4 * count)) (B.octets_read bench.old) (B.octets_read bench.new) }
+    ensures frame { Reads each_error B.chip B.faults bench.old bench.new result }
+{
+    let place = journal_place(cells) + 2 + ENTRY_SIZE * entries.len();
+    let mut octets = [0; LARGEST_PIECE];
+    let octets = &mut octets[..ENTRY_SIZE * count as usize];
+    bench.read(place, octets)?;
+    push_entries(octets, count, entries);
     Ok(())
 }

@@ -1,5 +1,5 @@
 // What an open gate asks for: the entries of the journal are made those of the directory, and then the gate is closed.
-ghost use Rattle.std.specs.Prelude.{◌≡◌, ◌+◌, ◌*◌, ◌≤◌, [], IsTrue, length, is_some, IfSome, OnOk};
+ghost use Rattle.std.specs.Prelude.{◌≡◌, ◌+◌, ◌*◌, ◌≤◌, IsTrue, length, is_some, IfSome, OnOk};
 ghost use Rattle.std.specs.List.{list_all};
 ghost use Rattle.eeprom.specs.Chip.{Becomes, RisesBy, LeavesOf};
 ghost use Rattle.eeprom.specs.Fault.{Counts};
@@ -8,10 +8,8 @@ ghost use Rattle.eeprom.specs.StoreOf.{most_cells, is_entry};
 ghost use Rattle.journal.specs.Journal.{IsReplayed, KeepsDirectory};
 ghost use Rattle.journal.specs.Redo.{IsOpenWith, WritesEntries};
 
-use crate::octets::{FEW_ENTRIES, SMALL_RUN};
 use crate::run::Run;
-use arrayvec::ArrayVec;
-use eeprom::{Eeprom, EepromFault, Entry, GATE_PLACE, LARGEST_DIRECTORY};
+use eeprom::{Eeprom, EepromFault, Entry, GATE_PLACE};
 
 /// The octet of a closed gate.
 const CLOSED: [u8; 1] = [0];
@@ -45,32 +43,7 @@ fn write_entries<B: Eeprom>(bench: &mut B, cells: u16, entries: &[Entry]) -> Res
     ensures octets_read { B.octets_read bench.new ≡ B.octets_read bench.old }
     ensures cause { Counts (B.faults bench.old) (B.faults bench.new) result }
 {
-    if entries.len() <= FEW_ENTRIES {
-        let octets = ArrayVec::<u8, SMALL_RUN>::new();
-        write_runs(bench, cells, entries, &mut Run::new(octets))
-    } else {
-        let octets = ArrayVec::<u8, LARGEST_DIRECTORY>::new();
-        write_runs(bench, cells, entries, &mut Run::new(octets))
-    }
-}
-
-/// Writes the entries into the directory, one run after another, of which this is the first.
-fn write_runs<B: Eeprom, const CAP: usize>(
-    bench: &mut B,
-    cells: u16,
-    entries: &[Entry],
-    run: &mut Run<CAP>,
-) -> Result<(), EepromFault>
-    requires many { cells ≤ most_cells }
-    requires fits { 2 * length entries.now ≤ CAP }
-    requires entries { IsTrue (list_all (is_entry cells) entries.now) }
-    requires first { run.old.slot ≡ 0 }
-    requires none { run.old.octets ≡ [] }
-    requires room { HasRoom cells (B.chip bench.old) }
-    ensures entries { WritesEntries cells entries.now (B.chip bench.old) (B.chip bench.new) result }
-    ensures octets_read { B.octets_read bench.new ≡ B.octets_read bench.old }
-    ensures cause { Counts (B.faults bench.old) (B.faults bench.new) result }
-{
+    let mut run = Run::new(0);
     for entry in entries {
         run.go_to(bench, entry.slot)?;
         run.push(entry.first);

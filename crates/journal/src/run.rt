@@ -1,41 +1,47 @@
-// The numbers of neighbouring slots, which are written together.
-ghost use Rattle.std.specs.Prelude.{◌≡◌, ◌+◌, ◌*◌, ◌≤◌, ℕ, List, [], ◌++◌, length, is_some, option_map, OnOk};
+// Neighbouring numbers behind the header, which are written together: those of slots, and those of the journal behind them.
+ghost use Rattle.std.specs.Prelude.{◌≡◌, ◌⊎◌, ◌+◌, ◌*◌, ◌≤◌, ℕ, List, [], ◌++◌, length, is_some, option_map, OnOk};
 ghost use Rattle.eeprom.specs.Chip.{Becomes, RisesBy, LeavesOf};
 ghost use Rattle.eeprom.specs.Fault.{Counts};
-ghost use Rattle.eeprom.specs.Frame.{HasRoom};
 ghost use Rattle.eeprom.specs.StoreOf.{two_octets};
 ghost use Rattle.eeprom.specs.declared.entry.Entry.{Entry};
-ghost use Rattle.journal.specs.Redo.{IsRun, IsRewritten, place_of, promised};
+ghost use Rattle.journal.specs.declared.run.TheConstants.{LARGEST_RUN};
+ghost use Rattle.journal.specs.Redo.{IsRun};
+ghost use Rattle.journal.specs.Run.{SameOutside, place_of, promised};
 
-use crate::octets::push_number;
+use crate::octets::ENTRY_SIZE;
 use arrayvec::ArrayVec;
 use eeprom::{Eeprom, EepromFault, HEADER_SIZE};
 use std::marker::Model;
 
-/// A run of numbers, with room for so many octets.
+/// How many octets are written together at most.
+const LARGEST_RUN: usize = 512;
+
+/// A run of numbers.
 #[derive(Drop)]
-pub struct Run<const CAP: usize> {
-    /// The slot whose number comes first.
-    slot: u16,
-    octets: ArrayVec<u8, CAP>,
+pub struct Run {
+    /// Where the first of them stands: that of the first slot is at 0.
+    index: u16,
+    octets: ArrayVec<u8, LARGEST_RUN>,
 }
 
-impl<const CAP: usize> Model for Run<CAP> {
-    ghost use Rattle.journal.specs.Redo.{Numbers};
+impl Model for Run {
+    ghost use Rattle.journal.specs.Run.{Numbers};
 
     ghost Value = { Numbers };
 
-    ghost view = { λ run. record { slot = run.slot; octets = run.octets.items } };
+    ghost view = { λ run. record { index = run.index; octets = run.octets.items } };
 }
 
-impl<const CAP: usize> Run<CAP> {
-    /// A run without numbers over this buffer, which is to begin with the first slot.
-    pub fn new(octets: ArrayVec<u8, CAP>) -> Run<CAP>
-        requires { octets.items ≡ [] }
-        ensures slot { result.slot ≡ 0 }
+impl Run {
+    /// A run without numbers, which is to begin there.
+    pub fn new(index: u16) -> Run
+        ensures index { result.index ≡ index }
         ensures empty { result.octets ≡ [] }
     {
-        Run { slot: 0, octets }
+        Run {
+            index,
+            octets: ArrayVec::new(),
+        }
     }
 
     /// Writes the numbers, where there are any.
@@ -43,8 +49,8 @@ impl<const CAP: usize> Run<CAP> {
         requires room { place_of self.now + length self.now.octets ≤ (B.chip bench.old).still.size }
         ensures written { OnOk result ((B.chip bench.new).image ≡ option_map (promised self.now) (B.chip bench.old).image) }
         ensures still { (B.chip bench.new).still ≡ (B.chip bench.old).still }
-        ensures moments { (n : ℕ) (entries : List Entry) → HasRoom n (B.chip bench.old) → IsRun n entries self.now
-            → LeavesOf (IsRewritten n entries) (B.chip bench.old) (B.chip bench.new) }
+        ensures moments { (from to : ℕ) → from ≤ place_of self.now → place_of self.now + length self.now.octets ≤ to
+            → LeavesOf (SameOutside from to) (B.chip bench.old) (B.chip bench.new) }
         ensures octets_written { OnOk result (Becomes (RisesBy (length self.now.octets)) (B.chip bench.old).written (B.chip bench.new).written) }
         ensures octets_read { B.octets_read bench.new ≡ B.octets_read bench.old }
         ensures cause { Counts (B.faults bench.old) (B.faults bench.new) result }
@@ -52,41 +58,47 @@ impl<const CAP: usize> Run<CAP> {
         if self.octets.is_empty() {
             return Ok(());
         }
-        let place = HEADER_SIZE + 2 * self.slot as usize;
+        let place = HEADER_SIZE + 2 * self.index as usize;
         bench.write(place, self.octets.as_slice())
     }
 
-    /// Makes this the next slot: nothing is done where it is, and else the numbers are written and a new run begins.
-    pub fn go_to<B: Eeprom>(&mut self, bench: &mut B, slot: u16) -> Result<(), EepromFault>
+    /// Goes where the next number stands, and makes room for an entry: nothing is done where both are so already, and else the numbers
+    /// are written and a new run begins.
+    pub fn go_to<B: Eeprom>(&mut self, bench: &mut B, index: u16) -> Result<(), EepromFault>
         requires room { place_of self.old + length self.old.octets ≤ (B.chip bench.old).still.size }
-        ensures next { OnOk result ((count : ℕ) → length self.old.octets ≡ 2 * count → length self.new.octets + 2 * self.new.slot ≡ 2 * slot) }
-        ensures shorter { OnOk result (length self.new.octets ≤ length self.old.octets) }
-        ensures run { OnOk result ((n : ℕ) (entries : List Entry) → slot ≤ n → IsRun n entries self.old → IsRun n entries self.new) }
+        ensures next { OnOk result (length self.new.octets + 2 * self.new.index ≡ 2 * index) }
+        ensures free { OnOk result (length self.new.octets + 4 ≤ LARGEST_RUN) }
+        ensures begins { OnOk result ((self.new.index ≡ self.old.index) ⊎ (self.new.index ≡ index)) }
+        ensures run { OnOk result ((n : ℕ) (entries : List Entry) → index ≤ n → IsRun n entries self.old → IsRun n entries self.new) }
         ensures promised { OnOk result (Becomes (λ was now. promised self.new now ≡ promised self.old was) (B.chip bench.old).image (B.chip bench.new).image) }
         ensures told { OnOk result (is_some (B.chip bench.new).image ≡ is_some (B.chip bench.old).image) }
         ensures still { (B.chip bench.new).still ≡ (B.chip bench.old).still }
-        ensures moments { (n : ℕ) (entries : List Entry) → HasRoom n (B.chip bench.old) → IsRun n entries self.old
-            → LeavesOf (IsRewritten n entries) (B.chip bench.old) (B.chip bench.new) }
+        ensures moments { (from to : ℕ) → from ≤ place_of self.old → place_of self.old + length self.old.octets ≤ to
+            → LeavesOf (SameOutside from to) (B.chip bench.old) (B.chip bench.new) }
         ensures octets_written { OnOk result (Becomes (λ before after. after + length self.new.octets ≡ before + length self.old.octets)
             (B.chip bench.old).written (B.chip bench.new).written) }
         ensures octets_read { B.octets_read bench.new ≡ B.octets_read bench.old }
         ensures cause { Counts (B.faults bench.old) (B.faults bench.new) result }
     {
-        if self.slot as usize + self.octets.len() / 2 == slot as usize {
+        let size = self.octets.len();
+        let is_next = 2 * self.index as usize + size == 2 * index as usize;
+        if is_next && size + ENTRY_SIZE <= LARGEST_RUN {
             return Ok(());
         }
         self.write(bench)?;
-        self.slot = slot;
+        self.index = index;
         self.octets.clear();
         Ok(())
     }
 
-    /// Makes this the number of the next slot.
-    pub fn push(&mut self, first: u16)
-        requires free { length self.old.octets + 2 ≤ CAP }
-        ensures pushed { self.new.octets ≡ self.old.octets ++ two_octets first }
-        ensures slot { self.new.slot ≡ self.old.slot }
+    /// Makes this the next number.
+    pub fn push(&mut self, number: u16)
+        requires free { length self.old.octets + 2 ≤ LARGEST_RUN }
+        ensures pushed { self.new.octets ≡ self.old.octets ++ two_octets number }
+        ensures index { self.new.index ≡ self.old.index }
     {
-        push_number(&mut self.octets, first);
+        let [high, low] = number.to_be_bytes();
+        self.octets.push(high);
+        self.octets.push(low);
     }
 }

@@ -1,6 +1,7 @@
 -- What an EEPROM in memory tells that keeps a log of its writes and a text.
-use Rattle.std.specs.Prelude.{◌≡◌, ℕ, ◌<◌, ◌^◌, suc, List, [], ◌∷◌, ◌++◌, length, Option, Some, None}
+use Rattle.std.specs.Prelude.{◌≡◌, ℕ, ◌-◌, ◌<◌, ◌^◌, suc, List, [], ◌∷◌, ◌++◌, length, min, vec_len, vec_capacity, Option, Some, None}
 use Rattle.eeprom.specs.Chip.{Chip, Stretch, giving}
+use Rattle.log_bench.specs.Log as logs
 use Rattle.log_bench.specs.LogBench as log
 use Rattle.log_bench.specs.LogBench.{LogsWrite}
 use Rattle.log_bench.specs.Writes.{Write}
@@ -20,6 +21,13 @@ first_of b = log.first_of b.log
 abbrev pub text_of : LineBench → List ℕ
 text_of b = b.text.items
 
+-- how often a write found no memory for the log, and how often a piece of text found none
+abbrev pub faults_of : LineBench → ℕ
+faults_of b = b.faults
+
+abbrev pub text_faults_of : LineBench → ℕ
+text_faults_of b = b.text_faults
+
 -- What it tells of this: a line feed goes out, that of the line which is asked, and the log is begun meanwhile; the text comes behind it.
 abbrev pub given_line : List ℕ → List ℕ
 given_line text = 0x0A ∷ text
@@ -37,10 +45,24 @@ line_chip image first writes marks text sink_faults = record {
 }
 
 abbrev pub chip_of : LineBench → Chip
-chip_of b = line_chip (image_of b) (first_of b) (writes_of b) b.marks.items (text_of b) b.text_faults
+chip_of b = line_chip (image_of b) (first_of b) (writes_of b) b.marks.items (text_of b) (text_faults_of b)
 
 abbrev pub given_of : LineBench → Option (List ℕ)
 given_of b = Some (given_line (text_of b))
+
+-- how many more writes, how many octets of them, and how many octets of text find room without more memory
+abbrev pub room_for_writes : LineBench → ℕ
+room_for_writes b = min (logs.room_for_writes b.log.log) (vec_capacity b.marks - vec_len b.marks)
+
+abbrev pub room_for_octets : LineBench → ℕ
+room_for_octets b = logs.room_for_octets b.log.log
+
+abbrev pub room_for_text : LineBench → ℕ
+room_for_text b = vec_capacity b.text - vec_len b.text
+
+-- how many octets were read isn't told
+abbrev pub octets_read_of : LineBench → Option ℕ
+octets_read_of b = None
 
 -- the size fits a usize
 pub small_of : (b : LineBench) → (chip_of b).still.size < 2 ^ 64
@@ -52,7 +74,7 @@ pub record LeavesLog (old new : LineBench) : Type 0 where
   pub text : text_of new ≡ text_of old ++ more
   pub log : new.log ≡ old.log
   pub marks : new.marks.items ≡ old.marks.items
-  pub faults : new.faults ≡ old.faults
+  pub faults : faults_of new ≡ faults_of old
 
 -- the image has these octets at this place, the log has the write as its last, and so much text had been given
 pub record Enters (at : ℕ) (octets : List ℕ) (old new : LineBench) : Type 0 where
@@ -64,3 +86,8 @@ pub record IsAsBefore (old new : LineBench) : Type 0 where
   pub image : image_of new ≡ image_of old
   pub writes : writes_of new ≡ writes_of old
   pub marks : new.marks.items ≡ old.marks.items
+
+-- both counts of faults are as they were
+pub record KeepsFaults (old new : LineBench) : Type 0 where
+  pub writes : faults_of new ≡ faults_of old
+  pub texts : text_faults_of new ≡ text_faults_of old

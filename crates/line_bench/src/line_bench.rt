@@ -22,8 +22,8 @@ pub struct LineBench {
 }
 
 impl LineBench {
-    ghost use Rattle.std.specs.Prelude.{◌≡◌, ◌+◌, ◌≤◌, [], length, slice_get, option_map, IfOk, OnOk, OnErr};
-    ghost use Rattle.line_bench.specs.LineBench.{Enters, IsAsBefore, image_of, text_of, writes_of};
+    ghost use Rattle.std.specs.Prelude.{◌≡◌, ◌+◌, ◌≤◌, [], length, slice_get, option_map, vec_capacity, IsOk, IfOk, OnOk, OnErr};
+    ghost use Rattle.line_bench.specs.LineBench.{Enters, IsAsBefore, KeepsFaults, faults_of, image_of, room_for_octets, room_for_text, room_for_writes, text_faults_of, text_of, writes_of};
 
     /// Begins a log with room for so many writes, and for so many octets of them. There is no text, nor room for one.
     pub fn new(
@@ -34,6 +34,8 @@ impl LineBench {
     ) -> Result<LineBench, AllocError>
         ensures image { IfOk result (λ bench. image_of bench ≡ image.items) }
         ensures none { IfOk result (λ bench. (writes_of bench ≡ []) × (text_of bench ≡ [])) }
+        ensures faults { IfOk result (λ bench. (faults_of bench ≡ 0) × (text_faults_of bench ≡ 0)) }
+        ensures room { IfOk result (λ bench. (room_for_writes bench ≡ writes) × (room_for_octets bench ≡ octets)) }
     {
         Ok(LineBench {
             log: LogBench::new(alloc, image, writes, octets)?,
@@ -76,6 +78,8 @@ impl LineBench {
     pub fn begin(&mut self)
         ensures image { image_of self.new ≡ image_of self.old }
         ensures none { (writes_of self.new ≡ []) × (text_of self.new ≡ []) }
+        ensures faults { KeepsFaults self.old self.new }
+        ensures room { room_for_text self.new ≡ room_for_text self.old + length (text_of self.old) }
     {
         self.log.begin();
         self.marks.clear();
@@ -86,6 +90,8 @@ impl LineBench {
     pub fn begin_in(&mut self, room: Vec<u8, Heap>)
         ensures image { image_of self.new ≡ image_of self.old }
         ensures none { (writes_of self.new ≡ []) × (text_of self.new ≡ []) }
+        ensures faults { KeepsFaults self.old self.new }
+        ensures room { room_for_text self.new ≡ vec_capacity room }
     {
         let mut text = room;
         text.clear();
@@ -99,7 +105,9 @@ impl LineBench {
         requires { at + length from.now ≤ length (image_of self.old) }
         ensures done { OnOk result (Enters at from.now self.old self.new) }
         ensures wanting { OnErr result (IsAsBefore self.old self.new) }
-        ensures rest { (self.new.text ≡ self.old.text) × (self.new.faults ≡ self.old.faults) × (self.new.text_faults ≡ self.old.text_faults) }
+        ensures fits { 1 ≤ room_for_writes self.old → length from.now ≤ room_for_octets self.old → IsOk result }
+        ensures text { self.new.text ≡ self.old.text }
+        ensures faults { KeepsFaults self.old self.new }
     {
         if self.marks.reserve(1).is_err() {
             return Err(EepromFault);
@@ -111,25 +119,44 @@ impl LineBench {
 }
 
 impl Eeprom for LineBench {
-    ghost use Rattle.std.specs.Prelude.{None, refl};
-    ghost use Rattle.line_bench.specs.LineBench.{chip_of, small_of};
+    ghost use Rattle.std.specs.Prelude.{◌≡◌, ◌+◌, ◌≤◌, length, slice_range, option_map, IfSome, OnOk, OnErr, IsOk, refl};
+    ghost use Rattle.eeprom.specs.Chip.{Becomes, RisesBy, Writes};
+    ghost use Rattle.eeprom.specs.Fault.{Counts, each_error};
+    ghost use Rattle.eeprom.specs.Frame.{Reads};
+    ghost use Rattle.eeprom.specs.Image.{overwrite};
+    ghost use Rattle.line_bench.specs.LineBench.{Enters, IsAsBefore, chip_of, faults_of, octets_read_of, room_for_octets, room_for_writes, small_of};
 
     ghost chip = { chip_of };
 
-    ghost octets_read = { λ bench. None };
+    ghost octets_read = { octets_read_of };
 
-    ghost faults = { λ bench. bench.faults };
+    ghost faults = { faults_of };
 
     fn size(&self) -> usize {
         self.log.image().len()
     }
 
-    fn read(&mut self, at: usize, into: &mut [u8]) -> Result<(), EepromFault> {
+    fn read(&mut self, at: usize, into: &mut [u8]) -> Result<(), EepromFault>
+        requires { at + length into.old ≤ (chip_of self.old).still.size }
+        ensures succeeds { IsOk result }
+        ensures octets { OnOk result (IfSome (chip_of self.old).image (λ image. into.new ≡ slice_range image at (at + length into.old))) }
+        ensures frame { Reads each_error chip_of faults_of self.old self.new result }
+        ensures read { Becomes (RisesBy (length into.old)) (octets_read_of self.old) (octets_read_of self.new) }
+    {
         into.copy_from_slice(&self.log.image()[at..at + into.len()]);
         Ok(())
     }
 
-    fn write(&mut self, at: usize, from: &[u8]) -> Result<(), EepromFault> {
+    fn write(&mut self, at: usize, from: &[u8]) -> Result<(), EepromFault>
+        requires { at + length from.now ≤ (chip_of self.old).still.size }
+        ensures done { OnOk result (Enters at from.now self.old self.new) }
+        ensures wanting { OnErr result (IsAsBefore self.old self.new) }
+        ensures fits { 1 ≤ room_for_writes self.old → length from.now ≤ room_for_octets self.old → IsOk result }
+        ensures written { OnOk result ((chip_of self.new).image ≡ option_map (λ image. overwrite image at from.now) (chip_of self.old).image) }
+        ensures writes { Writes at from.now (chip_of self.old) (chip_of self.new) }
+        ensures read { octets_read_of self.new ≡ octets_read_of self.old }
+        ensures cause { Counts (faults_of self.old) (faults_of self.new) result }
+    {
         match self.enter(at, from) {
             Ok(()) => Ok(()),
             Err(EepromFault) => {
@@ -147,15 +174,25 @@ impl Eeprom for LineBench {
 }
 
 impl Outlet for LineBench {
-    ghost use Rattle.line_bench.specs.LineBench.{LeavesLog, given_of};
+    ghost use Rattle.std.specs.Prelude.{◌≡◌, ◌≤◌, ℕ, length, IsOk, OnOk, OnErr};
+    ghost use Rattle.eeprom.specs.Fault.{Counts};
+    ghost use Rattle.eeprom.specs.Output.{Follows};
+    ghost use Rattle.line_bench.specs.LineBench.{LeavesLog, given_of, room_for_text, text_faults_of, text_of};
 
     ghost given = { given_of };
 
-    ghost sink_faults = { λ bench. bench.text_faults };
+    ghost sink_faults = { text_faults_of };
 
     ghost leaves = { LeavesLog };
 
-    fn give(&mut self, octets: &[u8]) -> Result<(), SinkFault> {
+    fn give(&mut self, octets: &[u8]) -> Result<(), SinkFault>
+        ensures wanting { OnErr result (text_of self.new ≡ text_of self.old) }
+        ensures fits { length octets.now ≤ room_for_text self.old → IsOk result }
+        ensures ok { OnOk result (Follows (length octets.now) octets.now (given_of self.old) (given_of self.new)) }
+        ensures err { OnErr result ((count : ℕ) × Follows count octets.now (given_of self.old) (given_of self.new)) }
+        ensures rest { LeavesLog self.old self.new }
+        ensures cause { Counts (text_faults_of self.old) (text_faults_of self.new) result }
+    {
         if self.text.extend_from_slice(octets).is_ok() {
             return Ok(());
         }

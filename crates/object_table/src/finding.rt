@@ -53,7 +53,7 @@ pub fn find_stamp<B: Eeprom>(
     ensures found { IfOk result (λ found. IfSome (slots_of store.now side (B.chip bench.old))
         (λ slots. Rises object_kind.key (listed object_kind slots) → option_map (λ found. found.value) found ≡ object_stamped (listed object_kind slots) stamp)) }
     ensures octets_read { IfOk result (λ _. IfSome (slots_of store.now side (B.chip bench.old))
-        (λ slots. Becomes (RisesAtMost (cell_size * cells_marked object_kind slots)) (B.octets_read bench.old) (B.octets_read bench.new))) }
+        (λ slots. Becomes (RisesAtMost (cell_size * cells_tagged object_kind (Some (by.Stamp stamp)) slots)) (B.octets_read bench.old) (B.octets_read bench.new))) }
     ensures rises { IfOk result (λ _. NeverFalls (slots_of store.now side (B.chip bench.old)) (B.octets_read bench.old) (B.octets_read bench.new)) }
     ensures frame { Reads each_error B.chip B.faults bench.old bench.new result }
 {
@@ -76,7 +76,7 @@ pub fn find_stamp_into<B: Eeprom>(
     ensures found { IfOk result (λ _. IfSome (slots_of store.now side (B.chip bench.old))
         (λ slots. Rises object_kind.key (listed object_kind slots) → place.new ≡ object_stamped (listed object_kind slots) stamp)) }
     ensures octets_read { IfOk result (λ _. IfSome (slots_of store.now side (B.chip bench.old))
-        (λ slots. Becomes (RisesAtMost (cell_size * cells_marked object_kind slots)) (B.octets_read bench.old) (B.octets_read bench.new))) }
+        (λ slots. Becomes (RisesAtMost (cell_size * cells_tagged object_kind (Some (by.Stamp stamp)) slots)) (B.octets_read bench.old) (B.octets_read bench.new))) }
     ensures rises { IfOk result (λ _. NeverFalls (slots_of store.now side (B.chip bench.old)) (B.octets_read bench.old) (B.octets_read bench.new)) }
     ensures frame { Reads each_error B.chip B.faults bench.old bench.new result }
 {
@@ -101,8 +101,6 @@ pub fn find_name<B: Eeprom>(
     ensures found { IfOk result (λ found. IfSome (slots_of store.now side (B.chip bench.old))
         (λ slots. count_by (has_name name) (listed object_kind slots) ≤ 1 → option_map (λ found. found.value) found ≡ object_named (listed object_kind slots) name)) }
     ensures octets_read { IfOk result (λ _. IfSome (slots_of store.now side (B.chip bench.old))
-        (λ slots. Becomes (RisesAtMost (cell_size * cells_marked object_kind slots)) (B.octets_read bench.old) (B.octets_read bench.new))) }
-    ensures tagged_read { IfOk result (λ _. IfSome (slots_of store.now side (B.chip bench.old))
         (λ slots. Becomes (RisesAtMost (cell_size * cells_tagged object_kind (Some (by.Name (tags.name_tag name))) slots)) (B.octets_read bench.old) (B.octets_read bench.new))) }
     ensures rises { IfOk result (λ _. NeverFalls (slots_of store.now side (B.chip bench.old)) (B.octets_read bench.old) (B.octets_read bench.new)) }
     ensures frame { Reads each_error B.chip B.faults bench.old bench.new result }
@@ -131,8 +129,6 @@ pub fn find_name_into<B: Eeprom>(
     ensures found { IfOk result (λ _. IfSome (slots_of store.now side (B.chip bench.old))
         (λ slots. count_by (has_name name) (listed object_kind slots) ≤ 1 → place.new ≡ object_named (listed object_kind slots) name)) }
     ensures octets_read { IfOk result (λ _. IfSome (slots_of store.now side (B.chip bench.old))
-        (λ slots. Becomes (RisesAtMost (cell_size * cells_marked object_kind slots)) (B.octets_read bench.old) (B.octets_read bench.new))) }
-    ensures tagged_read { IfOk result (λ _. IfSome (slots_of store.now side (B.chip bench.old))
         (λ slots. Becomes (RisesAtMost (cell_size * cells_tagged object_kind (Some (by.Name (tags.name_tag name))) slots)) (B.octets_read bench.old) (B.octets_read bench.new))) }
     ensures rises { IfOk result (λ _. NeverFalls (slots_of store.now side (B.chip bench.old)) (B.octets_read bench.old) (B.octets_read bench.new)) }
     ensures frame { Reads each_error B.chip B.faults bench.old bench.new result }

@@ -4,6 +4,7 @@
 mod closing;
 pub mod laws;
 mod plan;
+mod row_octets;
 mod stage;
 mod step;
 mod words;

@@ -1,5 +1,6 @@
 // Which command comes next.
 ghost use Rattle.std.specs.Prelude.{◌≡◌, ◌≤◌, ◌++◌, OnOk, IfErr, Ok, Err, unwrap_or, nat_le, nat_lt, length, option_copied, true, if◌then◌else◌};
+ghost use Rattle.scql_base.specs.Row.{row_from};
 ghost use Rattle.scql_base.specs.declared.row.TheConstants.Row.{LARGEST};
 ghost use Rattle.scql_base.specs.declared.operation.Operation.TheVariants.{DeclareCursor, FetchNext};
 ghost use Rattle.script.specs.Commands as commands;
@@ -13,11 +14,11 @@ ghost use Rattle.script.specs.declared.statement.Statement.TheVariants.{Blank, R
 ghost use Rattle.planner.specs.Planned as planned;
 ghost use Rattle.planner.specs.Planned.{IfSent, Turn};
 
+use crate::row_octets::RowOctets;
 use crate::stage::Stage;
 use crate::words::{closing_of, has_more, is_end, is_refusal};
 use crate::{Closing, Step};
 use apdu::Reply;
-use arrayvec::ArrayVec;
 use scql_base::{Command, Conditions, Name, NameList, Operation, PackedChanges, Row, StatusWord};
 use script::{ScriptFault, Statement};
 use std::marker::Model;
@@ -34,9 +35,7 @@ pub struct Plan {
     stage: Stage,
     rows: u32,
     responses: u8,
-    row: ArrayVec<u8, { Row::LARGEST }>,
-    // Where the octets are read as a row.
-    values: Row,
+    row: RowOctets,
 }
 
 impl Model for Plan {
@@ -47,7 +46,7 @@ impl Model for Plan {
 
     ghost Value = { Planned };
 
-    ghost view = { λ p. record { statement = if p.kept then p.statement else Blank; channel = p.channel; own = p.own; stage = p.stage; rows = p.rows; responses = p.responses; row = p.row.items } };
+    ghost view = { λ p. record { statement = if p.kept then p.statement else Blank; channel = p.channel; own = p.own; stage = p.stage; rows = p.rows; responses = p.responses; row = p.row } };
 
     ghost invariant = { λ p. CanBeSent p.channel (if p.kept then p.statement else Blank) };
 }
@@ -73,8 +72,7 @@ impl Plan {
             stage: Stage::Start,
             rows: 0,
             responses: 0,
-            row: ArrayVec::new(),
-            values: Row::new(),
+            row: RowOctets::new(),
         }
     }
 
@@ -95,7 +93,7 @@ impl Plan {
         self.stage = Stage::Start;
         self.rows = 0;
         self.responses = 0;
-        self.row.clear();
+        self.row.put_behind(0, &[]);
         read
     }
 
@@ -138,6 +136,13 @@ impl Plan {
         ensures { result.now ≡ self.now.row }
     {
         self.row.as_slice()
+    }
+
+    /// The row that these octets are, where they are one.
+    pub fn row(&self) -> Option<&Row>
+        ensures { option_copied result ≡ row_from self.now.row }
+    {
+        self.row.row()
     }
 
     fn go_on(&mut self, word: StatusWord, body: &[u8], step: &mut Step)
@@ -286,14 +291,12 @@ impl Plan {
         let before = if self.responses == 0 {
             0
         } else {
-            self.row.len()
+            self.row.as_slice().len()
         };
         if before + body.len() > Row::LARGEST {
             return self.cut(step);
         }
-        self.row.truncate(before);
-        let fits = self.row.try_extend_from_slice(body).is_ok();
-        prove!(fits);
+        self.row.put_behind(before, body);
         if has_more(word) {
             self.ask_for_rest(step)
         } else {
@@ -316,7 +319,7 @@ impl Plan {
     fn end_row(&mut self, step: &mut Step)
         ensures { planned.ends_row self.old ≡ record { plan = self.new; step = step.new } }
     {
-        if !is_row(self.row.as_slice(), &mut self.values) {
+        if !self.row.is_row() {
             return self.cut(step);
         }
         if self.rows >= Plan::MOST_ROWS {
@@ -460,11 +463,4 @@ fn cursor_over(object: &Name, columns: &NameList, conditions: &Conditions) -> Op
         columns: columns.copy(),
         conditions: conditions.copy(),
     }
-}
-
-// Whether octets are a row of at least one value.
-fn is_row(octets: &[u8], values: &mut Row) -> bool
-    ensures { result ≡ planned.is_row octets.now }
-{
-    values.read_into(octets).is_some() && values.len() > 0
 }

@@ -1,5 +1,5 @@
 -- The bits of numbers, and of the privileges that grants give.
-use Rattle.std.proofs.Common.{◌≡◌, ℕ, max, zero, suc, ◌<◌, ◌^◌, ◌==◌, ◌||◌, Bool, true, false, List, [], ◌∷◌, Option, Some, None, refl, sym, ap, ◌∙◌, arith}
+use Rattle.std.proofs.Common.{◌≡◌, ℕ, max, zero, suc, ◌<◌, ◌^◌, ◌==◌, ◌&&◌, ◌||◌, Bool, true, false, List, [], ◌∷◌, Option, Some, None, refl, sym, ap, subst, ◌∙◌, arith}
 use Rattle.std.specs.Prelude.{IfSome}
 use Rattle.std.specs.Int.{bit_at}
 use Rattle.std.specs.Int.Bits.{bit_or}
@@ -12,7 +12,11 @@ use Rattle.catalog_codec.specs.Catalog.{grant_kind}
 use Rattle.record_table.specs.Listed.{in_slots, listed}
 use Rattle.record_table.proofs.ListedSearches.{any-listed}
 use Rattle.record_table.proofs.Scan.{IsOfLeft}
-use Rattle.privilege_table.specs.Granted.{AreHeld, gives_bit}
+use Rattle.record_store.specs.Tags.{pair_tag}
+use Rattle.record_store.specs.declared.tags.Tag.TheVariants.{Name}
+use Rattle.record_table.specs.TagLaws.{paired-grants}
+use Rattle.record_table.specs.Tagged.{AreTagged}
+use Rattle.privilege_table.specs.Granted.{AreGranted, AreHeld, gives_bit, has_pair_bit, is_pair}
 
 one-max : (a b : ℕ) → a < 2 → b < 2 → (max a b == 1) ≡ (a == 1 || b == 1)
 one-max zero zero small few = refl
@@ -48,12 +52,46 @@ or-false true = refl
 or-false false = refl
 
 -- with none left the bits so far are all
-pub held-listed : (object grantee bits : ℕ) (slots : Option Slots)
-    → ((i : ℕ) → IfSome slots (λ slots. any_left bits (gives_bit object grantee (2 ^ i)) i [] ≡ list_any (gives_bit object grantee (2 ^ i)) (in_slots grant_kind slots)))
-    → IfSome slots (λ slots. AreHeld object grantee (listed grant_kind slots) bits)
-held-listed object grantee bits None left = tt
-held-listed object grantee bits (Some slots) left = λ i.
-    sym (or-false (has_bit (2 ^ i) bits)) ∙ (left i ∙ any-listed grant_kind (gives_bit object grantee (2 ^ i)) slots)
+pub granted-listed : (object grantee bits : ℕ) (slots : Option Slots)
+    → ((i : ℕ) → IfSome slots (λ slots. any_left bits (has_pair_bit object grantee (2 ^ i)) i [] ≡ list_any (has_pair_bit object grantee (2 ^ i)) (in_slots grant_kind slots)))
+    → IfSome slots (λ slots. AreGranted object grantee (listed grant_kind slots) bits)
+granted-listed object grantee bits None left = tt
+granted-listed object grantee bits (Some slots) left = λ i.
+    sym (or-false (has_bit (2 ^ i) bits)) ∙ (left i ∙ any-listed grant_kind (has_pair_bit object grantee (2 ^ i)) slots)
+
+-- a grant to another gives nothing
+pub any_left-skips : (object grantee bits i : ℕ) (x : Grant) (rest : List Grant) → is_pair object grantee x ≡ false → any_left bits (has_pair_bit object grantee (2 ^ i)) i (x ∷ rest) ≡ any_left bits (has_pair_bit object grantee (2 ^ i)) i rest
+any_left-skips object grantee bits i x rest other = rw other refl
+
+-- the tag of an object and a user
+pub paired-tag : (object grantee tag : ℕ) → tag ≡ pair_tag object grantee → AreTagged grant_kind (is_pair object grantee) (Some (Name tag))
+paired-tag object grantee tag is = subst (λ (tag : ℕ). AreTagged grant_kind (is_pair object grantee) (Some (Name tag))) (sym is) (paired-grants object grantee)
+
+-- a grant gives a user a bit exactly where it gives it to PUBLIC or to the user
+gives-either : (on public own has : Bool) → on && (public || own) && has ≡ (on && public) && has || (on && own) && has
+gives-either false public own has = refl
+gives-either true true true true = refl
+gives-either true true true false = refl
+gives-either true true false true = refl
+gives-either true true false false = refl
+gives-either true false own has = refl
+
+or-swap : (a b c d : Bool) → (a || b) || (c || d) ≡ (a || c) || (b || d)
+or-swap true b c d = refl
+or-swap false true true d = refl
+or-swap false true false d = refl
+or-swap false false c d = refl
+
+any-either : (object grantee bit : ℕ) (grants : List Grant) → list_any (gives_bit object grantee bit) grants ≡ (list_any (has_pair_bit object 0 bit) grants || list_any (has_pair_bit object grantee bit) grants)
+any-either object grantee bit [] = refl
+any-either object grantee bit (g ∷ grants) =
+    rw (gives-either (g.object == object) (g.grantee == 0) (g.grantee == grantee) (has_bit bit g.privileges), any-either object grantee bit grants)
+    (or-swap (has_pair_bit object 0 bit g) (has_pair_bit object grantee bit g) (list_any (has_pair_bit object 0 bit) grants) (list_any (has_pair_bit object grantee bit) grants))
+
+pub held-both : (object grantee public own : ℕ) (slots : Option Slots) → IfSome slots (λ slots. AreGranted object 0 (listed grant_kind slots) public) → IfSome slots (λ slots. AreGranted object grantee (listed grant_kind slots) own)
+    → IfSome slots (λ slots. AreHeld object grantee (listed grant_kind slots) (bit_or public own))
+held-both object grantee public own None to_all to_one = tt
+held-both object grantee public own (Some slots) to_all to_one = λ i. rw (has_bit-or public own i, to_all i, to_one i) (sym (any-either object grantee (2 ^ i) (listed grant_kind slots)))
 
 -- with all left the bits so far are none
 pub any_left-none : (gives : Grant → Bool) (i : ℕ) (slots : Option Slots) → IfSome slots (IsOfLeft grant_kind (λ slots. list_any gives (in_slots grant_kind slots)) (any_left 0 gives i) 0)

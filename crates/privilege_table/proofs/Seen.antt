@@ -1,5 +1,5 @@
 -- What a store tells of rights is what the database that it holds has.
-use Rattle.std.proofs.Common.{◌≡◌, ℕ, ◌≤◌, ◌&&◌, Bool, true, false, not, List, [], ◌∷◌, map, count_by, Option, None, refl, lit≤, sym, ap, subst, ◌∙◌, arith, inl, inr}
+use Rattle.std.proofs.Common.{◌≡◌, ℕ, ◌≤◌, ◌&&◌, Bool, true, false, not, List, [], ◌∷◌, map, count_by, Option, Some, None, refl, lit≤, sym, ap, subst, ◌∙◌, arith, inl, inr}
 use Rattle.std.specs.Prelude.{IfSome}
 use Rattle.std.specs.List.{list_any, find}
 use Rattle.std.specs.Str.{bytes_eq}
@@ -19,9 +19,10 @@ use Rattle.scql_model.specs.Database.{Database, IsValid, are_different}
 use Rattle.scql_model.specs.Rights.{all_privileges, appears, has_bit, holds, seen_named}
 use Rattle.catalog_codec.specs.Catalog.{grant_kind, object_kind}
 use Rattle.object_table.specs.Named.{has_name, object_named}
-use Rattle.record_table.specs.Listed.{listed, slots_of}
+use Rattle.record_table.specs.Listed.{in_slots, listed, slots_of}
+use Rattle.record_table.proofs.ReadingCosts.{ReadsCells}
 use Rattle.record_table.specs.Making.{IsHeld}
-use Rattle.privilege_table.specs.Granted.{AreHeld, gives_bit}
+use Rattle.privilege_table.specs.Granted.{AreHeld, cells_granted, cells_granted_on, gives_bit}
 use Rattle.privilege_table.specs.Rights.{AreRights, privilege_bit}
 use Rattle.privilege_table.specs.declared.rights.Privilege.{Privilege}
 use Rattle.privilege_table.specs.declared.rights.Privilege.TheVariants.{Select, Insert, Update, Delete}
@@ -145,3 +146,9 @@ pub seen-held : (store : Held) (side : Side) (chip : Chip) (db : Database) (acto
     → IfSome (slots_of store side chip) (IsOfName name found) → option_filter (appears db actor) found ≡ seen_named db actor name
 seen-held store side chip db actor name found held said =
     ap (option_filter (appears db actor)) (named-held store side chip db name found held said) ∙ sym (seen-named db actor name held.valid)
+
+-- what is read of the grants on the object that was found
+pub found-granted : (actor : Actor) (name : List ℕ) (o : Object) (slots : Option Slots) (a b : Option ℕ) → IfSome slots (λ slots. Some o ≡ find (has_name name) (in_slots object_kind slots))
+    → ReadsCells (cells_granted o.stamp (actor_stamp actor)) slots a b → ReadsCells (λ slots. cells_granted_on actor (find (has_name name) (in_slots object_kind slots)) slots) slots a b
+found-granted actor name o None a b first read = tt
+found-granted actor name o (Some slots) a b first read = rw (sym first) read

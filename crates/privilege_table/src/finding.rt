@@ -54,7 +54,7 @@ pub fn find_stamp<B: Eeprom>(
     ensures found { IfOk result (λ found. IfSome (slots_of store.now side (B.chip bench.old))
         (λ slots. Rises grant_kind.key (listed grant_kind slots) → option_map (λ found. found.value) found ≡ find (has grant_kind.key stamp) (listed grant_kind slots))) }
     ensures octets_read { IfOk result (λ _. IfSome (slots_of store.now side (B.chip bench.old))
-        (λ slots. Becomes (RisesAtMost (cell_size * cells_marked grant_kind slots)) (B.octets_read bench.old) (B.octets_read bench.new))) }
+        (λ slots. Becomes (RisesAtMost (cell_size * cells_tagged grant_kind (Some (by.Stamp stamp)) slots)) (B.octets_read bench.old) (B.octets_read bench.new))) }
     ensures frame { Reads each_error B.chip B.faults bench.old bench.new result }
 {
     record_table::find_stamp(store, bench, side, stamp)
@@ -79,8 +79,6 @@ pub fn find_pair<B: Eeprom>(
     ensures found { IfOk result (λ found. IfSome (slots_of store.now side (B.chip bench.old))
         (λ slots. count_by (is_pair object grantee) (listed grant_kind slots) ≤ 1 → option_map (λ found. found.value) found ≡ find (is_pair object grantee) (listed grant_kind slots))) }
     ensures octets_read { IfOk result (λ _. IfSome (slots_of store.now side (B.chip bench.old))
-        (λ slots. Becomes (RisesAtMost (cell_size * cells_marked grant_kind slots)) (B.octets_read bench.old) (B.octets_read bench.new))) }
-    ensures tagged_read { IfOk result (λ _. IfSome (slots_of store.now side (B.chip bench.old))
         (λ slots. Becomes (RisesAtMost (cell_size * cells_tagged grant_kind (Some (by.Name (tags.pair_tag object grantee))) slots)) (B.octets_read bench.old) (B.octets_read bench.new))) }
     ensures frame { Reads each_error B.chip B.faults bench.old bench.new result }
 {

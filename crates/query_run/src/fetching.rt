@@ -69,8 +69,8 @@ fn add_row(plan: &Plan, step: &Step, rows: &mut Vec<Row, Heap>) -> Result<(), Al
     let Step::Row { .. } = step else {
         return Ok(());
     };
-    if let Some(row) = Row::read(plan.row_octets()) {
-        rows.push(row)?;
+    if let Some(row) = plan.row() {
+        rows.push(row.copy())?;
     }
     Ok(())
 }

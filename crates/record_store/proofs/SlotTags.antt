@@ -5,7 +5,7 @@ use Rattle.std.proofs.Math.Seq.{get_or-append_seam}
 use Rattle.std.proofs.lemmas.Option.{same_Some, none-some}
 use Rattle.eeprom.specs.StoreOf.{Slots}
 use Rattle.record_store.specs.Opening.{slot_with}
-use Rattle.record_store.specs.Tags.{Tags, SideTags, AreMade, AreTags, HasTags, tag_of, stamp_tag_of, with_tags}
+use Rattle.record_store.specs.Tags.{Tags, SideTags, AreMade, AreTags, HasTags, tag_of, stamp_of, with_tags}
 use Rattle.record_store.proofs.Sides.{same-or-other, inside-or-past}
 
 -- a record's tags are kept for its slot on the working side
@@ -19,7 +19,7 @@ pub tags-same : (tags : SideTags) (old new : Option Slots) → new ≡ old → A
 tags-same tags old new same are = subst (AreTags tags) (sym same) are
 
 pub has-with : (cells : ℕ) (tags : SideTags) (slot : ℕ) (octets : List ℕ) → HasTags cells tags → HasTags cells (with_tags tags slot octets)
-has-with cells tags slot octets has = record { names = length-set tags.names slot (tag_of octets) ∙ has.names; stamps = length-set tags.stamps slot (stamp_tag_of octets) ∙ has.stamps }
+has-with cells tags slot octets has = record { names = length-set tags.names slot (tag_of octets) ∙ has.names; stamps = length-set tags.stamps slot (stamp_of octets) ∙ has.stamps }
 
 module _ (tag : List ℕ → ℕ) where
   made-emptied : (tags : List ℕ) (slots : Slots) (slot : ℕ) → slot < length slots → AreMade tag tags (Some slots) → AreMade tag tags (Some (set slots slot None))
@@ -54,12 +54,12 @@ module _ (tag : List ℕ → ℕ) where
 
 -- a slot is emptied
 pub tags-emptied : (tags : SideTags) (slots : Slots) (slot : ℕ) → slot < length slots → AreTags tags (Some slots) → AreTags tags (Some (set slots slot None))
-tags-emptied tags slots slot here are = record { names = made-emptied tag_of tags.names slots slot here are.names; stamps = made-emptied stamp_tag_of tags.stamps slots slot here are.stamps }
+tags-emptied tags slots slot here are = record { names = made-emptied tag_of tags.names slots slot here are.names; stamps = made-emptied stamp_of tags.stamps slots slot here are.stamps }
 
 -- a record is put into a slot, and its tags are kept
 pub tags-put : (tags : SideTags) (slots : Slots) (slot : ℕ) (entry : List ℕ) → slot < length tags.names → slot < length tags.stamps → slot < length slots → AreTags tags (Some slots) → AreTags (with_tags tags slot entry) (Some (set slots slot (Some entry)))
-tags-put tags slots slot entry names stamps here are = record { names = made-put tag_of tags.names slots slot entry names here are.names; stamps = made-put stamp_tag_of tags.stamps slots slot entry stamps here are.stamps }
+tags-put tags slots slot entry names stamps here are = record { names = made-put tag_of tags.names slots slot entry names here are.names; stamps = made-put stamp_of tags.stamps slots slot entry stamps here are.stamps }
 
 -- one slot more, with its record or empty
 pub tags-more : (tags : SideTags) (slots : Slots) (count : ℕ) (entry : List ℕ) → length slots ≡ count → count < length tags.names → count < length tags.stamps → AreTags tags (Some slots) → AreTags (with_tags tags count entry) (Some (slots ++ slot_with entry ∷ []))
-tags-more tags slots count entry size names stamps are = record { names = made-more tag_of tags.names slots count entry size names are.names; stamps = made-more stamp_tag_of tags.stamps slots count entry size stamps are.stamps }
+tags-more tags slots count entry size names stamps are = record { names = made-more tag_of tags.names slots count entry size names are.names; stamps = made-more stamp_of tags.stamps slots count entry size stamps are.stamps }

@@ -11,7 +11,7 @@ use Rattle.record_store.specs.Held.{Held, StandsFor, firsts}
 use Rattle.record_store.specs.Kept.{AreTagsTouched, HasMemory, IsTouched, IsInMemory}
 use Rattle.record_store.specs.Opening.{HeldSoFar}
 use Rattle.record_store.specs.Sound.{AreBeside, HasChains, IsSound, cells_in}
-use Rattle.record_store.specs.Tags.{Tags, SideTags, HasTags, SameTagsOutside, both_sides, tag_of, stamp_tag_of, with_tags}
+use Rattle.record_store.specs.Tags.{Tags, SideTags, HasTags, SameTagsOutside, both_sides, tag_of, stamp_of, with_tags}
 use Rattle.record_store.specs.Touched.{TouchedSlots, AreSlots, SameOutside, with_touched}
 use Rattle.record_store.specs.Transaction.{begun_from}
 use Rattle.record_store.specs.Weighed.{walk, IsWeighed}
@@ -90,7 +90,7 @@ tag-put was slot octets now is = record {
   committed = ap (λ (tags : Tags). tags.committed) is;
   count = λ cells has. subst (λ (tags : Tags). HasTags cells tags.working) (sym is) (has-with cells was.working slot octets has);
   names = λ at other. ap (λ (tags : Tags). slice_index tags.working.names at) is ∙ get_or-set_other was.working.names slot at (tag_of octets) 0 other;
-  stamps = λ at other. ap (λ (tags : Tags). slice_index tags.working.stamps at) is ∙ get_or-set_other was.working.stamps slot at (stamp_tag_of octets) 0 other;
+  stamps = λ at other. ap (λ (tags : Tags). slice_index tags.working.stamps at) is ∙ get_or-set_other was.working.stamps slot at (stamp_of octets) 0 other;
 }
 
 -- both sides have the same tags

@@ -1,7 +1,9 @@
 -- What putting a record makes of a store, and taking one out of it.
 use Rattle.std.specs.Prelude.{◌≡◌, ℕ, ◌+◌, ◌<◌, ◌≤◌, Bool, List, length, Option, None, Some, IfSome, option_map, slice_set}
 use Rattle.eeprom.specs.StoreOf.{no_cell, Slots, cells_for}
+use Rattle.cell_store.specs.Marks.{StaysMarked}
 use Rattle.record_store.specs.Held.{Held, contents, StandsFor}
+use Rattle.record_store.specs.Transaction.{ChangesOnly, entries}
 use Rattle.eeprom.specs.StoreOf.{weight_of}
 use Rattle.record_store.specs.declared.side.Side.TheVariants.{Committed, Working}
 
@@ -37,3 +39,17 @@ IsFull held slot octets image = IfSome (contents held Working image) (λ slots. 
 -- a slot was emptied, and these cells are used then
 abbrev pub emptied : Held → ℕ → List Bool → Held
 emptied held slot used = record held { chains = record held.chains { used = used }; working = slice_set held.working slot no_cell }
+
+-- The record was taken out of a slot of the working side, where there was one,
+pub record Removes (slot : ℕ) (old new : Held) : Type 0 where
+  -- whatever image the store stands for,
+  pub removed : (image : List ℕ) → StandsFor old image → IsRemoved old new slot image
+  -- and the transaction, the number of cells and the limit of rows are as they were.
+  pub begun : new.begun ≡ old.begun
+  pub cells : new.chains.cells ≡ old.chains.cells
+  pub rows : new.row_limit ≡ old.row_limit
+  -- The slot alone is emptied, and cells may be freed, but none is taken.
+  pub emptied : new ≡ emptied old slot new.chains.used
+  pub fewer : StaysMarked new.chains.used old.chains.used
+  pub only : ChangesOnly slot old new
+  pub entries : entries new ≤ entries old + 1

@@ -1,4 +1,4 @@
--- By which tags a record is searched: a number of 16 bits made of its name, or of a grant's object and grantee, and another of its stamp.
+-- By what a record is searched: by a tag, which is a number of 16 bits made of its name, or of a grant's object and grantee; or by its stamp.
 use Rattle.std.specs.Prelude.{◌≡◌, ℕ, ◌+◌, ◌*◌, ◌%◌, ◌==◌, ◌||◌, Bool, false, if◌then◌else◌, List, [], ◌∷◌, take, drop, length, replicate, Option, Some, None, option_and_then, slice_index, slice_index_or, slice_set}
 use Rattle.std.specs.List.{fold}
 use Rattle.std.specs.Option.{option_map_or}
@@ -55,23 +55,20 @@ name_in octets = name_of_kind (slice_index octets 0) octets
 abbrev pub tag_of : List ℕ → ℕ
 tag_of octets = if slice_index octets 0 == grant_octet then pair_tag (number_at octets 7) (number_at octets 11) else name_tag (name_in octets)
 
--- the tag of a stamp, and of a record by its stamp, whose four octets stand behind the first: the last two are all that count
-abbrev pub stamp_tag : ℕ → ℕ
-stamp_tag stamp = stamp % 65536
+-- the stamp of a record: the number in the four octets behind the first
+abbrev pub stamp_of : List ℕ → ℕ
+stamp_of octets = 65536 * number_at octets 1 + number_at octets 3
 
-abbrev pub stamp_tag_of : List ℕ → ℕ
-stamp_tag_of octets = number_at octets 3 % 65536
-
--- a record has a tag
+-- a record has a tag, or a stamp
 abbrev pub is_tagged : Tag → List ℕ → Bool
 is_tagged (Name tag) octets = tag_of octets == tag
-is_tagged (Stamp tag) octets = stamp_tag_of octets == tag
+is_tagged (Stamp stamp) octets = stamp_of octets == stamp
 
 -- a slot has a record of a tag
 abbrev pub has_tag : Tag → Option (List ℕ) → Bool
 has_tag tag entry = option_map_or (is_tagged tag) entry false
 
--- for each slot the tag of its record, and that of the record's stamp
+-- for each slot the tag of its record, and the record's stamp
 pub record SideTags : Type 0 where
   pub names : List ℕ
   pub stamps : List ℕ
@@ -83,7 +80,7 @@ AreMade tag tags slots = (slot : ℕ) (octets : List ℕ) → option_and_then (�
 -- of each slot that has a record the tags of the record
 pub record AreTags (tags : SideTags) (slots : Option Slots) : Type 0 where
   pub names : AreMade tag_of tags.names slots
-  pub stamps : AreMade stamp_tag_of tags.stamps slots
+  pub stamps : AreMade stamp_of tags.stamps slots
 
 -- there are tags of so many slots
 pub record HasTags (cells : ℕ) (tags : SideTags) : Type 0 where
@@ -97,7 +94,7 @@ pub record SameTagsOutside (slots : List ℕ) (left was : SideTags) : Type 0 whe
 
 -- a slot's tags are those of a record
 abbrev pub with_tags : SideTags → ℕ → List ℕ → SideTags
-with_tags tags slot octets = record { names = slice_set tags.names slot (tag_of octets); stamps = slice_set tags.stamps slot (stamp_tag_of octets) }
+with_tags tags slot octets = record { names = slice_set tags.names slot (tag_of octets); stamps = slice_set tags.stamps slot (stamp_of octets) }
 
 -- none was made yet of so many slots
 abbrev pub no_tags : ℕ → SideTags

@@ -24,7 +24,7 @@ pub use opening::Opening;
 pub use refusal::{FormatRefusal, OpenRefusal, StoreRefusal};
 pub use side::Side;
 pub use store::Store;
-pub use tags::{Tag, name_tag, pair_tag, stamp_tag};
+pub use tags::{Tag, name_tag, pair_tag};
 
 #[cfg(test)]
 mod tests;

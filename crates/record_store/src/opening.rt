@@ -60,6 +60,8 @@ impl Model for Opening {
 
 impl Opening {
     /// Begins to open the store of an image. A journal behind an open gate is replayed. All memory of the store is taken here.
+    /// What only the beginning needs of the stack doesn't stand there while the slots are claimed.
+    #[inline(never)]
     pub fn new<B: Eeprom>(alloc: Heap, bench: &mut B) -> Result<Opening, OpenRefusal>
         ensures begins { IfOk result (λ opening. opening.claimed ≡ 0) }
         ensures weight { IfOk result (λ opening. opening.weight ≡ 0) }

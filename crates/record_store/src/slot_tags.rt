@@ -1,19 +1,18 @@
-// For each slot the tags of its record, on both sides.
+// For each slot the tag and the stamp of its record, on both sides.
 ghost use Rattle.std.specs.Prelude.{◌≡◌, ◌<◌, length, IfOk};
 ghost use Rattle.record_store.specs.Tags.{SameTagsOutside, both_sides, no_tags, with_tags};
 ghost use Rattle.record_store.specs.Touched.{AreSlots};
 
-use crate::slots::copy_slots;
-use crate::tags::{stamp_tag_of, tag_of};
+use crate::tags::{stamp_of, tag_of};
 use eeprom::Heap;
 use std::alloc::AllocError;
 use std::marker::Model;
 
-/// The tags of the records of all slots on one side: by name, and by stamp.
+/// The tags and the stamps of the records of all slots on one side.
 #[derive(Drop)]
 pub struct SideTags {
     names: Vec<u16, Heap>,
-    stamps: Vec<u16, Heap>,
+    stamps: Vec<u32, Heap>,
 }
 
 impl Model for SideTags {
@@ -31,7 +30,7 @@ impl SideTags {
     {
         Ok(SideTags {
             names: vec![in alloc; 0u16; size as usize]?,
-            stamps: vec![in alloc; 0u16; size as usize]?,
+            stamps: vec![in alloc; 0u32; size as usize]?,
         })
     }
 
@@ -41,7 +40,7 @@ impl SideTags {
         self.names.as_slice()
     }
 
-    pub fn stamps(&self) -> &[u16]
+    pub fn stamps(&self) -> &[u32]
         ensures { result.now ≡ self.now.stamps }
     {
         self.stamps.as_slice()
@@ -54,7 +53,7 @@ impl SideTags {
         ensures { self.new ≡ with_tags self.old slot octets.now }
     {
         self.names[slot as usize] = tag_of(octets);
-        self.stamps[slot as usize] = stamp_tag_of(octets);
+        self.stamps[slot as usize] = stamp_of(octets);
     }
 
     /// Becomes those of the other side, which differ in these slots alone.
@@ -66,8 +65,10 @@ impl SideTags {
         requires others { SameTagsOutside slots.now self.old other.now }
         ensures { self.new ≡ other.now }
     {
-        copy_slots(slots, other.names(), &mut self.names);
-        copy_slots(slots, other.stamps(), &mut self.stamps);
+        for slot in slots {
+            self.names[*slot as usize] = other.names[*slot as usize];
+            self.stamps[*slot as usize] = other.stamps[*slot as usize];
+        }
     }
 }
 

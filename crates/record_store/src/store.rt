@@ -12,9 +12,8 @@ ghost use Rattle.record_store.specs.Faults.{is_open_fault, is_put_fault};
 ghost use Rattle.record_store.specs.Recovery.{Recovers};
 ghost use Rattle.eeprom.specs.StoreOf.{weight_of};
 ghost use Rattle.record_store.specs.RowRuns.{is_row_or_none};
-ghost use Rattle.record_store.specs.Put.{IsPut, IsRemoved, IsFull, IsWithin, emptied};
+ghost use Rattle.record_store.specs.Put.{IsPut, IsFull, IsWithin, Removes};
 ghost use Rattle.record_store.specs.Slots.{steps_without};
-ghost use Rattle.cell_store.specs.Marks.{StaysMarked};
 ghost use Rattle.cell_store.specs.Reading.{ReadsRecord};
 ghost use Rattle.record_store.specs.Transaction.{begun_from, entries, ChangesOnly, IsCommitted, Commits};
 ghost use Rattle.record_store.specs.declared.side.Side.{Side};
@@ -194,8 +193,8 @@ impl Store {
         Some(self.first_octets[first as usize])
     }
 
-    /// The next slot from this one on that has a record of this tag, or none: the records of the slots before it have other tags. Nothing
-    /// is read.
+    /// The next slot from this one on that has a record of this tag or stamp, or none: the records of the slots before it have other
+    /// ones. Nothing is read.
     pub fn next_tagged(&self, side: Side, tag: Tag, slot: u16) -> u16
         ensures onward { slot ≤ result }
         ensures most { slot ≤ self.now.chains.cells → result ≤ self.now.chains.cells }
@@ -205,7 +204,7 @@ impl Store {
         let tags = self.side_tags(side);
         match tag {
             Tag::Name(tag) => next_with(tags.names(), tag, slot),
-            Tag::Stamp(tag) => next_with(tags.stamps(), tag, slot),
+            Tag::Stamp(stamp) => next_with(tags.stamps(), stamp, slot),
         }
     }
 
@@ -287,7 +286,7 @@ impl Store {
         if weight + count > self.chains.cells() {
             return Err(StoreRefusal::Full);
         }
-        self.remove(slot);
+        self.take_out(slot, weight);
         match self.chains.write_chain(bench, octets) {
             Ok(first) => {
                 self.touched.touch(slot);
@@ -310,16 +309,19 @@ impl Store {
     pub fn remove(&mut self, slot: u16)
         requires begun { IsTrue self.old.begun }
         requires slot { slot < self.old.chains.cells }
-        ensures removed { (image : List ℕ) → StandsFor self.old image → IsRemoved self.old self.new slot image }
-        ensures begun { self.new.begun ≡ self.old.begun }
-        ensures cells { self.new.chains.cells ≡ self.old.chains.cells }
-        ensures rows { self.new.row_limit ≡ self.old.row_limit }
-        ensures emptied { self.new ≡ emptied self.old slot self.new.chains.used }
-        ensures fewer { StaysMarked self.new.chains.used self.old.chains.used }
-        ensures only { ChangesOnly slot self.old self.new }
-        ensures entries { entries self.new ≤ entries self.old + 1 }
+        ensures { Removes slot self.old self.new }
     {
         let weight = self.weight_without(slot);
+        self.take_out(slot, weight);
+    }
+
+    /// The same, where it is known how many cells the working records have without that of the slot.
+    fn take_out(&mut self, slot: u16, weight: u16)
+        requires begun { IsTrue self.old.begun }
+        requires slot { slot < self.old.chains.cells }
+        requires weight { weight ≡ steps_without self.old.chains.links self.old.working slot }
+        ensures { Removes slot self.old self.new }
+    {
         self.touched.touch(slot);
         let first = self.working[slot as usize];
         if first != self.committed[slot as usize] {

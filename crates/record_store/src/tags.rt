@@ -1,5 +1,5 @@
 // The tags by which records are searched, so that few others are read.
-ghost use Rattle.std.specs.Prelude.{◌≡◌, ◌≢◌, ◌≤◌, ◌<◌, ℕ, length, slice_index, take, drop, ◌==◌};
+ghost use Rattle.std.specs.Prelude.{◌≡◌, ◌≤◌, ◌<◌, ℕ, length, slice_index, slice_index_or, take, drop, true, false};
 ghost use Rattle.std.specs.List.{list_any};
 ghost use Rattle.eeprom.specs.StoreOf.{most_cells};
 ghost use Rattle.eeprom.specs.StoreOf as image;
@@ -20,11 +20,11 @@ const GRANT: u8 = 5;
 /// So many tags are looked at together, as one piece of work of the processor.
 const TOGETHER: usize = 16;
 
-/// What a record is searched by: the tag of its name, or of a grant's object and grantee, or that of its stamp.
+/// What a record is searched by: the tag of its name, or of a grant's object and grantee; or its stamp.
 #[derive(Clone, Copy)]
 pub enum Tag {
     Name(u16),
-    Stamp(u16),
+    Stamp(u32),
 }
 
 /// The tag of a name.
@@ -60,18 +60,11 @@ pub(crate) fn tag_of(octets: &[u8]) -> u16
     name_tag(name_in(octets))
 }
 
-/// The tag of a stamp.
-pub fn stamp_tag(stamp: u32) -> u16
-    ensures { result ≡ tags.stamp_tag stamp }
+/// The stamp of a record, whose four octets stand behind the first.
+pub(crate) fn stamp_of(octets: &[u8]) -> u32
+    ensures { result ≡ tags.stamp_of octets.now }
 {
-    (stamp % 65536) as u16
-}
-
-/// The tag of a record by its stamp.
-pub(crate) fn stamp_tag_of(octets: &[u8]) -> u16
-    ensures { result ≡ tags.stamp_tag_of octets.now }
-{
-    number_at(octets, 3)
+    u32::from(number_at(octets, 1)) * 65536 + u32::from(number_at(octets, 3))
 }
 
 // The name in a record, if it has one.
@@ -120,12 +113,12 @@ fn part(octets: &[u8], place: usize, size: usize) -> &[u8]
 }
 
 /// The next slot from this one on that has a tag, of as many slots as there are tags, or their end. Nothing is read.
-pub(crate) fn next_with(tags: &[u16], tag: u16, from: u16) -> u16
+pub(crate) fn next_with<T: Copy + PartialEq>(tags: &[T], tag: T, from: u16) -> u16
     requires few { length tags.now ≤ most_cells }
     ensures onward { from ≤ result }
     ensures most { from ≤ length tags.now → result ≤ length tags.now }
-    ensures here { result < length tags.now → slice_index tags.now result ≡ tag }
-    ensures others { (slot : ℕ) → from ≤ slot → slot < result → slice_index tags.now slot ≢ tag }
+    ensures here { result < length tags.now → T.eq (slice_index_or tags.now result tag) tag ≡ true }
+    ensures others { (slot : ℕ) → from ≤ slot → slot < result → T.eq (slice_index_or tags.now slot tag) tag ≡ false }
 {
     let mut slot = usize::from(from);
     while slot + TOGETHER <= tags.len() && !is_among(tag, &tags[slot..slot + TOGETHER]) {
@@ -138,8 +131,8 @@ pub(crate) fn next_with(tags: &[u16], tag: u16, from: u16) -> u16
 }
 
 // Whether a tag is among tags. All are looked at: a loop that ended at the first would look at one at a time.
-fn is_among(tag: u16, tags: &[u16]) -> bool
-    ensures { result ≡ list_any (λ other. other == tag) tags.now }
+fn is_among<T: Copy + PartialEq>(tag: T, tags: &[T]) -> bool
+    ensures { result ≡ list_any (λ other. T.eq other tag) tags.now }
 {
     let mut found = false;
     for other in tags {

@@ -18,6 +18,7 @@ pub mod Stamping
 pub mod StampsInSlots
 pub mod Steps
 pub mod SweptSlots
+pub mod TaggedCosts
 pub mod TaggedSearches
 pub mod TouchedEdits
 pub mod TouchedRecords

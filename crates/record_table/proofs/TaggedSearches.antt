@@ -1,7 +1,7 @@
 -- A search passes over the slots whose records aren't of the kind, or not of the tag that all that are wanted have.
-use Rattle.std.proofs.Common.{◌≡◌, ℕ, zero, suc, ◌*◌, ◌==◌, ◌<◌, ◌≤◌, Bool, true, false, List, [], ◌∷◌, Option, Some, None, drop, get_or, refl, sym, ap, ◌∙◌, inl, inr, arith, eq-eqb}
+use Rattle.std.proofs.Common.{◌≡◌, ℕ, zero, suc, ◌*◌, ◌<◌, ◌≤◌, Bool, true, false, List, [], ◌∷◌, Option, Some, None, drop, get_or, refl, sym, ap, ◌∙◌, inl, inr, arith}
 use Rattle.std.specs.Prelude.{IfSome, option_and_then}
-use Rattle.std.specs.List.{find}
+use Rattle.std.specs.List.{cons_option, find}
 use Rattle.std.specs.Option.{option_map_or}
 use Rattle.std.proofs.Math.Seq.{drop-nil}
 use Rattle.std.proofs.lemmas.Bool.{and_cases, cases_Bool, true≢false}
@@ -47,21 +47,30 @@ module _ {X : Type 0} (kind : Kind X) (p : X → Bool) where
         | inr unmarked ↦ unmarked-passing (Some octets) is unmarked
       ]
 
-  -- slots of which none passes are passed over
-  find-unwanted : (slots : Slots) (from to : ℕ) → from ≤ to → AreUnwanted kind p from to slots → find p (in_slots kind (drop from slots)) ≡ find p (in_slots kind (drop to slots))
-  find-unwanted [] from to onward unwanted = ap (λ slots. find p (in_slots kind slots)) (drop-nil from) ∙ sym (ap (λ slots. find p (in_slots kind slots)) (drop-nil to))
-  find-unwanted (entry ∷ slots) zero zero onward unwanted = refl
-  find-unwanted (entry ∷ slots) zero (suc to) onward unwanted =
-      passed_over p (in_slot (read_as kind) entry) (passed-place p (in_slot (read_as kind) entry) (unwanted 0 (omega arith) (omega arith))) (in_slots kind slots)
-      ∙ find-unwanted slots zero to (omega arith) (λ slot later earlier. unwanted (suc slot) (omega arith) (omega (arith, earlier)))
-  find-unwanted (entry ∷ slots) (suc from) zero onward unwanted = absurd (omega (arith, onward))
-  find-unwanted (entry ∷ slots) (suc from) (suc to) onward unwanted =
-      find-unwanted slots from to (omega (arith, onward)) (λ slot later earlier. unwanted (suc slot) (omega (arith, later)) (omega (arith, earlier)))
+  -- slots of which none passes are passed over, by what says nothing of such records
+  module _ {Y : Type 0} (f : List X → Y) (skips : (x : X) (rest : List X) → p x ≡ false → f (x ∷ rest) ≡ f rest) where
+    passed-slot : (entry : Option X) → option_map_or p entry false ≡ false → (rest : List X) → f (cons_option entry rest) ≡ f rest
+    passed-slot None fails rest = refl
+    passed-slot (Some x) fails rest = skips x rest fails
 
-  pub left-unwanted : (answer : Slots → Option X) (slots : Option Slots) (from to : ℕ) → from ≤ to → IfSome slots (AreUnwanted kind p from to)
-      → IfSome slots (IsOfLeft kind answer (find p) from) → IfSome slots (IsOfLeft kind answer (find p) to)
-  left-unwanted answer None from to onward unwanted left = tt
-  left-unwanted answer (Some slots) from to onward unwanted left = left ∙ find-unwanted slots from to onward unwanted
+    same-unwanted : (slots : Slots) (from to : ℕ) → from ≤ to → AreUnwanted kind p from to slots → f (in_slots kind (drop from slots)) ≡ f (in_slots kind (drop to slots))
+    same-unwanted [] from to onward unwanted = ap (λ slots. f (in_slots kind slots)) (drop-nil from) ∙ sym (ap (λ slots. f (in_slots kind slots)) (drop-nil to))
+    same-unwanted (entry ∷ slots) zero zero onward unwanted = refl
+    same-unwanted (entry ∷ slots) zero (suc to) onward unwanted =
+        passed-slot (in_slot (read_as kind) entry) (unwanted 0 (omega arith) (omega arith)) (in_slots kind slots)
+        ∙ same-unwanted slots zero to (omega arith) (λ slot later earlier. unwanted (suc slot) (omega arith) (omega (arith, earlier)))
+    same-unwanted (entry ∷ slots) (suc from) zero onward unwanted = absurd (omega (arith, onward))
+    same-unwanted (entry ∷ slots) (suc from) (suc to) onward unwanted =
+        same-unwanted slots from to (omega (arith, onward)) (λ slot later earlier. unwanted (suc slot) (omega (arith, later)) (omega (arith, earlier)))
+
+    pub left-unwanted : (answer : Slots → Y) (slots : Option Slots) (from to : ℕ) → from ≤ to → IfSome slots (AreUnwanted kind p from to)
+        → IfSome slots (IsOfLeft kind answer f from) → IfSome slots (IsOfLeft kind answer f to)
+    left-unwanted answer None from to onward unwanted left = tt
+    left-unwanted answer (Some slots) from to onward unwanted left = left ∙ same-unwanted slots from to onward unwanted
+
+-- of a search for one that passes
+pub find-skips : {X : Type 0} (p : X → Bool) (x : X) (rest : List X) → p x ≡ false → find p (x ∷ rest) ≡ find p rest
+find-skips p x rest fails = rw fails refl
 
 -- what is said of the records of some slots of a store, told of the slots
 told : (P : ℕ → Option (List ℕ) → Type 0) (o : Option Slots) → ((slot : ℕ) → P slot (option_and_then (λ (slots : Slots). get_or slots slot None) o)) → IfSome o (λ slots. (slot : ℕ) → P slot (get_or slots slot None))

@@ -8,7 +8,7 @@ use Rattle.scql_model.specs.Database.{Database, IsValid, weight}
 use Rattle.scql_model.specs.Edits.{Action, edited, is_counter, list_after}
 use Rattle.catalog_codec.specs.Kinds.{Kind, HaveOtherMarks, read_as}
 use Rattle.catalog_codec.specs.Catalog.{counter_kind, user_kind, object_kind, grant_kind, row_kind}
-use Rattle.record_store.specs.Tags.{stamp_tag, stamp_tag_of}
+use Rattle.record_store.specs.Tags.{stamp_of}
 use Rattle.record_table.specs.Listed.{listed}
 use Rattle.record_table.specs.Touching.{stamp_in}
 use Rattle.scql_model.specs.Opens.{Holds, is_spelled, counter_stamp}
@@ -35,7 +35,7 @@ pub record IsEditable {X : Type 0} (kind : Kind X) (any : X → AnyRecord) : Typ
   pub no_counter : (x : X) → is_counter (any x) ≡ false
   pub spelled : (x : X) → kind.form.fits x ≡ true → is_spelled (Some (kind.form.spell x)) ≡ true
   pub named : (octets : List ℕ) (x : X) → read_as kind octets ≡ Some x → stamp_in octets ≡ Some (kind.key x)
-  pub stamped : (octets : List ℕ) (x : X) → read_as kind octets ≡ Some x → stamp_tag_of octets ≡ stamp_tag (kind.key x)
+  pub stamped : (octets : List ℕ) (x : X) → read_as kind octets ≡ Some x → stamp_of octets ≡ kind.key x
   pub lengths : (octets : List ℕ) (x : X) → read_as kind octets ≡ Some x → length octets ≡ length (kind.form.spell x)
   -- the records of the kind that a database has are those that its slots list
   pub records : Database → List X

@@ -1,5 +1,5 @@
 -- The octets of a record that is read have its name, or its pair, at a place that is known from their first octet on.
-use Rattle.std.proofs.Common.{◌≡◌, ◌⊎◌, ℕ, ◌+◌, ◌%◌, nat_lt, ◌==◌, ◌&&◌, Bool, true, false, List, [], ◌∷◌, Option, Some, None, option_map, length, drop, take, if◌then◌else◌, refl, sym, ap, ◌∙◌, subst, inl, inr, arith, eq-eqb}
+use Rattle.std.proofs.Common.{◌≡◌, ◌⊎◌, ℕ, ◌+◌, ◌*◌, ◌%◌, nat_lt, ◌==◌, ◌&&◌, Bool, true, false, List, [], ◌∷◌, Option, Some, None, option_map, length, drop, take, if◌then◌else◌, refl, sym, ap, ◌∙◌, subst, inl, inr, arith, eq-eqb}
 use Rattle.std.specs.Int.{w32, from_be_bytes}
 use Rattle.std.proofs.lemmas.Bool.{and_parts, eqb-true}
 use Rattle.std.proofs.lemmas.List.{drop-drop, get_or-drop}
@@ -19,7 +19,7 @@ use Rattle.scql_model.specs.Fields.{then_at, number_from, octet_at, letter_at, w
 use Rattle.scql_model.specs.Records.{user_record, table_record, view_record, dictionary_record, object_record, grant_record, row_record, to_user, to_table, to_view, to_dictionary, to_grant, to_row, starts_with, is_tries, is_privileges, profile_of}
 use Rattle.scql_model.proofs.FieldLaws.{mapped_some, chosen_some, not_chosen_some}
 use Rattle.eeprom.specs.StoreOf.{number_at}
-use Rattle.record_store.specs.Tags.{text_of, name_tag, pair_tag, stamp_tag, stamp_tag_of, tag_of}
+use Rattle.record_store.specs.Tags.{text_of, name_tag, pair_tag, stamp_of, tag_of}
 use Rattle.catalog_codec.specs.Catalog.{user_kind, object_kind, grant_kind, row_kind}
 use Rattle.catalog_codec.specs.Kinds.{read_as}
 use Rattle.record_store.specs.declared.tags.Tag.TheVariants.{Name}
@@ -106,9 +106,11 @@ user-behind =
     (second-behind _ _ 1 0 (λ x back. text_of back ≡ x.0) (leaves-octet is_tries)
     (first-behind _ _ 0 (λ x back. text_of back ≡ x) (text-behind is_name)))))))
 
+pub tagged-user : (octets : List ℕ) (u : User) → read_as user_kind octets ≡ Some u → tag_of octets ≡ name_tag u.name
+tagged-user octets u read = of_whole user_record.read octets u read (λ rest taken. user-behind octets u rest taken)
+
 pub named-users : (name : List ℕ) → AreTagged user_kind (λ u. bytes_eq name u.name) (Some (Name (name_tag name)))
-named-users name octets u read is =
-    eq-eqb (tag_of octets) (name_tag name) (of_whole user_record.read octets u read (λ rest taken. user-behind octets u rest taken ∙ ap name_tag (sym ((bytes_eq-Decides name u.name).0 is))))
+named-users name octets u read is = eq-eqb (tag_of octets) (name_tag name) (tagged-user octets u read ∙ ap name_tag (sym ((bytes_eq-Decides name u.name).0 is)))
 
 -- A table's and a dictionary's name is behind its stamp and its owner, and a view's behind its base too.
 object-marked : {A : Type 0} (mark : ℕ) (to : A → Object) (f : List ℕ → Option (A × List ℕ)) (n : ℕ)
@@ -155,22 +157,31 @@ object-behind octets o rest is =
       ]
     ]
 
-pub named-objects : (name : List ℕ) → AreTagged object_kind (λ o. bytes_eq name o.name) (Some (Name (name_tag name)))
-named-objects name octets o read is =
-    eq-eqb (tag_of octets) (name_tag name) (of_whole object_record.read octets o read (λ rest taken. object-behind octets o rest taken ∙ ap name_tag (sym ((bytes_eq-Decides name o.name).0 is))))
+pub tagged-object : (octets : List ℕ) (o : Object) → read_as object_kind octets ≡ Some o → tag_of octets ≡ name_tag o.name
+tagged-object octets o read = of_whole object_record.read octets o read (λ rest taken. object-behind octets o rest taken)
 
--- The last two octets of a number say what it leaves over.
+pub named-objects : (name : List ℕ) → AreTagged object_kind (λ o. bytes_eq name o.name) (Some (Name (name_tag name)))
+named-objects name octets o read is = eq-eqb (tag_of octets) (name_tag name) (tagged-object octets o read ∙ ap name_tag (sym ((bytes_eq-Decides name o.name).0 is)))
+
+-- A number is that of its four octets.
+abbrev IsFour : ℕ → ℕ → ℕ → Type 0
+IsFour n high low = n ≡ 65536 * high + low
+
+four-behind : IsBehind number_from 0 (λ n back. IsFour n (number_at back 0) (number_at back 2))
+four-behind [] x rest is = absurd (none-some (x, rest) is)
+four-behind (a ∷ []) x rest is = absurd (none-some (x, rest) is)
+four-behind (a ∷ b ∷ []) x rest is = absurd (none-some (x, rest) is)
+four-behind (a ∷ b ∷ c ∷ []) x rest is = absurd (none-some (x, rest) is)
+four-behind (a ∷ b ∷ c ∷ d ∷ octets) x rest is =
+    let four : from_be_bytes w32 (a ∷ b ∷ c ∷ d ∷ []) ≡ x = ap (λ (r : ℕ × List ℕ). r.0) (same_Some (from_be_bytes w32 (a ∷ b ∷ c ∷ d ∷ []), octets) (x, rest) is) in
+    omega (arith, four)
+
+-- The last two of them say what it leaves over.
 abbrev EndsAs : ℕ → ℕ → Type 0
 EndsAs n low = n % 65536 ≡ low % 65536
 
 number-behind : IsBehind number_from 0 (λ n back. EndsAs n (number_at back 2))
-number-behind [] x rest is = absurd (none-some (x, rest) is)
-number-behind (a ∷ []) x rest is = absurd (none-some (x, rest) is)
-number-behind (a ∷ b ∷ []) x rest is = absurd (none-some (x, rest) is)
-number-behind (a ∷ b ∷ c ∷ []) x rest is = absurd (none-some (x, rest) is)
-number-behind (a ∷ b ∷ c ∷ d ∷ octets) x rest is =
-    let four : from_be_bytes w32 (a ∷ b ∷ c ∷ d ∷ []) ≡ x = ap (λ (r : ℕ × List ℕ). r.0) (same_Some (from_be_bytes w32 (a ∷ b ∷ c ∷ d ∷ []), octets) (x, rest) is) in
-    omega (arith, four)
+number-behind octets x rest is = let four = four-behind octets x rest is in omega (arith, four)
 
 number_at-drop : (n place : ℕ) (octets : List ℕ) → number_at (drop n octets) place ≡ number_at octets (n + place)
 number_at-drop n place octets =
@@ -204,49 +215,52 @@ grant-behind =
     let grantee : EndsAs x.1.1.0 (number_at octets 10) = grantee-at octets x rest is ∙ ap (λ n. n % 65536) (number_at-drop 8 2 octets) in
     same-pair x.1.0 x.1.1.0 (number_at octets 6) (number_at octets 10) object grantee))
 
+pub tagged-grant : (octets : List ℕ) (g : Grant) → read_as grant_kind octets ≡ Some g → tag_of octets ≡ pair_tag g.object g.grantee
+tagged-grant octets g read = of_whole grant_record.read octets g read (λ rest taken. grant-behind octets g rest taken)
+
 pub paired-grants : (object grantee : ℕ) → AreTagged grant_kind (λ g. g.object == object && g.grantee == grantee) (Some (Name (pair_tag object grantee)))
 paired-grants object grantee octets g read is =
     let own = and_parts (g.object == object) (g.grantee == grantee) is in
-    eq-eqb (tag_of octets) (pair_tag object grantee) (of_whole grant_record.read octets g read (λ rest taken. grant-behind octets g rest taken ∙ rw (eqb-true g.object object own.0, eqb-true g.grantee grantee own.1) refl))
+    eq-eqb (tag_of octets) (pair_tag object grantee) (tagged-grant octets g read ∙ rw (eqb-true g.object object own.0, eqb-true g.grantee grantee own.1) refl)
 
 -- A record's stamp is behind its first octet.
-abbrev EndsBehind : {A : Type 0} → (List ℕ → Option (A × List ℕ)) → (A → ℕ) → Type 0
-EndsBehind {A} read key = IsBehind read 0 (λ x octets. EndsAs (key x) (number_at octets 3))
+abbrev IsStamped : {A : Type 0} → (List ℕ → Option (A × List ℕ)) → (A → ℕ) → Type 0
+IsStamped {A} read key = IsBehind read 0 (λ x octets. key x ≡ stamp_of octets)
 
-stamp-first : {A : Type 0} (g : List ℕ → Option (A × List ℕ)) → IsBehind (then_at number_from g) 0 (λ x back. EndsAs x.0 (number_at back 2))
-stamp-first g = first-behind number_from g 0 (λ n back. EndsAs n (number_at back 2)) number-behind
+stamp-first : {A : Type 0} (g : List ℕ → Option (A × List ℕ)) → IsBehind (then_at number_from g) 0 (λ x back. IsFour x.0 (number_at back 0) (number_at back 2))
+stamp-first g = first-behind number_from g 0 (λ n back. IsFour n (number_at back 0) (number_at back 2)) four-behind
 
-user-stamp : EndsBehind user_record.read (λ u. u.stamp)
+user-stamp : IsStamped user_record.read (λ u. u.stamp)
 user-stamp =
-    marked-behind user_mark _ 0 (λ u back. EndsAs u.stamp (number_at back 2)) (λ u octets. EndsAs u.stamp (number_at octets 3)) (λ u octets is. is)
-    (made-behind to_user _ 0 (λ u back. EndsAs u.stamp (number_at back 2)) (stamp-first _))
+    marked-behind user_mark _ 0 (λ u back. IsFour u.stamp (number_at back 0) (number_at back 2)) (λ u octets. u.stamp ≡ stamp_of octets) (λ u octets is. is)
+    (made-behind to_user _ 0 (λ u back. IsFour u.stamp (number_at back 0) (number_at back 2)) (stamp-first _))
 
-grant-stamp : EndsBehind grant_record.read (λ g. g.stamp)
+grant-stamp : IsStamped grant_record.read (λ g. g.stamp)
 grant-stamp =
-    marked-behind grant_mark _ 0 (λ g back. EndsAs g.stamp (number_at back 2)) (λ g octets. EndsAs g.stamp (number_at octets 3)) (λ g octets is. is)
-    (made-behind to_grant _ 0 (λ g back. EndsAs g.stamp (number_at back 2)) (stamp-first _))
+    marked-behind grant_mark _ 0 (λ g back. IsFour g.stamp (number_at back 0) (number_at back 2)) (λ g octets. g.stamp ≡ stamp_of octets) (λ g octets is. is)
+    (made-behind to_grant _ 0 (λ g back. IsFour g.stamp (number_at back 0) (number_at back 2)) (stamp-first _))
 
-row-stamp : EndsBehind row_record.read (λ r. r.stamp)
+row-stamp : IsStamped row_record.read (λ r. r.stamp)
 row-stamp =
-    marked-behind row_mark _ 0 (λ r back. EndsAs r.stamp (number_at back 2)) (λ r octets. EndsAs r.stamp (number_at octets 3)) (λ r octets is. is)
-    (made-behind to_row _ 0 (λ r back. EndsAs r.stamp (number_at back 2)) (stamp-first _))
+    marked-behind row_mark _ 0 (λ r back. IsFour r.stamp (number_at back 0) (number_at back 2)) (λ r octets. r.stamp ≡ stamp_of octets) (λ r octets is. is)
+    (made-behind to_row _ 0 (λ r back. IsFour r.stamp (number_at back 0) (number_at back 2)) (stamp-first _))
 
-table-stamp : EndsBehind (made_at to_table table_record.read) (λ o. o.stamp)
+table-stamp : IsStamped (made_at to_table table_record.read) (λ o. o.stamp)
 table-stamp =
-    made-behind to_table _ 0 (λ o octets. EndsAs o.stamp (number_at octets 3))
-    (marked-behind TABLE_MARK _ 0 (λ x back. EndsAs x.0 (number_at back 2)) (λ x octets. EndsAs x.0 (number_at octets 3)) (λ x octets is. is) (stamp-first _))
+    made-behind to_table _ 0 (λ o octets. o.stamp ≡ stamp_of octets)
+    (marked-behind TABLE_MARK _ 0 (λ x back. IsFour x.0 (number_at back 0) (number_at back 2)) (λ x octets. x.0 ≡ stamp_of octets) (λ x octets is. is) (stamp-first _))
 
-view-stamp : EndsBehind (made_at to_view view_record.read) (λ o. o.stamp)
+view-stamp : IsStamped (made_at to_view view_record.read) (λ o. o.stamp)
 view-stamp =
-    made-behind to_view _ 0 (λ o octets. EndsAs o.stamp (number_at octets 3))
-    (marked-behind VIEW_MARK _ 0 (λ x back. EndsAs x.0 (number_at back 2)) (λ x octets. EndsAs x.0 (number_at octets 3)) (λ x octets is. is) (stamp-first _))
+    made-behind to_view _ 0 (λ o octets. o.stamp ≡ stamp_of octets)
+    (marked-behind VIEW_MARK _ 0 (λ x back. IsFour x.0 (number_at back 0) (number_at back 2)) (λ x octets. x.0 ≡ stamp_of octets) (λ x octets is. is) (stamp-first _))
 
-dictionary-stamp : EndsBehind (made_at to_dictionary dictionary_record.read) (λ o. o.stamp)
+dictionary-stamp : IsStamped (made_at to_dictionary dictionary_record.read) (λ o. o.stamp)
 dictionary-stamp =
-    made-behind to_dictionary _ 0 (λ o octets. EndsAs o.stamp (number_at octets 3))
-    (marked-behind DICTIONARY_MARK _ 0 (λ x back. EndsAs x.0 (number_at back 2)) (λ x octets. EndsAs x.0 (number_at octets 3)) (λ x octets is. is) (stamp-first _))
+    made-behind to_dictionary _ 0 (λ o octets. o.stamp ≡ stamp_of octets)
+    (marked-behind DICTIONARY_MARK _ 0 (λ x back. IsFour x.0 (number_at back 0) (number_at back 2)) (λ x octets. x.0 ≡ stamp_of octets) (λ x octets is. is) (stamp-first _))
 
-object-stamp : EndsBehind object_record.read (λ o. o.stamp)
+object-stamp : IsStamped object_record.read (λ o. o.stamp)
 object-stamp octets o rest is =
     elim (of_either (starts_with TABLE_MARK octets) _ _ (o, rest) is) [
       | inl table ↦ table-stamp octets o rest table
@@ -256,15 +270,15 @@ object-stamp octets o rest is =
       ]
     ]
 
--- so a record that is read has the tag of its stamp
-pub stamped-user : (octets : List ℕ) (u : User) → read_as user_kind octets ≡ Some u → stamp_tag_of octets ≡ stamp_tag u.stamp
+-- so a record that is read has its stamp there
+pub stamped-user : (octets : List ℕ) (u : User) → read_as user_kind octets ≡ Some u → stamp_of octets ≡ u.stamp
 stamped-user octets u read = of_whole user_record.read octets u read (λ rest taken. sym (user-stamp octets u rest taken))
 
-pub stamped-object : (octets : List ℕ) (o : Object) → read_as object_kind octets ≡ Some o → stamp_tag_of octets ≡ stamp_tag o.stamp
+pub stamped-object : (octets : List ℕ) (o : Object) → read_as object_kind octets ≡ Some o → stamp_of octets ≡ o.stamp
 stamped-object octets o read = of_whole object_record.read octets o read (λ rest taken. sym (object-stamp octets o rest taken))
 
-pub stamped-grant : (octets : List ℕ) (g : Grant) → read_as grant_kind octets ≡ Some g → stamp_tag_of octets ≡ stamp_tag g.stamp
+pub stamped-grant : (octets : List ℕ) (g : Grant) → read_as grant_kind octets ≡ Some g → stamp_of octets ≡ g.stamp
 stamped-grant octets g read = of_whole grant_record.read octets g read (λ rest taken. sym (grant-stamp octets g rest taken))
 
-pub stamped-row : (octets : List ℕ) (r : RowRecord) → read_as row_kind octets ≡ Some r → stamp_tag_of octets ≡ stamp_tag r.stamp
+pub stamped-row : (octets : List ℕ) (r : RowRecord) → read_as row_kind octets ≡ Some r → stamp_of octets ≡ r.stamp
 stamped-row octets r read = of_whole row_record.read octets r read (λ rest taken. sym (row-stamp octets r rest taken))

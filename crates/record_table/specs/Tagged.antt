@@ -30,3 +30,7 @@ tagged_cells {X} kind tag entry = if is_searched kind tag entry then cells_of en
 
 abbrev pub cells_tagged : {X : Type 0} → Kind X → Option Tag → Slots → ℕ
 cells_tagged {X} kind tag slots = sum_by (tagged_cells kind tag) slots
+
+-- of records that take so many cells each, how many those take that pass a test
+abbrev pub cells_where : {X : Type 0} → (X → ℕ) → (X → Bool) → List X → ℕ
+cells_where {X} cells p xs = sum_by (λ x. if p x then cells x else 0) xs

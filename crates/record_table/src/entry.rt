@@ -85,7 +85,7 @@ pub fn next_slot<R: Record>(store: &Store, slot: u16) -> u16
 }
 
 /// The next slot from this one on that may have a record of the kind and, where there is one, of the tag: the slots before it have none.
-pub(crate) fn next_tagged<R: Record>(store: &Store, side: Side, tag: Option<Tag>, slot: u16) -> u16
+pub fn next_tagged<R: Record>(store: &Store, side: Side, tag: Option<Tag>, slot: u16) -> u16
     ensures onward { slot ≤ result }
     ensures most { slot ≤ store.now.chains.cells → result ≤ store.now.chains.cells }
     ensures others { (image : List ℕ) (passed : ℕ) → StandsFor store.now image → slot ≤ passed → passed < result → is_searched R.kind tag (record_at store.now side passed image) ≡ false }

@@ -8,7 +8,8 @@ ghost use Rattle.eeprom.specs.Frame.{Reads};
 ghost use Rattle.eeprom.specs.Slots.{Rises, has};
 ghost use Rattle.eeprom.specs.StoreOf.{cell_size};
 ghost use Rattle.record_store.specs.Held.{IsOver};
-ghost use Rattle.record_table.specs.Listed.{at_slot, in_slots, listed, cells_marked, slots_of};
+ghost use Rattle.record_store.specs.declared.tags.Tag.TheVariants as by;
+ghost use Rattle.record_table.specs.Listed.{at_slot, in_slots, listed, slots_of};
 ghost use Rattle.record_table.specs.Reading.{NeverFalls};
 ghost use Rattle.record_table.specs.Tagged.{cells_tagged};
 
@@ -36,8 +37,6 @@ pub fn find_by<R: Record, W: Wanted<R>, B: Eeprom>(
     ensures found { IfOk result (λ found. IfSome (slots_of store.now side (B.chip bench.old))
         (λ slots. count_by (W.wants wanted.now) (listed R.kind slots) ≤ 1 → option_map (λ found. found.value) found ≡ find (W.wants wanted.now) (listed R.kind slots))) }
     ensures octets_read { IfOk result (λ _. IfSome (slots_of store.now side (B.chip bench.old))
-        (λ slots. Becomes (RisesAtMost (cell_size * cells_marked R.kind slots)) (B.octets_read bench.old) (B.octets_read bench.new))) }
-    ensures tagged_read { IfOk result (λ _. IfSome (slots_of store.now side (B.chip bench.old))
         (λ slots. Becomes (RisesAtMost (cell_size * cells_tagged R.kind (W.tag_is wanted.now) slots)) (B.octets_read bench.old) (B.octets_read bench.new))) }
     ensures rises { IfOk result (λ _. NeverFalls (slots_of store.now side (B.chip bench.old)) (B.octets_read bench.old) (B.octets_read bench.new)) }
     ensures frame { Reads each_error B.chip B.faults bench.old bench.new result }
@@ -73,8 +72,6 @@ pub fn find_into<R: Record, W: Wanted<R>, B: Eeprom>(
     ensures found { IfOk result (λ _. IfSome (slots_of store.now side (B.chip bench.old))
         (λ slots. count_by (W.wants wanted.now) (listed R.kind slots) ≤ 1 → place.new ≡ find (W.wants wanted.now) (listed R.kind slots))) }
     ensures octets_read { IfOk result (λ _. IfSome (slots_of store.now side (B.chip bench.old))
-        (λ slots. Becomes (RisesAtMost (cell_size * cells_marked R.kind slots)) (B.octets_read bench.old) (B.octets_read bench.new))) }
-    ensures tagged_read { IfOk result (λ _. IfSome (slots_of store.now side (B.chip bench.old))
         (λ slots. Becomes (RisesAtMost (cell_size * cells_tagged R.kind (W.tag_is wanted.now) slots)) (B.octets_read bench.old) (B.octets_read bench.new))) }
     ensures rises { IfOk result (λ _. NeverFalls (slots_of store.now side (B.chip bench.old)) (B.octets_read bench.old) (B.octets_read bench.new)) }
     ensures frame { Reads each_error B.chip B.faults bench.old bench.new result }
@@ -118,7 +115,7 @@ pub fn find_stamp<R: Editable, B: Eeprom>(
     ensures found { IfOk result (λ found. IfSome (slots_of store.now side (B.chip bench.old))
         (λ slots. Rises R.kind.key (listed R.kind slots) → option_map (λ found. found.value) found ≡ find (has R.kind.key stamp) (listed R.kind slots))) }
     ensures octets_read { IfOk result (λ _. IfSome (slots_of store.now side (B.chip bench.old))
-        (λ slots. Becomes (RisesAtMost (cell_size * cells_marked R.kind slots)) (B.octets_read bench.old) (B.octets_read bench.new))) }
+        (λ slots. Becomes (RisesAtMost (cell_size * cells_tagged R.kind (Some (by.Stamp stamp)) slots)) (B.octets_read bench.old) (B.octets_read bench.new))) }
     ensures rises { IfOk result (λ _. NeverFalls (slots_of store.now side (B.chip bench.old)) (B.octets_read bench.old) (B.octets_read bench.new)) }
     ensures frame { Reads each_error B.chip B.faults bench.old bench.new result }
 {
@@ -141,7 +138,7 @@ pub fn find_stamp_into<R: Editable, B: Eeprom>(
     ensures found { IfOk result (λ _. IfSome (slots_of store.now side (B.chip bench.old))
         (λ slots. Rises R.kind.key (listed R.kind slots) → place.new ≡ find (has R.kind.key stamp) (listed R.kind slots))) }
     ensures octets_read { IfOk result (λ _. IfSome (slots_of store.now side (B.chip bench.old))
-        (λ slots. Becomes (RisesAtMost (cell_size * cells_marked R.kind slots)) (B.octets_read bench.old) (B.octets_read bench.new))) }
+        (λ slots. Becomes (RisesAtMost (cell_size * cells_tagged R.kind (Some (by.Stamp stamp)) slots)) (B.octets_read bench.old) (B.octets_read bench.new))) }
     ensures rises { IfOk result (λ _. NeverFalls (slots_of store.now side (B.chip bench.old)) (B.octets_read bench.old) (B.octets_read bench.new)) }
     ensures frame { Reads each_error B.chip B.faults bench.old bench.new result }
 {

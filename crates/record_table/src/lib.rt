@@ -16,7 +16,7 @@ mod wanted;
 pub use changing::{add, change, remove};
 pub use committing::commit_in_place;
 pub use editable::Editable;
-pub use entry::{next_slot, read_entry};
+pub use entry::{next_slot, next_tagged, read_entry};
 pub use finding::{find_by, find_into, find_stamp, find_stamp_into};
 pub use in_place::{change_in_place, take_out};
 pub use making::{make, next_stamp};

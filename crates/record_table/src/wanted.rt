@@ -1,6 +1,5 @@
 // Which records a search looks for.
 ghost use Rattle.std.specs.Prelude.{◌≡◌, Bool, true, Option, None, Some};
-ghost use Rattle.record_store.specs.Tags as tags;
 ghost use Rattle.record_store.specs.declared.tags.Tag.{Tag};
 ghost use Rattle.record_store.specs.declared.tags.Tag.TheVariants.{Stamp};
 ghost use Rattle.eeprom.specs.Slots.{has};
@@ -8,7 +7,7 @@ ghost use Rattle.record_table.specs.Tagged.{AreTagged};
 
 use crate::Editable;
 use catalog_codec::Record;
-use record_store::{Tag, stamp_tag};
+use record_store::Tag;
 
 /// A test of records.
 pub trait Wanted<R: Record> {
@@ -35,14 +34,14 @@ pub struct Stamped(pub u32);
 impl<R: Editable> Wanted<R> for Stamped {
     ghost wants = { λ wanted entry. has R.kind.key wanted.0 entry };
 
-    ghost tag_is = { λ wanted. Some (Stamp (tags.stamp_tag wanted.0)) };
+    ghost tag_is = { λ wanted. Some (Stamp wanted.0) };
 
     fn is(&self, entry: &R) -> bool {
         entry.stamp() == self.0
     }
 
     fn tag(&self) -> Option<Tag> {
-        Some(Tag::Stamp(stamp_tag(self.0)))
+        Some(Tag::Stamp(self.0))
     }
 }
 

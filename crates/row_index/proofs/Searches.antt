@@ -1,5 +1,5 @@
 -- Lists in rising order of a key, searched by halves.
-use Rattle.std.proofs.Common.{◌≡◌, ℕ, zero, suc, ◌<◌, ◌≤◌, Bool, true, false, cond, ◌&&◌, ltb, leb, eqb, List, [], ◌∷◌, length, Option, Some, None, get_or, inl, inr, refl, sym, ap, ◌∙◌, arith, subst}
+use Rattle.std.proofs.Common.{◌≡◌, ℕ, zero, suc, ◌<◌, ◌≤◌, Bool, true, false, cond, ◌&&◌, ltb, leb, eqb, List, [], ◌∷◌, length, map, take, drop, Option, Some, None, get_or, inl, inr, refl, sym, ap, ◌∙◌, arith, subst}
 use Rattle.std.specs.List.{find, insert, slice_get, count_by, list_all, list_any, AllByRecursion}
 use Rattle.std.specs.Prelude.{Result, IsOk, is_ok}
 use Rattle.std.specs.List.Sorted.{IsPartitionPoint, IsNonDecreasingBy}
@@ -71,6 +71,46 @@ count_by-here key k (x ∷ xs) (suc i) d rises within same =
     let rest = count_by-here key k xs i d rises.1 (omega arith) same in
     let one = counts (λ y. leb (key y) k) x xs (le-leb (key x) k (omega (arith, same, less))) in
     omega arith
+
+-- what holds of all holds of the first ones
+all-take : {X Y : Type 0} (P : Y → Type 0) (f : X → Y) (i : ℕ) (xs : List X) → AllByRecursion P (map f xs) → AllByRecursion P (map f (take i xs))
+all-take P f zero [] all = tt
+all-take P f zero (x ∷ xs) all = tt
+all-take P f (suc i) [] all = tt
+all-take P f (suc i) (x ∷ xs) all = (all.0, all-take P f i xs all.1)
+
+-- keys that rise do so among the first ones, and among the others
+pub Rises-take : {X Y : Type 0} (key : Y → ℕ) (f : X → Y) (i : ℕ) (xs : List X) → Rises key (map f xs) → Rises key (map f (take i xs))
+Rises-take key f zero [] rises = tt
+Rises-take key f zero (x ∷ xs) rises = tt
+Rises-take key f (suc i) [] rises = tt
+Rises-take key f (suc i) (x ∷ xs) rises = (all-take (λ y. key (f x) < key y) f i xs rises.0, Rises-take key f i xs rises.1)
+
+pub Rises-drop : {X Y : Type 0} (key : Y → ℕ) (f : X → Y) (i : ℕ) (xs : List X) → Rises key (map f xs) → Rises key (map f (drop i xs))
+Rises-drop key f zero [] rises = rises
+Rises-drop key f zero (x ∷ xs) rises = rises
+Rises-drop key f (suc i) [] rises = rises
+Rises-drop key f (suc i) (x ∷ xs) rises = Rises-drop key f i xs rises.1
+
+-- so many keys are up to a number as stand before those above it
+pub count_by-parted : {X : Type 0} (key : X → ℕ) (k i : ℕ) (xs : List X) → i ≤ length xs → list_all (λ y. ltb (key y) k) (take i xs) ≡ true → count_by (λ y. leb (key y) k) (drop i xs) ≡ 0 → i ≡ count_by (λ y. leb (key y) k) xs
+count_by-parted key k zero [] within below above = sym above
+count_by-parted key k zero (x ∷ xs) within below above = sym above
+count_by-parted key k (suc i) [] within below above = absurd (omega arith)
+count_by-parted key k (suc i) (x ∷ xs) within below above =
+    let both = and_parts (ltb (key x) k) (list_all (λ y. ltb (key y) k) (take i xs)) below in
+    let rest = count_by-parted key k i xs (omega arith) both.1 above in
+    let less : key x < k = ltb-true (key x) k both.0 in
+    let one = counts (λ y. leb (key y) k) x xs (le-leb (key x) k (omega arith)) in
+    omega arith
+
+-- no key is up to a number where the first isn't
+pub count_by-above : {X : Type 0} (key : X → ℕ) (k : ℕ) (xs : List X) (x : X) → Rises key xs → slice_get xs 0 ≡ Some x → k < key x → count_by (λ y. leb (key y) k) xs ≡ 0
+count_by-above key k [] x rises got above = absurd (none-some x got)
+count_by-above key k (y ∷ ys) x rises got above =
+    let same : y ≡ x = same_Some y x got in
+    let less : k < key y = omega (arith, ap key same) in
+    counts_not (λ z. leb (key z) k) y ys (lt-leb (key y) k less) ∙ none_up_to key k (key y) ys (omega arith) rises.0
 
 -- all keys are below a number where the last is
 pub last-below : {X : Type 0} (key : X → ℕ) (k : ℕ) (xs : List X) (i : ℕ) (x : X) → Rises key xs → slice_get xs i ≡ Some x → suc i ≡ length xs → ltb (key x) k ≡ list_all (λ y. ltb (key y) k) xs

@@ -1,5 +1,5 @@
 // Slots in rising order of a key of their rows.
-ghost use Rattle.std.specs.Prelude.{◌≡◌, ◌<◌, ◌≤◌, ◌==◌, count_by, false, length, nat_lt, nat_le, slice_get};
+ghost use Rattle.std.specs.Prelude.{◌≡◌, ◌<◌, ◌≤◌, ◌==◌, IsTrue, count_by, false, length, nat_lt, nat_le, slice_get};
 ghost use Rattle.std.specs.List.{list_all, list_any};
 ghost use Rattle.std.specs.Option.{option_map_or};
 ghost use Rattle.std.specs.Vec.{vec_len, vec_capacity};
@@ -68,7 +68,7 @@ pub(crate) fn count_up_to(slots: &[u16], rows: &[SlotRow], order: Order, key: u6
     slots.partition_point(|slot| order.key(&place_at(rows, *slot)) <= key)
 }
 
-// How many keys are at most a number. Where the key at the place `near` is the number, nothing is searched for.
+// How many keys are at most a number. Where the number is the key at the place `near`, or has its own place there, nothing is searched for.
 pub(crate) fn count_up_to_near(
     slots: &[u16],
     rows: &[SlotRow],
@@ -81,7 +81,30 @@ pub(crate) fn count_up_to_near(
 {
     match slots.get(near) {
         Some(slot) if order.key(&place_at(rows, *slot)) == key => near + 1,
+        _ if belongs_at(slots, rows, order, key, near) => near,
         _ => count_up_to(slots, rows, order, key),
+    }
+}
+
+// Whether all keys before a place are below a number, and all behind it above.
+fn belongs_at(slots: &[u16], rows: &[SlotRow], order: Order, key: u64, at: usize) -> bool
+    requires rises { Rises (key_of order) (places_at rows.now slots.now) }
+    ensures { IsTrue result → at ≡ count_by (λ place. nat_le (key_of order place) key) (places_at rows.now slots.now) }
+{
+    let Some((before, behind)) = slots.split_at_checked(at) else {
+        return false;
+    };
+    are_below(before, rows, order, key) && are_above(behind, rows, order, key)
+}
+
+// Whether all keys are above a number. Where the first is, all are.
+fn are_above(slots: &[u16], rows: &[SlotRow], order: Order, key: u64) -> bool
+    requires rises { Rises (key_of order) (places_at rows.now slots.now) }
+    ensures { IsTrue result → count_by (λ place. nat_le (key_of order place) key) (places_at rows.now slots.now) ≡ 0 }
+{
+    match slots.first() {
+        Some(slot) => key < order.key(&place_at(rows, *slot)),
+        None => true,
     }
 }
 

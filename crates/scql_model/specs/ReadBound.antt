@@ -1,20 +1,17 @@
--- How many octets are read for a reading command on a table or a view: at most 64 for each cell of the base table's rows that are passed and reached, 256 for each cell of the
--- counter and of the records of users, objects and grants, and 64 more.
+-- How many octets of rows are read for a reading command on a table or a view: at most 64 for each cell of the base table's rows that are passed and reached.
 use Rattle.std.specs.Prelude.{◌≡◌, ℕ, ◌+◌, ◌*◌, ◌≤◌, ◌==◌, nat_le, nat_lt, ◌&&◌, Bool, true, false, List, [], filter, Option, Some, None, IfSome, Result, Ok, Err}
 use Rattle.std.specs.List.{sum_by}
 use Rattle.std.specs.Option.{option_map_or}
 use Rattle.scql_base.specs.declared.cursor.Cursor.{Cursor}
 use Rattle.scql_base.specs.declared.cursor.Place.{Place}
 use Rattle.scql_base.specs.declared.cursor.Place.TheVariants.{NotOpen, At, End}
-use Rattle.scql_base.specs.declared.records.User.{User}
 use Rattle.scql_base.specs.declared.records.Object.{Object}
-use Rattle.scql_base.specs.declared.records.Grant.{Grant}
 use Rattle.scql_base.specs.declared.records.RowRecord.{RowRecord}
 use Rattle.scql_base.specs.declared.words.Actor.{Actor}
 use Rattle.scql_base.specs.declared.words.StatusWord.{StatusWord}
-use Rattle.scql_model.specs.Database.{Database, counter_cells, object_stamped, rows_of}
+use Rattle.scql_model.specs.Database.{Database, object_stamped, rows_of}
 use Rattle.scql_model.specs.Defining.{is_table_or_view}
-use Rattle.scql_model.specs.Edits.{cells_of_record, of_user, of_object, of_grant, of_row}
+use Rattle.scql_model.specs.Edits.{cells_of_record, of_row}
 use Rattle.scql_model.specs.Moves.{row_behind, rows_under}
 use Rattle.scql_model.specs.Objects.{StampedRow}
 use Rattle.scql_model.specs.ReadingCommands.{ReadingCommand, declare, open_cursor, next, fetch, fetch_next, get_response}
@@ -23,12 +20,6 @@ use Rattle.scql_model.specs.Resolving.{Resolved, resolved_of}
 -- a cursor's object is a table or a view, where it is there
 abbrev pub IsOnTableOrView : Database → Cursor → Type 0
 IsOnTableOrView db c = IfSome (object_stamped db.objects c.object) (λ (o : Object). is_table_or_view o.kind ≡ true)
-
--- the cells of the counter and of the records of users, objects and grants
-abbrev pub catalogue_cells : Database → ℕ
-catalogue_cells db =
-    counter_cells db + (sum_by (λ (u : User). cells_of_record (of_user u)) db.users
-    + (sum_by (λ (o : Object). cells_of_record (of_object o)) db.objects + sum_by (λ (g : Grant). cells_of_record (of_grant g)) db.grants))
 
 -- the rows of the table on which an object rests
 abbrev pub base_rows : Database → ℕ → List RowRecord
@@ -79,18 +70,6 @@ cells_moved db actor c (get_response le) = 0
 abbrev pub octets_of_rows : Database → Actor → Option Cursor → ReadingCommand → ℕ
 octets_of_rows db actor None command = 0
 octets_of_rows db actor (Some c) command = 64 * cells_moved db actor c command
-
--- what so many searches among the records but the rows read
-abbrev pub octets_of_searches : ℕ → Database → ℕ
-octets_of_searches searches db = searches * (32 * catalogue_cells db)
-
--- an operation makes seven of these searches
-abbrev pub octets_for_operation : Database → Actor → Option Cursor → ReadingCommand → ℕ
-octets_for_operation db actor cursor command = octets_of_rows db actor cursor command + octets_of_searches 7 db
-
--- and its command one more, for the actor
-abbrev pub octets_for_reading : Database → Actor → Option Cursor → ReadingCommand → ℕ
-octets_for_reading db actor cursor command = octets_of_rows db actor cursor command + octets_of_searches 8 db + 64
 
 -- a count rises by at least so many
 abbrev pub RisesAtLeast : ℕ → ℕ → ℕ → Type 0

@@ -17,14 +17,13 @@ use apdu::Reply;
 use arrayvec::ArrayVec;
 use card_link::Desk;
 use planner::{Closing, Plan, Step};
-use scql_base::{Row, StatusWord};
+use scql_base::StatusWord;
 
-/// What is used again for each step of a plan: the step, the last reply, and a row and its text.
+/// What is used again for each step of a plan: the step, the last reply, and the text of a row.
 #[derive(Drop)]
 pub(crate) struct Room {
     pub(crate) step: Step,
     pub(crate) reply: Reply,
-    row: Row,
     text: ArrayVec<u8, LONGEST_ROW>,
 }
 
@@ -36,7 +35,6 @@ impl Room {
                 body: ArrayVec::new(),
                 word: StatusWord::MEMORY_FAILURE,
             },
-            row: Row::new(),
             text: ArrayVec::new(),
         }
     }
@@ -91,7 +89,7 @@ fn print_given<L: Desk>(desk: &mut L, plan: &Plan, room: &mut Room) -> Result<()
     ensures goes_on { L.goes_on desk.old desk.new }
 {
     match &room.step {
-        Step::Row { .. } => print_row(desk, plan, &mut room.row, &mut room.text),
+        Step::Row { .. } => print_row(desk, plan, &mut room.text),
         _ => Ok(()),
     }
 }
@@ -100,7 +98,6 @@ fn print_given<L: Desk>(desk: &mut L, plan: &Plan, room: &mut Room) -> Result<()
 fn print_row<L: Desk>(
     desk: &mut L,
     plan: &Plan,
-    row: &mut Row,
     text: &mut ArrayVec<u8, LONGEST_ROW>,
 ) -> Result<(), Failure>
     ensures printed { OnOk result (Prints (printed_row plan.now.row) (L.given desk.old) (L.given desk.new)) }
@@ -110,7 +107,7 @@ fn print_row<L: Desk>(
     ensures works { OnOk result (Works L.is_live L.faults L.sink_faults desk.old desk.new) }
     ensures goes_on { L.goes_on desk.old desk.new }
 {
-    put_row_text(plan.row_octets(), row, text);
+    put_row_text(plan.row(), text);
     give(desk, text.as_slice())
 }
 

@@ -1,9 +1,10 @@
 // What the terminal prints: rows, closing lines and errors.
-ghost use Rattle.std.specs.Prelude.{◌≡◌, ◌+◌, ◌*◌, ◌≤◌, ◌++◌, ◌<◌, [], length, codes, OnOk, OnErr};
+ghost use Rattle.std.specs.Prelude.{◌≡◌, ◌+◌, ◌*◌, ◌≤◌, ◌++◌, ◌<◌, ℕ, List, [], length, codes, option_copied, OnOk, OnErr};
 ghost use Rattle.std.specs.List.{list_all};
 ghost use Rattle.eeprom.specs.Fault.{Counts};
 ghost use Rattle.eeprom.specs.Output.{Prints};
 ghost use Rattle.hex.specs.Hex.{encode_upper};
+ghost use Rattle.scql_base.specs.Row.{row_from};
 ghost use Rattle.planner.specs.Text as model;
 ghost use Rattle.terminal.specs.Going.{printed_row};
 ghost use Rattle.terminal.specs.Printed.{between_quotes, in_hexadecimal, lead};
@@ -22,12 +23,12 @@ pub(crate) const LONGEST_ROW: usize = 2086;
 /// The longest closing line.
 pub const LONGEST_CLOSING: usize = 50;
 
-/// Makes the text of a row of an answer, on a line of its own.
-pub(crate) fn put_row_text(octets: &[u8], row: &mut Row, text: &mut ArrayVec<u8, LONGEST_ROW>)
-    ensures { text.new.items ≡ printed_row octets.now }
+/// Makes the text of a row of an answer, on a line of its own. Octets that are no row have none.
+pub(crate) fn put_row_text(row: Option<&Row>, text: &mut ArrayVec<u8, LONGEST_ROW>)
+    ensures { (octets : List ℕ) → option_copied row.entry ≡ row_from octets → text.new.items ≡ printed_row octets }
 {
     text.clear();
-    if row.read_into(octets).is_some() {
+    if let Some(row) = row {
         put_row(text, row);
     }
 }

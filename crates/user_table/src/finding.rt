@@ -51,7 +51,7 @@ pub fn find_stamp<B: Eeprom>(
     ensures found { IfOk result (λ found. IfSome (slots_of store.now side (B.chip bench.old))
         (λ slots. Rises user_kind.key (listed user_kind slots) → option_map (λ found. found.value) found ≡ user_stamped (listed user_kind slots) stamp)) }
     ensures octets_read { IfOk result (λ _. IfSome (slots_of store.now side (B.chip bench.old))
-        (λ slots. Becomes (RisesAtMost (cell_size * cells_marked user_kind slots)) (B.octets_read bench.old) (B.octets_read bench.new))) }
+        (λ slots. Becomes (RisesAtMost (cell_size * cells_tagged user_kind (Some (by.Stamp stamp)) slots)) (B.octets_read bench.old) (B.octets_read bench.new))) }
     ensures frame { Reads each_error B.chip B.faults bench.old bench.new result }
 {
     record_table::find_stamp(store, bench, side, stamp)
@@ -75,8 +75,6 @@ pub fn find_name<B: Eeprom>(
     ensures found { IfOk result (λ found. IfSome (slots_of store.now side (B.chip bench.old))
         (λ slots. count_by (is_named name) (listed user_kind slots) ≤ 1 → option_map (λ found. found.value) found ≡ user_named (listed user_kind slots) name)) }
     ensures octets_read { IfOk result (λ _. IfSome (slots_of store.now side (B.chip bench.old))
-        (λ slots. Becomes (RisesAtMost (cell_size * cells_marked user_kind slots)) (B.octets_read bench.old) (B.octets_read bench.new))) }
-    ensures tagged_read { IfOk result (λ _. IfSome (slots_of store.now side (B.chip bench.old))
         (λ slots. Becomes (RisesAtMost (cell_size * cells_tagged user_kind (Some (by.Name (tags.name_tag name))) slots)) (B.octets_read bench.old) (B.octets_read bench.new))) }
     ensures frame { Reads each_error B.chip B.faults bench.old bench.new result }
 {

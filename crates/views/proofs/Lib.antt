@@ -1,3 +1,4 @@
+pub mod Below
 pub mod Bindings
 pub mod Reached
 pub mod Stamped

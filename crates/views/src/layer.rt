@@ -9,10 +9,10 @@ ghost use Rattle.record_store.specs.Held.{IsOver};
 ghost use Rattle.scql_model.specs.Database.{Database};
 ghost use Rattle.scql_model.specs.Resolving as model;
 ghost use Rattle.scql_model.specs.Resolving.{AreKnown, resolved_below};
-ghost use Rattle.catalog_codec.specs.Catalog.{object_kind};
-ghost use Rattle.record_table.specs.Listed.{cells_marked, slots_of};
+ghost use Rattle.record_table.specs.Listed.{slots_of};
 ghost use Rattle.record_table.specs.Reading.{NeverFalls};
 ghost use Rattle.record_table.specs.Making.{IsHeld};
+ghost use Rattle.views.specs.Below.{cells_below};
 ghost use Rattle.views.specs.Resolved.{Reaches};
 
 use crate::DEEPEST;
@@ -38,8 +38,8 @@ pub(crate) fn descend<B: Eeprom>(
     ensures reached { (db : Database) (r : model.Resolved) → IsHeld store.now side (B.chip bench.old) db → resolved_below (suc most) db.objects base ≡ Some r
         → list_all (AreKnown r.all) r.filters ≡ true → IfOk result (λ there. (there ≡ true) × Reaches resolved.new r) }
     ensures few { IfOk result (λ there. there ≡ true → length resolved.new.filters.items ≤ most) }
-    ensures octets_read { IfOk result (λ _. IfSome (slots_of store.now side (B.chip bench.old))
-        (λ slots. Becomes (RisesAtMost (suc most * (cell_size * cells_marked object_kind slots))) (B.octets_read bench.old) (B.octets_read bench.new))) }
+    ensures octets_read { (db : Database) → IsHeld store.now side (B.chip bench.old) db
+        → IfOk result (λ _. Becomes (RisesAtMost (cell_size * cells_below (suc most) db.objects base)) (B.octets_read bench.old) (B.octets_read bench.new)) }
     ensures rises { IfOk result (λ _. NeverFalls (slots_of store.now side (B.chip bench.old)) (B.octets_read bench.old) (B.octets_read bench.new)) }
     ensures frame { Reads each_error B.chip B.faults bench.old bench.new result }
 {

@@ -10,13 +10,13 @@ ghost use Rattle.record_store.specs.Held.{IsOver};
 ghost use Rattle.scql_base.specs.declared.name_list.TheConstants.NameList.{MOST};
 ghost use Rattle.scql_model.specs.Database.{Database, are_among, object_stamped};
 ghost use Rattle.scql_model.specs.Defining.{is_table_or_view};
-ghost use Rattle.scql_model.specs.Objects.{columns_of, deepest};
+ghost use Rattle.scql_model.specs.Objects.{columns_of};
 ghost use Rattle.scql_model.specs.Resolving as model;
 ghost use Rattle.scql_model.specs.Resolving.{AreKnown, resolved_of};
-ghost use Rattle.catalog_codec.specs.Catalog.{object_kind};
-ghost use Rattle.record_table.specs.Listed.{cells_marked, slots_of};
+ghost use Rattle.record_table.specs.Listed.{slots_of};
 ghost use Rattle.record_table.specs.Reading.{NeverFalls};
 ghost use Rattle.record_table.specs.Making.{IsHeld};
+ghost use Rattle.views.specs.Below.{cells_under};
 ghost use Rattle.views.specs.Resolved.{ArePlaces, Reaches, Resolves, StandsFor};
 
 use crate::layer::{descend, pass, reach};
@@ -81,8 +81,8 @@ pub fn resolve<B: Eeprom>(
     requires over { IsOver store.now (B.chip bench.old) }
     ensures resolved { (db : Database) → IsHeld store.now side (B.chip bench.old) db
         → object_stamped db.objects object.now.stamp ≡ Some object.now → is_table_or_view object.now.kind ≡ true → IfOk result (Resolves db.objects object.now.stamp) }
-    ensures octets_read { IfOk result (λ _. IfSome (slots_of store.now side (B.chip bench.old))
-        (λ slots. Becomes (RisesAtMost (deepest * (cell_size * cells_marked object_kind slots))) (B.octets_read bench.old) (B.octets_read bench.new))) }
+    ensures octets_read { (db : Database) → IsHeld store.now side (B.chip bench.old) db
+        → IfOk result (λ _. Becomes (RisesAtMost (cell_size * cells_under db.objects object.now.kind)) (B.octets_read bench.old) (B.octets_read bench.new)) }
     ensures rises { IfOk result (λ _. NeverFalls (slots_of store.now side (B.chip bench.old)) (B.octets_read bench.old) (B.octets_read bench.new)) }
     ensures frame { Reads each_error B.chip B.faults bench.old bench.new result }
 {
@@ -102,8 +102,8 @@ pub fn resolve_into<B: Eeprom>(
     requires over { IsOver store.now (B.chip bench.old) }
     ensures resolved { (db : Database) → IsHeld store.now side (B.chip bench.old) db
         → object_stamped db.objects object.now.stamp ≡ Some object.now → is_table_or_view object.now.kind ≡ true → IfOk result (λ _. Resolves db.objects object.now.stamp resolved.new) }
-    ensures octets_read { IfOk result (λ _. IfSome (slots_of store.now side (B.chip bench.old))
-        (λ slots. Becomes (RisesAtMost (deepest * (cell_size * cells_marked object_kind slots))) (B.octets_read bench.old) (B.octets_read bench.new))) }
+    ensures octets_read { (db : Database) → IsHeld store.now side (B.chip bench.old) db
+        → IfOk result (λ _. Becomes (RisesAtMost (cell_size * cells_under db.objects object.now.kind)) (B.octets_read bench.old) (B.octets_read bench.new)) }
     ensures rises { IfOk result (λ _. NeverFalls (slots_of store.now side (B.chip bench.old)) (B.octets_read bench.old) (B.octets_read bench.new)) }
     ensures frame { Reads each_error B.chip B.faults bench.old bench.new result }
 {
@@ -125,8 +125,8 @@ fn rest<B: Eeprom>(
     requires over { IsOver store.now (B.chip bench.old) }
     ensures reached { (db : Database) (r : model.Resolved) → IsHeld store.now side (B.chip bench.old) db → object_stamped db.objects object.now.stamp ≡ Some object.now → resolved_of db.objects object.now.stamp ≡ Some r
         → list_all (AreKnown r.all) r.filters ≡ true → IfOk result (λ there. (there ≡ true) × Reaches resolved.new r) }
-    ensures octets_read { IfOk result (λ _. IfSome (slots_of store.now side (B.chip bench.old))
-        (λ slots. Becomes (RisesAtMost (deepest * (cell_size * cells_marked object_kind slots))) (B.octets_read bench.old) (B.octets_read bench.new))) }
+    ensures octets_read { (db : Database) → IsHeld store.now side (B.chip bench.old) db
+        → IfOk result (λ _. Becomes (RisesAtMost (cell_size * cells_under db.objects object.now.kind)) (B.octets_read bench.old) (B.octets_read bench.new)) }
     ensures rises { IfOk result (λ _. NeverFalls (slots_of store.now side (B.chip bench.old)) (B.octets_read bench.old) (B.octets_read bench.new)) }
     ensures frame { Reads each_error B.chip B.faults bench.old bench.new result }
 {

@@ -24,3 +24,6 @@ returns-in-Some-clause-wanting c is = (_, c.put.ensures, c.answer-status.ensures
 pub returns-in-Some-clause-terminal : goal.returns-in-Some-clause-terminal
 returns-in-Some-clause-terminal c state holds is =
     (_, c.put.ensures, c.answer-status.ensures.seat state (seated _ _ state (ap Some c.deref_mut.ensures.value ∙ c.in-Some.ensures.was) holds) is)
+
+pub returns-in-Some-clause-cause : goal.returns-in-Some-clause-cause
+returns-in-Some-clause-cause c is = (_, _, sym (ap Some c.deref_mut.ensures.value ∙ c.in-Some.ensures.was), c.put.ensures, c.answer-status.ensures.cause is)

@@ -31,3 +31,11 @@ returns-in-Some-clause-wanting c state holds is =
       | inl mute ↦ inl (_, c.put.ensures, mute)
       | inr there ↦ inr (_, c.put.ensures, there)
     ]
+
+pub returns-in-Some-clause-cause : goal.returns-in-Some-clause-cause
+returns-in-Some-clause-cause c is =
+    let was = sym (ap Some c.deref_mut.ensures.value ∙ c.in-Some.ensures.was) in
+    elim (c.line-status.ensures.cause is) [
+      | inl log ↦ inl ((_, c.put.ensures, log.0), (_, _, was, c.put.ensures, log.1))
+      | inr text ↦ inr (_, _, was, c.put.ensures, text)
+    ]

@@ -7,3 +7,6 @@ returns-in-Some-clause-done c m holds is = (_, c.put.ensures, c.sit-status.ensur
 
 pub returns-in-Some-clause-mute : goal.returns-in-Some-clause-mute
 returns-in-Some-clause-mute c is = (_, sym (ap Some c.deref_mut.ensures.value ∙ c.in-Some.ensures.was), c.sit-status.ensures.mute.0 is)
+
+pub returns-in-Some-clause-room : goal.returns-in-Some-clause-room
+returns-in-Some-clause-room c is = (_, c.put.ensures, sym (c.sit-status.ensures.room is))

@@ -36,9 +36,7 @@ returns-in_default-clause-octets_read g c = λ db held. nothing-read _ _
 
 pub returns-in-Err-Refused-clause-octets_read : goal.returns-in-Err-Refused-clause-octets_read
 returns-in-Err-Refused-clause-octets_read g c = λ db held.
-    asked-read c.args.reader.now.store.now c.args.reader.now.side (g.B.Eeprom.chip c.args.reader.now.bench.now) db held c.args.actor c.args.session.now.cursor c.args.le (g.B.Eeprom.octets_read c.args.reader.now.bench.now) (g.B.Eeprom.octets_read c.find_selected.new.reader.bench.now)
-    (rw c.in-Err-Refused.field-0-is at c.in-Err-Refused.ensures.octets_read)
+    rw c.in-Some.is (asked-read db c.args.actor c.in-Some.cursor c.args.le _ _ (rw c.in-Err-Refused.field-0-is at (c.in-Err-Refused.ensures.octets_read db held)))
 
 pub returns-in-Ok-clause-octets_read : goal.returns-in-Ok-clause-octets_read
-returns-in-Ok-clause-octets_read g c = λ db held.
-    asked-read c.args.reader.now.store.now c.args.reader.now.side (g.B.Eeprom.chip c.args.reader.now.bench.now) db held c.args.actor c.args.session.now.cursor c.args.le (g.B.Eeprom.octets_read c.args.reader.now.bench.now) (g.B.Eeprom.octets_read c.find_selected.new.reader.bench.now) c.in-Ok.ensures.octets_read
+returns-in-Ok-clause-octets_read g c = λ db held. rw c.in-Some.is (asked-read db c.args.actor c.in-Some.cursor c.args.le _ _ (c.in-Ok.ensures.octets_read db held))

@@ -3,7 +3,7 @@ use Rattle.std.proofs.Common.{◌≡◌, ℕ, [], Option, refl, sym, subst}
 use Rattle.db_read.specs.Scan.{IsRightFor}
 use Rattle.scql_base.specs.declared.operation.Operation.TheVariants as asks
 use Rattle.scql_model.specs.Moves.{move_of}
-use Rattle.scql_model.specs.ReadBound.{octets_for_operation}
+use Rattle.db_read.specs.Searched.{octets_for_operation}
 use Rattle.scql_model.specs.ReadingCommands.{ReadingCommand, declare, fetch, fetch_next, next, open_cursor}
 use Rattle.card.specs.ReadCosts.{ReadsOctets}
 use Rattle.card.specs.Reading.{move_to}

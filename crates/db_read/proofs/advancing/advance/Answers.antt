@@ -1,16 +1,15 @@
 -- What was found is gone over, or else looked for first.
-use Rattle.std.proofs.Common.{◌≡◌, Option, Some, is_some, true, sym, ap, subst, ◌∙◌}
-use Rattle.std.specs.Prelude.{IfSome}
+use Rattle.std.proofs.Common.{◌≡◌, ◌*◌, Option, Some, is_some, true, sym, ap, subst, ◌∙◌}
 use Rattle.eeprom.specs.Chip.{Becomes}
+use Rattle.eeprom.specs.StoreOf.{cell_size}
 use Rattle.scql_base.specs.declared.cursor.Place.{Place}
 use Rattle.scql_model.specs.Cursors.{IsCursorOf}
 use Rattle.scql_model.specs.Database.{Database}
 use Rattle.scql_model.specs.Moves.{rows_under}
-use Rattle.record_table.specs.Listed.{slots_of}
 use Rattle.record_table.specs.Making.{IsHeld}
 use Rattle.cursor.specs.Costs.{RisesBetween}
-use Rattle.db_read.specs.Costs.{catalogue_cost}
 use Rattle.db_read.specs.Scan.{Found, IsRight}
+use Rattle.db_read.specs.Searched.{cells_chosen}
 use Rattle.db_read.proofs.Adding.{nothing-chosen, where-read}
 use Rattle.db_read.proofs.Chooses.{found-chosen, right-moved}
 use Rattle.db_read.proofs.MotionLaws.{advanced-least, advanced-most, chosen-least, chosen-most, moved-by, refused-stays, stopped-least}
@@ -37,8 +36,7 @@ still g c db held =
 
 -- and what was read to choose it
 read : (g : _) (c : After-go g) (db : Database) → IsHeld c.args.reader.now.store.now c.args.reader.now.side (g.B.Eeprom.chip c.args.reader.now.bench.now) db → IsCursorOf db c.in-Some.held
-    → IfSome (slots_of c.args.reader.now.store.now c.args.reader.now.side (g.B.Eeprom.chip c.args.reader.now.bench.now))
-    (λ slots. Becomes (RisesBetween 0 (catalogue_cost slots)) (g.B.Eeprom.octets_read c.args.reader.now.bench.now) (g.B.Eeprom.octets_read c.if-not-has_found.reader.bench.now))
+    → Becomes (RisesBetween 0 (cell_size * cells_chosen db c.args.actor c.in-Some.held.object)) (g.B.Eeprom.octets_read c.args.reader.now.bench.now) (g.B.Eeprom.octets_read c.if-not-has_found.reader.bench.now)
 read g c db held cursor =
     elim c.if-not-has_found.branch [
       | then-not-has_found+in_default-choose w ↦ rw w.reader-is (w.in_default-choose.ensures.octets_read db held cursor)
@@ -77,7 +75,7 @@ returns-clause-octets_read g c = λ db held cursor right kind.
     let own_right : IsRight db c.args.actor c.args.scan.now on = rw c.in-Some.is at right in
     let found = chosen g (goal.at.returns-clause-octets_read g c).After-go db held own_right in
     let advances = c.in_ok-word.ensures.advances db c.args.actor on (still g (goal.at.returns-clause-octets_read g c).After-go db held) own (found-chosen db c.args.actor on c.scan-2.inside.is_found c.scan-2.inside.choice _ c.scan-2.view_is found.0 found.1) in
-    rw c.in-Some.is (advanced-most reader.store.now reader.side (g.B.Eeprom.chip reader.bench.now) db held c.args.actor on c.args.motion c.go.new.place c.in_ok-word.word c.go.new.out _ _ _ (rw c.in-Some.is at kind)
+    rw c.in-Some.is (advanced-most db c.args.actor on c.args.motion c.go.new.place c.in_ok-word.word c.go.new.out _ _ _ (rw c.in-Some.is at kind)
     (read g (goal.at.returns-clause-octets_read g c).After-go db held own) advances)
 
 pub returns-clause-least : goal.returns-clause-least
@@ -88,7 +86,7 @@ returns-clause-least g c = λ db held cursor right kind.
     let own_right : IsRight db c.args.actor c.args.scan.now on = rw c.in-Some.is at right in
     let found = chosen g (goal.at.returns-clause-least g c).After-go db held own_right in
     let advances = c.in_ok-word.ensures.advances db c.args.actor on (still g (goal.at.returns-clause-least g c).After-go db held) own (found-chosen db c.args.actor on c.scan-2.inside.is_found c.scan-2.inside.choice _ c.scan-2.view_is found.0 found.1) in
-    advanced-least reader.store.now reader.side (g.B.Eeprom.chip reader.bench.now) db held c.args.actor on c.args.motion c.go.new.place c.in_ok-word.word c.go.new.out _ _ _ (rw c.in-Some.is at kind)
+    advanced-least db c.args.actor on c.args.motion c.go.new.place c.in_ok-word.word c.go.new.out _ _ _ (rw c.in-Some.is at kind)
     (read g (goal.at.returns-clause-least g c).After-go db held own) advances
 
 pub returns-in-Err-clause-octets_read : goal.returns-in-Err-clause-octets_read
@@ -97,7 +95,7 @@ returns-in-Err-clause-octets_read g c = λ db held cursor right kind.
     let reader = c.args.reader.now in
     let own : IsCursorOf db on = rw c.in-Some.is at cursor in
     rw c.in-Some.is (where-read _ _ c.in-Err.stop c.stopped.result c.stopped.ensures (c.in-Err.ensures.octets_read db held own)
-    (chosen-most reader.store.now reader.side (g.B.Eeprom.chip reader.bench.now) db held c.args.actor on c.args.motion _ _))
+    (chosen-most db c.args.actor on c.args.motion _ _))
 
 pub returns-in-Err-clause-least : goal.returns-in-Err-clause-least
 returns-in-Err-clause-least g c = λ db held cursor right kind.
@@ -105,4 +103,4 @@ returns-in-Err-clause-least g c = λ db held cursor right kind.
     let reader = c.args.reader.now in
     let own : IsCursorOf db on = rw c.in-Some.is at cursor in
     stopped-least c.args.motion c.args.out.now (rows_under db c.args.actor on) c.in-Err.stop c.stopped.result _ _ c.stopped.ensures (c.in-Err.ensures.refused db held own)
-    (chosen-least reader.store.now reader.side (g.B.Eeprom.chip reader.bench.now) db held c.in-Err.stop _ _ (c.in-Err.ensures.octets_read db held own))
+    (chosen-least _ c.in-Err.stop _ _ (c.in-Err.ensures.octets_read db held own))

@@ -1,19 +1,21 @@
 -- What is found is right for the cursor; what refuses it refuses the rows under it.
-use Rattle.std.proofs.Common.{◌≡◌, ℕ, Option, Ok, refl, sym, subst, ◌∙◌}
+use Rattle.std.proofs.Common.{◌≡◌, Option, Ok, refl, sym, subst, ◌∙◌}
 use Rattle.std.specs.Prelude.{IfSome}
 use Rattle.std.proofs.lemmas.Bool.{false≢true}
-use Rattle.eeprom.specs.StoreOf.{Slots}
+use Rattle.std.specs.Option.{option_map_or}
 use Rattle.scql_base.specs.declared.records.Object.{Object}
 use Rattle.scql_model.specs.Contents.{Contents}
 use Rattle.scql_model.specs.Database.{Database}
 use Rattle.scql_model.specs.Moves.{chosen, rows_under}
 use Rattle.scql_model.specs.Rights.{seen_stamped}
-use Rattle.record_table.specs.Listed.{slots_of}
 use Rattle.record_table.specs.Making.{IsHeld}
 use Rattle.db_read.specs.Answered.{Stops, selectable}
+use Rattle.views.specs.Below.{cells_under}
+use Rattle.views.proofs.Below.{ReadsAtMost}
 use Rattle.db_read.specs.Scan.{IsResolved}
+use Rattle.db_read.specs.Searched.{cells_selected, way_cells}
 use Rattle.db_read.proofs.Adding.{object-chosen, way-chosen}
-use Rattle.db_read.proofs.Chooses.{is-for, named-resolved, stamp-found}
+use Rattle.db_read.proofs.Chooses.{at-object, is-for, named-resolved, stamp-found}
 use Rattle.db_read.proofs.Stopping.{stops-asked, stops-on, where-both, where-on}
 use Rattle.db_read.proofs.choosing.choose.Goals.{After-resolve, After-place_all}
 use Rattle.db_read.proofs.choosing.choose.Goals as goal
@@ -60,19 +62,18 @@ returns-then-not-place_all-clause-octets_read g c = λ db held cursor.
 pub returns-in_err-find_selected-clause-octets_read : goal.returns-in_err-find_selected-clause-octets_read
 returns-in_err-find_selected-clause-octets_read g c = λ db held cursor.
     let reader = c.args.reader.now in
-    let slots : Option Slots = slots_of reader.store.now reader.side (g.B.Eeprom.chip reader.bench.now) in
-    let a : Option ℕ = g.B.Eeprom.octets_read reader.bench.now in
-    let b : Option ℕ = g.B.Eeprom.octets_read c.find_selected.new.reader.bench.now in
-    where-on _ _ c.find_selected.result c.from_residual.result c.in_err-find_selected.field-0.0 c.in_err-find_selected.was c.from_residual.ensures.1 (object-chosen slots a b)
-    (where-both _ _ c.find_selected.result c.find_selected.ensures.octets_read c.find_selected.ensures.rises)
+    let on = c.args.cursor.now.object in
+    where-on _ _ c.find_selected.result c.from_residual.result c.in_err-find_selected.field-0.0 c.in_err-find_selected.was c.from_residual.ensures.1
+    (object-chosen reader.store.now reader.side (g.B.Eeprom.chip reader.bench.now) db held (cells_selected db c.args.actor on) (way_cells db on) _ _)
+    (where-both _ _ c.find_selected.result (c.find_selected.ensures.octets_read db held) c.find_selected.ensures.rises)
 
 pub returns-clause-octets_read : goal.returns-clause-octets_read
 returns-clause-octets_read g c = λ db held cursor.
     let reader = c.args.reader.now in
-    let slots : Option Slots = slots_of reader.store.now reader.side (g.B.Eeprom.chip reader.bench.now) in
-    let a : Option ℕ = g.B.Eeprom.octets_read reader.bench.now in
-    let b : Option ℕ = g.B.Eeprom.octets_read c.find_selected.new.reader.bench.now in
-    let z : Option ℕ = g.B.Eeprom.octets_read c.resolve.new.reader.bench.now in
-    way-chosen slots a b z c.in_ok-find_selected.ensures.octets_read c.in_ok-find_selected.ensures.rises
-    (rw (c.in_ok-find_selected.ensures.goes_on.store, c.in_ok-find_selected.ensures.goes_on.side, c.in_ok-find_selected.ensures.frame.same) at c.in_ok-resolve.ensures.octets_read)
+    let chip = g.B.Eeprom.chip reader.bench.now in
+    let on = c.args.cursor.now.object in
+    let there = at-object reader.store.now reader.side chip db c.args.actor c.args.cursor.now c.in-Some.object held cursor (selects g (goal.at.returns-clause-octets_read g c).After-resolve db held) in
+    let way = c.in_ok-resolve.ensures.octets_read db (rw (c.in_ok-find_selected.ensures.goes_on.store, c.in_ok-find_selected.ensures.goes_on.side, c.in_ok-find_selected.ensures.frame.same) held) in
+    way-chosen reader.store.now reader.side chip db held (cells_selected db c.args.actor on) (way_cells db on) _ _ _ (c.in_ok-find_selected.ensures.octets_read db held) c.in_ok-find_selected.ensures.rises
+    (subst (λ (o : Option Object). ReadsAtMost (option_map_or (λ (x : Object). cells_under db.objects x.kind) o 0) (g.B.Eeprom.octets_read c.find_selected.new.reader.bench.now) (g.B.Eeprom.octets_read c.resolve.new.reader.bench.now)) (sym there) way)
     (rw (c.in_ok-find_selected.ensures.goes_on.store, c.in_ok-find_selected.ensures.goes_on.side, c.in_ok-find_selected.ensures.frame.same) at c.in_ok-resolve.ensures.rises)

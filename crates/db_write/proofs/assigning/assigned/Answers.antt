@@ -16,9 +16,9 @@ loop-column-init c =
     let row = c.args.row.now in
     let columns = c.as_slice-column-items.ensures.names in
     record {
-      left = rw (c.new.ensures, c.octets-rest.ensures) (subst (λ (columns : Columns). IsLeft c.args.changes.now c.as_slice-column-items.result.now (all_assigned c.args.changes.now columns row) row [] (flat_map spelled row)) columns
+      left = rw (c.requires.empty, c.octets-rest.ensures) (subst (λ (columns : Columns). IsLeft c.args.changes.now c.as_slice-column-items.result.now (all_assigned c.args.changes.now columns row) row [] (flat_map spelled row)) columns
           (IsLeft-first c.args.changes.now c.as_slice-column-items.result.now row (flat_map spelled row) (params_of-again row) c.len.ensures.row.widths));
-      many = ap length c.new.ensures;
+      many = ap length c.requires.empty;
     }
 
 -- the columns that are left begin with this one

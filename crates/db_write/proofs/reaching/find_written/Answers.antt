@@ -1,26 +1,59 @@
--- What was found may be written where the actor holds the privilege.
-use Rattle.std.proofs.Common.{sym, ◌∙◌}
+-- The one object of the cursor's stamp, if it appears and may be written, or the first refusal.
+use Rattle.std.proofs.Common.{sym, subst, ◌∙◌}
+use Rattle.record_store.specs.declared.side.Side.TheVariants.{Working}
 use Rattle.privilege_table.specs.Rights.{privilege_bit}
-use Rattle.db_read.specs.Scan.{found_lent}
-use Rattle.db_write.proofs.FoundThrough.{found-foreign, found-there, found-writes, over-lent}
+use Rattle.record_table.specs.Making.{IsHeld}
+use Rattle.db_write.proofs.WrittenThrough.{writes, writes-foreign, writes-hidden, writes-none, writes-other}
 use Rattle.db_write.proofs.reaching.find_written.Goals as goal
+
+pub returns-in_default-clause-refused : goal.returns-in_default-clause-refused
+returns-in_default-clause-refused g c = λ db held.
+    let there = c.in_ok-find_object.ensures.found db c.args.actor held (c.requires.right db held) in
+    rw c.refused.ensures (writes-none db c.args.actor (privilege_bit c.args.privilege) c.args.cursor.now held.valid (sym c.in_default.is ∙ there))
+
+pub returns-then-not-see-clause-refused : goal.returns-then-not-see-clause-refused
+returns-then-not-see-clause-refused g c = λ db held.
+    let o = c.in-Some.object in
+    let bit = privilege_bit c.args.privilege in
+    let cursor = c.args.cursor.now in
+    let there = c.in_ok-find_object.ensures.found db c.args.actor held (c.requires.right db held) in
+    let second = subst (λ chip. IsHeld c.args.store.now Working chip db) (sym c.in_ok-find_object.ensures.frame.same) held in
+    let hidden = (c.in_ok-rights.ensures.rights db second).appears ∙ (sym c.see.ensures ∙ c.if-not-see.true) in
+    rw c.refused-then-not-see.ensures (writes-hidden db c.args.actor bit cursor o held.valid (sym c.in-Some.is ∙ there) hidden)
+
+pub returns-then-not-is_table_or_view-clause-refused : goal.returns-then-not-is_table_or_view-clause-refused
+returns-then-not-is_table_or_view-clause-refused g c = λ db held.
+    let o = c.in-Some.object in
+    let bit = privilege_bit c.args.privilege in
+    let cursor = c.args.cursor.now in
+    let there = c.in_ok-find_object.ensures.found db c.args.actor held (c.requires.right db held) in
+    let second = subst (λ chip. IsHeld c.args.store.now Working chip db) (sym c.in_ok-find_object.ensures.frame.same) held in
+    let seen = (c.in_ok-rights.ensures.rights db second).appears ∙ (sym c.see.ensures ∙ c.if-not-see.false) in
+    let other = sym c.is_table_or_view.ensures ∙ c.if-not-is_table_or_view.true in
+    rw c.refused-then-not-is_table_or_view.ensures (writes-other db c.args.actor bit cursor o held.valid (sym c.in-Some.is ∙ there) seen other)
 
 pub returns-then-not-have-clause-refused : goal.returns-then-not-have-clause-refused
 returns-then-not-have-clause-refused g c = λ db held.
+    let o = c.in-Some.object in
+    let bit = privilege_bit c.args.privilege in
     let cursor = c.args.cursor.now in
-    let over = over-lent c.found.result c.args.scan.now c.in-Some.found db c.args.actor cursor c.found.ensures c.in-Some.is (c.requires.right db held) in
-    rw c.refused.ensures (found-foreign c.args.store.now (g.B.Eeprom.chip c.args.bench.now) db c.args.actor cursor (found_lent c.in-Some.found) held over (privilege_bit c.args.privilege)
-    ((c.in_ok-rights.ensures.rights db held).holds c.args.privilege ∙ (sym c.have.ensures ∙ c.if-not-have.true)))
+    let there = c.in_ok-find_object.ensures.found db c.args.actor held (c.requires.right db held) in
+    let second = subst (λ chip. IsHeld c.args.store.now Working chip db) (sym c.in_ok-find_object.ensures.frame.same) held in
+    let rights = c.in_ok-rights.ensures.rights db second in
+    let seen = (c.in_ok-rights.ensures.rights db second).appears ∙ (sym c.see.ensures ∙ c.if-not-see.false) in
+    let kind = sym c.is_table_or_view.ensures ∙ c.if-not-is_table_or_view.false in
+    let foreign = rights.holds c.args.privilege ∙ (sym c.have.ensures ∙ c.if-not-have.true) in
+    rw c.refused-then-not-have.ensures (writes-foreign db c.args.actor bit cursor o held.valid (sym c.in-Some.is ∙ there) seen kind foreign)
 
 pub returns-clause-written : goal.returns-clause-written
 returns-clause-written g c = λ db held.
-    let cursor = c.args.cursor.now in
-    let over = over-lent c.found.result c.args.scan.now c.in-Some.found db c.args.actor cursor c.found.ensures c.in-Some.is (c.requires.right db held) in
-    found-writes c.args.store.now (g.B.Eeprom.chip c.args.bench.now) db c.args.actor cursor (found_lent c.in-Some.found) held over (privilege_bit c.args.privilege)
-    ((c.in_ok-rights.ensures.rights db held).holds c.args.privilege ∙ (sym c.have.ensures ∙ c.if-not-have.false))
-
-pub returns-clause-there : goal.returns-clause-there
-returns-clause-there g c = λ db held.
-    let cursor = c.args.cursor.now in
-    let over = over-lent c.found.result c.args.scan.now c.in-Some.found db c.args.actor cursor c.found.ensures c.in-Some.is (c.requires.right db held) in
-    found-there c.args.store.now (g.B.Eeprom.chip c.args.bench.now) db c.args.actor cursor (found_lent c.in-Some.found) held over
+    let o = c.in-Some.object in
+    let there = c.in_ok-find_object.ensures.found db c.args.actor held (c.requires.right db held) in
+    let second = subst (λ chip. IsHeld c.args.store.now Working chip db) (sym c.in_ok-find_object.ensures.frame.same) held in
+    let rights = c.in_ok-rights.ensures.rights db second in
+    let seen = rights.appears ∙ (sym c.see.ensures ∙ c.if-not-see.false) in
+    let kind = sym c.is_table_or_view.ensures ∙ c.if-not-is_table_or_view.false in
+    record {
+      has = record { object = o; is = c.in-Some.is; at = sym there ∙ c.in-Some.is; kind = kind };
+      written = writes db c.args.actor (privilege_bit c.args.privilege) c.args.cursor.now o held.valid (sym c.in-Some.is ∙ there) seen kind (rights.holds c.args.privilege ∙ (sym c.have.ensures ∙ c.if-not-have.false));
+    }

@@ -1,16 +1,22 @@
-use Rattle.std.proofs.Common.{◌+◌, rules}
-use Rattle.eeprom.specs.StoreOf.{journal_place}
-use Rattle.journal.proofs.Pushed.{entries-read, entries-refused}
+use Rattle.std.proofs.Common.{◌≡◌, ◌+◌, ◌*◌, ◌++◌, length, ◌∙◌, rules, subst}
+use Rattle.std.specs.Prelude.{IfSome}
+use Rattle.eeprom.specs.Chip.{Chip}
+use Rattle.eeprom.specs.StoreOf.{entries_at, journal_place}
+use Rattle.journal.proofs.Pushed.{read-on}
 use Rattle.journal.proofs.reading.read_entries.Goals as goal
 
-pub returns-then-not-are_entries-clause-bad_journal : goal.returns-then-not-are_entries-clause-bad_journal
-returns-then-not-are_entries-clause-bad_journal g c is =
-    entries-refused (g.B.Eeprom.chip c.args.bench.now).image c.args.cells c.take_entries.new.entries.items (journal_place c.args.cells + 2) c.args.count
-    (entries-read (g.B.Eeprom.chip c.args.bench.now).image c.read.new.into c.take_entries.new.entries.items (journal_place c.args.cells + 2) c.args.count _ (search rules)
-    (rw c.journal_place.ensures at c.in_ok-read.ensures.octets) c.take_entries.ensures.entries)
-    (search rules)
-
-pub returns-clause-entries : goal.returns-clause-entries
-returns-clause-entries g c =
-    entries-read (g.B.Eeprom.chip c.args.bench.now).image c.read.new.into c.take_entries.new.entries.items (journal_place c.args.cells + 2) c.args.count _ (search rules)
-    (rw c.journal_place.ensures at c.in_ok-read.ensures.octets) c.take_entries.ensures.entries
+pub loop-left-preserved : goal.loop-left-preserved
+loop-left-preserved g c =
+    let entries = c.loop-left.entries.items in
+    let more = c.read_more.new.entries.items in
+    let few = c.min-few.result in
+    let count : length more ≡ length entries + few = c.in_ok-read_more.ensures.count in
+    record {
+      count = search rules;
+      entries = read-on (g.B.Eeprom.chip c.args.bench.now).image (journal_place c.args.cells + 2) few entries more c.loop-left.invariant.entries
+          (subst (λ (chip : Chip). IfSome chip.image (λ image. more ≡ entries ++ entries_at image (journal_place c.args.cells + 2 + 4 * length entries) few)) c.loop-left.invariant.same c.in_ok-read_more.ensures.entries)
+          count;
+      same = c.read_more.ensures.frame.same ∙ c.loop-left.invariant.same;
+      read = search rules;
+      faults = search rules;
+    }

@@ -8,7 +8,7 @@ use Rattle.record_table.proofs.ListedSearches.{found-listed, some-listed}
 use Rattle.record_table.proofs.ReadingCosts.{falls-both, falls-none}
 use Rattle.record_table.proofs.Scan.{empty-told, left-all, left-behind, left-known, left-empty, passed-place, passed_over, here-taken, taken-found}
 use Rattle.record_table.proofs.SlotCosts.{reads-none, reads-behind, reads-on, reads-all}
-use Rattle.record_table.proofs.TaggedSearches.{left-unwanted, unwanted-told, tagged-told, tagged-none, reads-fewer}
+use Rattle.record_table.proofs.TaggedSearches.{find-skips, left-unwanted, unwanted-told, tagged-told, tagged-none}
 use Rattle.record_table.proofs.finding.find_into.Goals as goal
 
 pub loop-slot-init : goal.loop-slot-init
@@ -19,7 +19,7 @@ loop-slot-init g c =
       faults = refl;
       bound = c.slots_in_use-end.ensures.most;
       empty = empty-told c.args.store.now c.args.side c.slots_in_use-end.result (g.B.Eeprom.chip c.args.bench.now).image c.requires.over.stands c.slots_in_use-end.ensures.empty;
-      left = left-unwanted g.R.Record.kind (g.W.Wanted.wants c.args.wanted.now) (λ slots. find (g.W.Wanted.wants c.args.wanted.now) (in_slots g.R.Record.kind slots)) slots 0 c.next_tagged-slot.result (omega arith)
+      left = left-unwanted g.R.Record.kind (g.W.Wanted.wants c.args.wanted.now) (find (g.W.Wanted.wants c.args.wanted.now)) (find-skips (g.W.Wanted.wants c.args.wanted.now)) (λ slots. find (g.W.Wanted.wants c.args.wanted.now) (in_slots g.R.Record.kind slots)) slots 0 c.next_tagged-slot.result (omega arith)
           (unwanted-told g.R.Record.kind (g.W.Wanted.wants c.args.wanted.now) c.tag-tag.result c.args.store.now c.args.side 0 c.next_tagged-slot.result (g.B.Eeprom.chip c.args.bench.now).image g.met.R.Record.lawful c.tag-tag.ensures.right c.requires.over.stands c.next_tagged-slot.ensures.others)
           (left-all g.R.Record.kind (find (g.W.Wanted.wants c.args.wanted.now)) slots);
       read = reads-on (tagged_cells g.R.Record.kind c.tag-tag.result) slots 0 c.next_tagged-slot.result _ _ (omega arith) (reads-none (tagged_cells g.R.Record.kind c.tag-tag.result) slots (g.B.Eeprom.octets_read c.args.bench.now));
@@ -47,17 +47,13 @@ pub returns-then-has_wanted-clause-found : goal.returns-then-has_wanted-clause-f
 returns-then-has_wanted-clause-found g c =
     found-listed g.R.Record.kind (g.W.Wanted.wants c.args.wanted.now) _ (slots_of c.args.store.now c.args.side (g.B.Eeprom.chip c.args.bench.now)) (returns-then-has_wanted-clause-first g c)
 
-pub returns-then-has_wanted-clause-tagged_read : goal.returns-then-has_wanted-clause-tagged_read
-returns-then-has_wanted-clause-tagged_read g c =
+pub returns-then-has_wanted-clause-octets_read : goal.returns-then-has_wanted-clause-octets_read
+returns-then-has_wanted-clause-octets_read g c =
     let slots : Option Slots = slots_of c.args.store.now c.args.side (g.B.Eeprom.chip c.args.bench.now) in
     let read = rw c.loop-slot.invariant.same at c.in_ok-read.ensures.octets_read in
     let cells = tagged_cells g.R.Record.kind c.tag-tag.result in
     rw (sym c.tag-tag.ensures.is) (reads-all cells slots (c.loop-slot.slot + 1) _ _
     (reads-behind cells (tagged-none g.R.Record.kind c.tag-tag.result) slots c.loop-slot.slot (kind_cells g.R.Record.kind) _ _ _ c.loop-slot.invariant.here c.loop-slot.invariant.read read))
-
-pub returns-then-has_wanted-clause-octets_read : goal.returns-then-has_wanted-clause-octets_read
-returns-then-has_wanted-clause-octets_read g c =
-    reads-fewer g.R.Record.kind (g.W.Wanted.tag_is c.args.wanted.now) (slots_of c.args.store.now c.args.side (g.B.Eeprom.chip c.args.bench.now)) _ _ (returns-then-has_wanted-clause-tagged_read g c)
 
 pub returns-then-has_wanted-clause-rises : goal.returns-then-has_wanted-clause-rises
 returns-then-has_wanted-clause-rises g c =
@@ -75,7 +71,7 @@ loop-slot-preserved g c =
       faults = c.in_ok-read.ensures.frame.counts.1 ∙ c.loop-slot.invariant.faults;
       bound = c.loop-slot.invariant.bound;
       empty = c.loop-slot.invariant.empty;
-      left = left-unwanted g.R.Record.kind (g.W.Wanted.wants c.args.wanted.now) (λ slots. find (g.W.Wanted.wants c.args.wanted.now) (in_slots g.R.Record.kind slots)) slots (c.loop-slot.slot + 1) next.result next.ensures.onward
+      left = left-unwanted g.R.Record.kind (g.W.Wanted.wants c.args.wanted.now) (find (g.W.Wanted.wants c.args.wanted.now)) (find-skips (g.W.Wanted.wants c.args.wanted.now)) (λ slots. find (g.W.Wanted.wants c.args.wanted.now) (in_slots g.R.Record.kind slots)) slots (c.loop-slot.slot + 1) next.result next.ensures.onward
           (unwanted-told g.R.Record.kind (g.W.Wanted.wants c.args.wanted.now) c.tag-tag.result c.args.store.now c.args.side (c.loop-slot.slot + 1) next.result (g.B.Eeprom.chip c.args.bench.now).image g.met.R.Record.lawful c.tag-tag.ensures.right c.requires.over.stands next.ensures.others)
           (left-behind g.R.Record.kind (λ slots. find (g.W.Wanted.wants c.args.wanted.now) (in_slots g.R.Record.kind slots)) (find (g.W.Wanted.wants c.args.wanted.now)) (find (g.W.Wanted.wants c.args.wanted.now)) slots
           c.loop-slot.slot _ here (passed_over (g.W.Wanted.wants c.args.wanted.now) _ fails) c.loop-slot.invariant.left);
@@ -98,10 +94,6 @@ pub returns-clause-found : goal.returns-clause-found
 returns-clause-found g c =
     found-listed g.R.Record.kind (g.W.Wanted.wants c.args.wanted.now) _ (slots_of c.args.store.now c.args.side (g.B.Eeprom.chip c.args.bench.now)) (returns-clause-first g c)
 
-pub returns-clause-tagged_read : goal.returns-clause-tagged_read
-returns-clause-tagged_read g c =
-    rw (sym c.tag-tag.ensures.is) (reads-all (tagged_cells g.R.Record.kind c.tag-tag.result) (slots_of c.args.store.now c.args.side (g.B.Eeprom.chip c.args.bench.now)) c.loop-slot.slot _ _ c.loop-slot.invariant.read)
-
 pub returns-clause-octets_read : goal.returns-clause-octets_read
 returns-clause-octets_read g c =
-    reads-fewer g.R.Record.kind (g.W.Wanted.tag_is c.args.wanted.now) (slots_of c.args.store.now c.args.side (g.B.Eeprom.chip c.args.bench.now)) _ _ (returns-clause-tagged_read g c)
+    rw (sym c.tag-tag.ensures.is) (reads-all (tagged_cells g.R.Record.kind c.tag-tag.result) (slots_of c.args.store.now c.args.side (g.B.Eeprom.chip c.args.bench.now)) c.loop-slot.slot _ _ c.loop-slot.invariant.read)

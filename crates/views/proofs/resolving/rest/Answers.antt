@@ -31,3 +31,9 @@ pub returns-in-Dictionary-clause-reached : goal.returns-in-Dictionary-clause-rea
 returns-in-Dictionary-clause-reached g c = λ db r held at is known.
     let o = c.args.object.now in
     absurd (false≢true (dictionary-none (resolved_below 4 db.objects) o o.kind c.in-Dictionary.subject r c.in-Dictionary.is (of-object db.objects o r at is)))
+
+pub returns-then-not-branch-clause-octets_read : goal.returns-then-not-branch-clause-octets_read
+returns-then-not-branch-clause-octets_read g c = λ db held. rw c.in-View.is (c.in_ok-descend-in-View.ensures.octets_read db held)
+
+pub returns-else-not-branch-clause-octets_read : goal.returns-else-not-branch-clause-octets_read
+returns-else-not-branch-clause-octets_read g c = λ db held. rw c.in-View.is (c.in_ok-descend-in-View.ensures.octets_read db held)

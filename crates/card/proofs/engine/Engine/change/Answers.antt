@@ -90,7 +90,7 @@ returns-clause-performs g c = λ m from.
           let word = w.in_ok-word-in-None.word in
           rw (w.bench-is, w.word-is) (Performs-at_once (record c.args.self.now { found = c.known_actor-known.new.self.found }) c.settle.new.self w.change.new.store w.change.new.index old new m c.args.channel c.args.operation.now c.proved_user-user.result c.in-Some.session.cursor (Ok word) (StandsOver-found c.args.self.now c.known_actor-known.new.self.found old c.requires.ready) (record { held = HoldsMachine-found c.args.self.now c.known_actor-known.new.self.found old m from.held; valid = from.valid })
           (ap (λ (kept : Kept). kept.transaction) (sym (c.self.view_is ∙ c.known_actor-known.ensures.kept)) ∙ w.in-None.is) (c.proved_user-user.ensures ∙ ap (λ (kept : Kept). opened.proved_user (opened.session_on kept.sessions c.args.channel)) c.known_actor-known.ensures.kept) reads
-          ((rw (w.word-is, w.self-inside-is) at c.settle.ensures) ∙ ap (λ (kept : Kept). settled word (record kept { store = w.change.new.store; index = w.change.new.index }) c.args.channel) (c.self.view_is ∙ c.known_actor-known.ensures.kept))
+          ((rw (w.word-is, w.self-inside-is, w.change.ensures.scan_same, c.deref_mut.ensures.value) at c.settle.ensures) ∙ ap (λ (kept : Kept). settled word (record kept { store = w.change.new.store; index = w.change.new.index }) c.args.channel) (c.self.view_is ∙ c.known_actor-known.ensures.kept))
           (subst (λ (kept : Kept). (db : Database) → IsAtRest kept.store old db → IfSome c.in-Some.session.cursor (IsCursorOf db)
           → Changes db (edits_of db (acting db c.proved_user-user.result) c.in-Some.session.cursor c.args.operation.now) (Ok word) w.change.new.store old new) (c.self.view_is ∙ c.known_actor-known.ensures.kept) w.in_ok-word-in-None.ensures.changes)))
       | in-Some-transaction+in_ok-word-in-Some-transaction w ↦ (
@@ -98,7 +98,7 @@ returns-clause-performs g c = λ m from.
           let word = w.in_ok-word-in-Some-transaction.word in
           rw (w.bench-is, w.word-is) (Performs-in_transaction (record c.args.self.now { found = c.known_actor-known.new.self.found }) c.settle.new.self w.change_within.new.store w.change_within.new.index old new m c.args.channel w.in-Some-transaction.field-0 c.args.operation.now c.proved_user-user.result c.in-Some.session.cursor
           (Ok word) (StandsOver-found c.args.self.now c.known_actor-known.new.self.found old c.requires.ready) (record { held = HoldsMachine-found c.args.self.now c.known_actor-known.new.self.found old m from.held; valid = from.valid }) (ap (λ (kept : Kept). kept.transaction) (sym (c.self.view_is ∙ c.known_actor-known.ensures.kept)) ∙ w.in-Some-transaction.is) c.requires.mine (c.proved_user-user.ensures ∙ ap (λ (kept : Kept). opened.proved_user (opened.session_on kept.sessions c.args.channel)) c.known_actor-known.ensures.kept) reads
-          ((rw (w.word-is, w.self-inside-is) at c.settle.ensures) ∙ ap (λ (kept : Kept). settled word (record kept { store = w.change_within.new.store; index = w.change_within.new.index }) c.args.channel) (c.self.view_is ∙ c.known_actor-known.ensures.kept))
+          ((rw (w.word-is, w.self-inside-is, w.change_within.ensures.scan_same, c.deref_mut.ensures.value) at c.settle.ensures) ∙ ap (λ (kept : Kept). settled word (record kept { store = w.change_within.new.store; index = w.change_within.new.index }) c.args.channel) (c.self.view_is ∙ c.known_actor-known.ensures.kept))
           (subst (λ (kept : Kept). (db : Database) → IsHeld kept.store Working old db → IfSome c.in-Some.session.cursor (IsCursorOf db)
           → ConcludesWithin db (edits_of db (acting db c.proved_user-user.result) c.in-Some.session.cursor c.args.operation.now) word kept.store w.change_within.new.store old new) (c.self.view_is ∙ c.known_actor-known.ensures.kept) w.in_ok-word-in-Some-transaction.ensures.changes)
           (subst (λ (kept : Kept). slots_of w.change_within.new.store Committed new ≡ slots_of kept.store Committed old) (c.self.view_is ∙ c.known_actor-known.ensures.kept) w.in_ok-word-in-Some-transaction.ensures.committed)
@@ -111,14 +111,14 @@ returns-clause-ready g c =
     elim c.match-transaction.branch [
       | in-None+in_ok-word-in-None w ↦ (
           let changed : Kept = record (record c.args.self.now { found = c.known_actor-known.new.self.found }) { store = w.change.new.store; index = w.change.new.index } in
-          let is = (rw (w.word-is, w.self-inside-is) at c.settle.ensures) ∙ ap (λ (kept : Kept). settled w.in_ok-word-in-None.word (record kept { store = w.change.new.store; index = w.change.new.index }) c.args.channel) (c.self.view_is ∙ c.known_actor-known.ensures.kept) in
+          let is = (rw (w.word-is, w.self-inside-is, w.change.ensures.scan_same, c.deref_mut.ensures.value) at c.settle.ensures) ∙ ap (λ (kept : Kept). settled w.in_ok-word-in-None.word (record kept { store = w.change.new.store; index = w.change.new.index }) c.args.channel) (c.self.view_is ∙ c.known_actor-known.ensures.kept) in
           let new = g.B.Eeprom.chip w.change.new.bench in
           let ensures = w.in_ok-word-in-None.ensures in
           rw w.bench-is (subst (λ (kept : Kept). StandsOver kept new) (sym is) (StandsOver-settled w.in_ok-word-in-None.word changed c.args.channel new
           (StandsOver-idle changed new c.requires.ready.live (ap (λ (kept : Kept). kept.transaction) (sym (c.self.view_is ∙ c.known_actor-known.ensures.kept)) ∙ w.in-None.is) ensures.idle ensures.over ensures.holds ensures.index_idle ensures.index))))
       | in-Some-transaction+in_ok-word-in-Some-transaction w ↦ (
           let changed : Kept = record (record c.args.self.now { found = c.known_actor-known.new.self.found }) { store = w.change_within.new.store; index = w.change_within.new.index } in
-          let is = (rw (w.word-is, w.self-inside-is) at c.settle.ensures) ∙ ap (λ (kept : Kept). settled w.in_ok-word-in-Some-transaction.word (record kept { store = w.change_within.new.store; index = w.change_within.new.index }) c.args.channel) (c.self.view_is ∙ c.known_actor-known.ensures.kept) in
+          let is = (rw (w.word-is, w.self-inside-is, w.change_within.ensures.scan_same, c.deref_mut.ensures.value) at c.settle.ensures) ∙ ap (λ (kept : Kept). settled w.in_ok-word-in-Some-transaction.word (record kept { store = w.change_within.new.store; index = w.change_within.new.index }) c.args.channel) (c.self.view_is ∙ c.known_actor-known.ensures.kept) in
           let new = g.B.Eeprom.chip w.change_within.new.bench in
           let ensures = w.in_ok-word-in-Some-transaction.ensures in
           rw w.bench-is (subst (λ (kept : Kept). StandsOver kept new) (sym is) (StandsOver-settled w.in_ok-word-in-Some-transaction.word changed c.args.channel new
@@ -140,7 +140,7 @@ returns-clause-found g c = λ rows.
       | in-None+in_ok-word-in-None w ↦ (
           let word = w.in_ok-word-in-None.word in
           let new = g.B.Eeprom.chip w.change.new.bench in
-          let is = (rw (w.word-is, w.self-inside-is) at c.settle.ensures) ∙ ap (λ (kept : Kept). settled word (record kept { store = w.change.new.store; index = w.change.new.index }) c.args.channel) (c.self.view_is ∙ c.known_actor-known.ensures.kept) in
+          let is = (rw (w.word-is, w.self-inside-is, w.change.ensures.scan_same, c.deref_mut.ensures.value) at c.settle.ensures) ∙ ap (λ (kept : Kept). settled word (record kept { store = w.change.new.store; index = w.change.new.index }) c.args.channel) (c.self.view_is ∙ c.known_actor-known.ensures.kept) in
           rw w.bench-is (subst (λ (kept : Kept). FindsAgain kept new) (sym is)
           (found-at_once word (record c.args.self.now { found = c.known_actor-known.new.self.found }) w.change.new.store w.change.new.index c.args.channel old new (ap (λ (kept : Kept). kept.transaction) (sym (c.self.view_is ∙ c.known_actor-known.ensures.kept)) ∙ w.in-None.is)
           (subst (λ (kept : Kept). KeepsCatalog Committed kept.store w.change.new.store old new) (c.self.view_is ∙ c.known_actor-known.ensures.kept) (w.in_ok-word-in-None.ensures.catalog rows)) (subst (λ (kept : Kept). FindsAgain kept old) c.known_actor-known.ensures.kept (c.known_actor-known.ensures.found old c.requires.found)))))
@@ -148,7 +148,7 @@ returns-clause-found g c = λ rows.
           let word = w.in_ok-word-in-Some-transaction.word in
           let new = g.B.Eeprom.chip w.change_within.new.bench in
           let ensures = w.in_ok-word-in-Some-transaction.ensures in
-          let is = (rw (w.word-is, w.self-inside-is) at c.settle.ensures) ∙ ap (λ (kept : Kept). settled word (record kept { store = w.change_within.new.store; index = w.change_within.new.index }) c.args.channel) (c.self.view_is ∙ c.known_actor-known.ensures.kept) in
+          let is = (rw (w.word-is, w.self-inside-is, w.change_within.ensures.scan_same, c.deref_mut.ensures.value) at c.settle.ensures) ∙ ap (λ (kept : Kept). settled word (record kept { store = w.change_within.new.store; index = w.change_within.new.index }) c.args.channel) (c.self.view_is ∙ c.known_actor-known.ensures.kept) in
           rw w.bench-is (subst (λ (kept : Kept). FindsAgain kept new) (sym is)
           (found-within word (record c.args.self.now { found = c.known_actor-known.new.self.found }) w.change_within.new.store w.change_within.new.index c.args.channel w.in-Some-transaction.field-0 old new (ap (λ (kept : Kept). kept.transaction) (sym (c.self.view_is ∙ c.known_actor-known.ensures.kept)) ∙ w.in-Some-transaction.is)
           (subst (λ (kept : Kept). KeepsCatalog Working kept.store w.change_within.new.store old new) (c.self.view_is ∙ c.known_actor-known.ensures.kept) (ensures.catalog rows))
@@ -167,9 +167,9 @@ change-requires-clause-right g c = λ db held.
     let user = c.proved_user-user.ensures ∙ ap (λ (kept : Kept). opened.proved_user (opened.session_on kept.sessions channel)) c.known_actor-known.ensures.kept in
     let side : side_of c.args.self.now.transaction channel ≡ Committed = ap (λ (own : Option ℕ). side_of own channel) (ap (λ (kept : Kept). kept.transaction) (sym view) ∙ c.in-None.is) in
     let here = subst (λ (side : Side). IsHeld c.args.self.now.store side old db) (sym side) (subst (λ (kept : Kept). IsHeld kept.store Committed old db) view held) in
-    subst (λ (user : Option ℕ). IsRightFor db (acting db user) c.deref.result.now.scan c.in-Some.session.cursor) (sym user)
+    subst (λ (user : Option ℕ). IsRightFor db (acting db user) c.deref_mut.result.now.scan c.in-Some.session.cursor) (sym user)
     (subst (λ (scan : Option scans.Found). IsRightFor db (acting db (opened.proved_user (opened.session_on c.args.self.now.sessions channel))) scan c.in-Some.session.cursor)
-    (ap (λ (kept : Kept). kept.found.scan) (sym c.self.view_is) ∙ ap (λ (f : Found). f.scan) (sym c.deref.ensures))
+    (ap (λ (kept : Kept). kept.found.scan) (sym c.self.view_is) ∙ ap (λ (f : Found). f.scan) (sym c.deref_mut.ensures.value))
     (subst (IsRightFor db (acting db (opened.proved_user (opened.session_on c.args.self.now.sessions channel))) c.known_actor-known.new.self.found.scan) cursors (c.known_actor-known.ensures.right old db c.requires.found here)))
 
 pub change_within-requires-clause-right : goal.change_within-requires-clause-right
@@ -183,9 +183,9 @@ change_within-requires-clause-right g c = λ db held.
     let user = c.proved_user-user.ensures ∙ ap (λ (kept : Kept). opened.proved_user (opened.session_on kept.sessions channel)) c.known_actor-known.ensures.kept in
     let side : side_of c.args.self.now.transaction channel ≡ Working = side-own c.args.self.now.transaction c.in-Some-transaction.field-0 channel (ap (λ (kept : Kept). kept.transaction) (sym view) ∙ c.in-Some-transaction.is) c.requires.mine in
     let here = subst (λ (side : Side). IsHeld c.args.self.now.store side old db) (sym side) (subst (λ (kept : Kept). IsHeld kept.store Working old db) view held) in
-    subst (λ (user : Option ℕ). IsRightFor db (acting db user) c.deref.result.now.scan c.in-Some.session.cursor) (sym user)
+    subst (λ (user : Option ℕ). IsRightFor db (acting db user) c.deref_mut.result.now.scan c.in-Some.session.cursor) (sym user)
     (subst (λ (scan : Option scans.Found). IsRightFor db (acting db (opened.proved_user (opened.session_on c.args.self.now.sessions channel))) scan c.in-Some.session.cursor)
-    (ap (λ (kept : Kept). kept.found.scan) (sym c.self.view_is) ∙ ap (λ (f : Found). f.scan) (sym c.deref.ensures))
+    (ap (λ (kept : Kept). kept.found.scan) (sym c.self.view_is) ∙ ap (λ (f : Found). f.scan) (sym c.deref_mut.ensures.value))
     (subst (IsRightFor db (acting db (opened.proved_user (opened.session_on c.args.self.now.sessions channel))) c.known_actor-known.new.self.found.scan) cursors (c.known_actor-known.ensures.right old db c.requires.found here)))
 
 pub change-requires-clause-known : goal.change-requires-clause-known

@@ -6,7 +6,7 @@ use Rattle.eeprom.specs.Chip.{Chip}
 use Rattle.scql_model.specs.Cursors.{StandsOn}
 use Rattle.scql_model.specs.Database.{Database}
 use Rattle.scql_model.specs.Machine.{Reading, actor, base}
-use Rattle.scql_model.specs.ReadBound.{octets_for_reading}
+use Rattle.db_read.specs.Searched.{octets_for_reading}
 use Rattle.scql_model.specs.Sessions.{cursor_of, reading_of, reading_so}
 use Rattle.scql_model.specs.Step.{answered, carried_out}
 use Rattle.record_store.specs.declared.side.Side.{Side}
@@ -150,5 +150,5 @@ returns-clause-octets_read g c = λ m from asked is.
     let cursors = of_database db session.cursor (subst (λ (reading : Reading). IfSome reading.cursor (StandsOn db)) seen (from.valid.readings channel).cursor) in
     subst (λ (octets : Option ℕ). ReadsOctets (octets_for_reading db (actor m channel) (cursor_of m channel) asked) db (actor m channel) (reading_of m channel) asked a octets) (search rules)
     (reads-there db c.in_ok-actor.actor (actor m channel) (reading_in session) (reading_of m channel) asked a d who seen
-    (acted-read args.store side old db held c.in_ok-actor.actor (reading_in session) asked a b d c.in_ok-actor.ensures.octets_read
+    (acted-read db c.in_ok-actor.actor (reading_in session) asked a b d (c.in_ok-actor.ensures.octets_read db held)
     (c.in_ok-word.ensures.octets_read db (held-there g w db held) cursors (right-there g w db held) asked is)))

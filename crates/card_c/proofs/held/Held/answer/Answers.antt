@@ -1,4 +1,5 @@
-use Rattle.std.proofs.Common.{◌∷◌, ◌∙◌, ap, refl, sym, subst}
+use Rattle.std.proofs.Common.{◌∷◌, ◌∙◌, ap, refl, rules, sym, subst}
+use Rattle.eeprom.specs.Chip.{Still}
 use Rattle.line_bench.specs.LineBench.{image_of, writes_of}
 use Rattle.log_bench.specs.Writes.{applied}
 use Rattle.planner.specs.Held.{held_after_octets}
@@ -6,9 +7,10 @@ use Rattle.scql_model.specs.Opens.{Opens}
 use Rattle.scql_model.specs.Replies.{Reply}
 use Rattle.scql_model.specs.Step.{step}
 use Rattle.terminal.specs.Holding.{Holding}
-use Rattle.card_c.specs.HeldCard.{AnswersInto, HeldCard, IsCardAt, IsSeated, KeepsCuts}
+use Rattle.card_c.specs.HeldCard.{AnswersInto, HeldCard, IsCardAt, IsSeated, KeepsCuts, LacksLog}
 use Rattle.card_c.proofs.Begun.{at-begun}
 use Rattle.card_c.proofs.Cuts.{keeps-cuts, logs-to, of-command}
+use Rattle.card_c.proofs.Lacking.{lacks-log}
 use Rattle.card_c.proofs.Seated.{mapped, noted}
 use Rattle.card_c.proofs.held.Held.answer.Goals as goal
 
@@ -53,3 +55,8 @@ returns-clause-last c m at is =
     let cuts = keeps-cuts m answer.commits c.self.inside.desk c.begin.new.self c.exchange.new.self there c.begin.ensures (of-command m answer.commits c.begin.new.self c.exchange.new.self (c.exchange.ensures.moments m begun)) in
     subst (λ (held : HeldCard). Opens (applied (writes_of c.exchange.new.self.bench) (image_of held.bench)) answer.machine.committed) c.self.view_is
     (logs-to (m.committed ∷ answer.commits) (image_of c.self.inside.desk.bench) c.exchange.new.self answer.machine cuts (c.in-Replied.ensures.step m begun refl).at)
+
+pub returns-in_default-clause-cause : goal.returns-in_default-clause-cause
+returns-in_default-clause-cause c is =
+    subst (λ (held : HeldCard). LacksLog held.bench c.exchange.new.self.bench) c.self.view_is
+    (lacks-log c.self.inside.desk.bench c.begin.new.self.bench c.exchange.new.self.bench c.begin.ensures.faults (c.exchange.ensures.cause (search rules)) (ap (λ (still : Still). still.sink_faults) c.exchange.ensures.rest))

@@ -1,11 +1,12 @@
-use Rattle.std.proofs.Common.{◌∷◌, ◌∙◌, option_map, sym, subst}
+use Rattle.std.proofs.Common.{◌≡◌, ◌⊎◌, ◌∷◌, ◌∙◌, false, option_map, sym, subst}
 use Rattle.line_bench.specs.LineBench.{image_of, writes_of}
 use Rattle.log_bench.specs.Writes.{applied}
 use Rattle.planner.specs.StatementLines.{statement_lines}
 use Rattle.scql_model.specs.Lines.{line_effect}
 use Rattle.scql_model.specs.Opens.{Opens}
-use Rattle.card_c.specs.HeldCard.{HeldCard, IsSeated, KeepsCuts}
+use Rattle.card_c.specs.HeldCard.{HeldCard, IsSeated, KeepsCuts, LacksLog, LacksText}
 use Rattle.card_c.proofs.Cuts.{keeps-cuts, logs-to}
+use Rattle.card_c.proofs.Lacking.{lacks-line}
 use Rattle.card_c.proofs.Seated.{answered, answered-next, answered-text, is-there, line-ends, line-moments, wanting}
 use Rattle.card_c.proofs.held.Held.line.Goals as goal
 
@@ -60,3 +61,8 @@ returns-clause-wanting c state seated is =
     let there = is-there (λ b. b.value) c.self.inside.terminal c.in-Some.terminal c.deref_mut.result.now c.in-Some.is c.deref_mut.ensures.value in
     let ends = line-ends was c.begin.new.self state c.deref_mut.result.now c.args.line.now sits there c.begin.ensures c.say.new.terminal c.say.result c.say.new.desk c.say.ensures.ends in
     wanting state.machine does c.say.new.terminal c.say.result c.begin.new.self c.say.new.desk ends (sym c.status_of.ensures ∙ is)
+
+pub returns-clause-cause : goal.returns-clause-cause
+returns-clause-cause c is =
+    subst (λ (held : HeldCard). ((c.say.new.desk.card.live ≡ false) × LacksLog held.bench c.say.new.desk.bench) ⊎ LacksText held.bench c.say.new.desk.bench) c.self.view_is
+    (lacks-line c.say.result c.self.inside.desk.bench c.begin.new.self c.say.new.desk c.begin.ensures.faults c.say.ensures.ends_by (sym c.status_of.ensures ∙ is))

@@ -6,4 +6,4 @@ use Rattle.card_c.proofs.held.Held.sit.Goals as goal
 
 pub returns-clause-done : goal.returns-clause-done
 returns-clause-done c m at is =
-    anew m _ (c.reset.ensures.step m (at-begun c.self.inside.desk c.begin_in.new.self m c.begin_in.ensures (subst (λ (held : HeldCard). IsCardAt held m) (sym c.self.view_is) at))) (search rules)
+    anew m _ (c.reset.ensures.step m (at-begun c.self.inside.desk c.begin_in.new.self m c.begin_in.ensures.begun (subst (λ (held : HeldCard). IsCardAt held m) (sym c.self.view_is) at))) (search rules)

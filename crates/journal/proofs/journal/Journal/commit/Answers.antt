@@ -1,7 +1,6 @@
 use Rattle.std.proofs.Common.{◌∷◌, [], refl, ◌∙◌}
 use Rattle.std.proofs.lemmas.Result.{on_ok_weaker}
 use Rattle.eeprom.specs.Chip.{Becomes, LeavesOf}
-use Rattle.eeprom.specs.StoreOf.{journal_place}
 use Rattle.journal.specs.Journal.{IsBetweenDirectories}
 use Rattle.journal.proofs.Committing.{IsJournaled, IsOpened}
 use Rattle.journal.proofs.Finishing.{journaled-leaves, commit-first, commit-second, commit-third, commit-replayed, opened-there, opened-over}
@@ -9,10 +8,7 @@ use Rattle.journal.proofs.journal.Journal.commit.Goals.{After-write_journal, Aft
 use Rattle.journal.proofs.journal.Journal.commit.Goals as goal
 
 journaled : (g : _) (c : After-write_journal g) → LeavesOf (IsJournaled c.args.cells) (g.B.Eeprom.chip c.args.bench.now) (g.B.Eeprom.chip c.write_journal.new.bench)
-journaled g c =
-    let j = c.write_journal.ensures.journal in
-    journaled-leaves c.args.cells c.args.entries.now j.octets (journal_place c.args.cells) (g.B.Eeprom.chip c.args.bench.now) (g.B.Eeprom.chip c.write_journal.new.bench) refl j.are c.requires.room
-    (g.met.B.Eeprom.sized c.args.bench.now) c.requires.closed (g.met.B.Eeprom.clocked c.args.bench.now) j.writes
+journaled g c = journaled-leaves c.args.cells (g.B.Eeprom.chip c.args.bench.now) (g.B.Eeprom.chip c.write_journal.new.bench) c.requires.closed c.write_journal.ensures.journal.moments
 
 pub returns-in_err-write_journal-clause-moments : goal.returns-in_err-write_journal-clause-moments
 returns-in_err-write_journal-clause-moments g c =
@@ -22,9 +18,8 @@ returns-in_err-write_journal-clause-moments g c =
 opening : (g : _) (c : After-write g) → LeavesOf (IsBetweenDirectories c.args.cells c.args.entries.now) (g.B.Eeprom.chip c.args.bench.now) (g.B.Eeprom.chip c.write.new.self)
 opening g c =
     let j = c.in_ok-write_journal.ensures.journal in
-    commit-second c.args.cells c.args.entries.now j.octets (journal_place c.args.cells) (g.B.Eeprom.chip c.args.bench.now) (g.B.Eeprom.chip c.write_journal.new.bench) (g.B.Eeprom.chip c.write.new.self) (1 ∷ []) refl
-    j.writes.still refl j.are c.requires.room (g.met.B.Eeprom.sized c.args.bench.now) (journaled g (goal.at.After-write g c).After-write_journal) j.done (g.met.B.Eeprom.clocked c.write_journal.new.bench)
-    c.write.ensures.writes
+    commit-second c.args.cells c.args.entries.now (g.B.Eeprom.chip c.args.bench.now) (g.B.Eeprom.chip c.write_journal.new.bench) (g.B.Eeprom.chip c.write.new.self) (1 ∷ []) refl j.still c.requires.room
+    (g.met.B.Eeprom.sized c.args.bench.now) (journaled g (goal.at.After-write g c).After-write_journal) j.written (g.met.B.Eeprom.clocked c.write_journal.new.bench) c.write.ensures.writes
 
 pub returns-in_err-write-clause-moments : goal.returns-in_err-write-clause-moments
 returns-in_err-write-clause-moments g c = opening g (goal.at.returns-in_err-write-clause-moments g c).After-write
@@ -32,8 +27,8 @@ returns-in_err-write-clause-moments g c = opening g (goal.at.returns-in_err-writ
 there : (g : _) (c : In_ok-write g) → Becomes (IsOpened c.args.cells c.args.entries.now) (g.B.Eeprom.chip c.args.bench.now).image (g.B.Eeprom.chip c.write.new.self).image
 there g c =
     let j = c.in_ok-write_journal.ensures.journal in
-    opened-there c.args.cells c.args.entries.now j.octets (journal_place c.args.cells) (g.B.Eeprom.chip c.args.bench.now) (g.B.Eeprom.chip c.write_journal.new.bench) (g.B.Eeprom.chip c.write.new.self) (1 ∷ []) refl
-    refl j.are c.requires.room (g.met.B.Eeprom.sized c.args.bench.now) (journaled g (goal.at.In_ok-write g c).After-write_journal) j.done c.in_ok-write.ensures.written
+    opened-there c.args.cells c.args.entries.now (g.B.Eeprom.chip c.args.bench.now) (g.B.Eeprom.chip c.write_journal.new.bench) (g.B.Eeprom.chip c.write.new.self) (1 ∷ []) refl c.requires.room
+    (g.met.B.Eeprom.sized c.args.bench.now) (journaled g (goal.at.In_ok-write g c).After-write_journal) j.written c.in_ok-write.ensures.written
 
 pub redo-requires-clause-over : goal.redo-requires-clause-over
 redo-requires-clause-over g c =
@@ -48,5 +43,5 @@ returns-clause-done g c =
 
 pub returns-clause-moments : goal.returns-clause-moments
 returns-clause-moments g c =
-    commit-third c.args.cells c.args.entries.now (g.B.Eeprom.chip c.args.bench.now) (g.B.Eeprom.chip c.write.new.self) (g.B.Eeprom.chip c.redo.new.bench) (c.write.ensures.writes.still ∙ c.write_journal.ensures.journal.writes.still)
+    commit-third c.args.cells c.args.entries.now (g.B.Eeprom.chip c.args.bench.now) (g.B.Eeprom.chip c.write.new.self) (g.B.Eeprom.chip c.redo.new.bench) (c.write.ensures.writes.still ∙ c.write_journal.ensures.journal.still)
     (there g (goal.at.returns-clause-moments g c).In_ok-write) (opening g (goal.at.returns-clause-moments g c).After-write) c.redo.ensures.moments

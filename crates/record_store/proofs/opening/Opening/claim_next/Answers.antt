@@ -1,6 +1,6 @@
 -- The slot that is claimed is the next one, and what holds of the slots before it holds with it.
-use Rattle.std.proofs.Common.{◌≡◌, ◌+◌, ◌<◌, ℕ, List, ◌∙◌, get_or, set, IfSome, refl, sym, ap, rules, arith, subst}
-use Rattle.std.specs.Prelude.{option_map, ◌++◌, [], ◌∷◌, slice_set}
+use Rattle.std.proofs.Common.{◌≡◌, ◌+◌, ◌<◌, ℕ, List, ◌∙◌, get_or, IfSome, refl, sym, ap, rules, arith, subst}
+use Rattle.std.specs.Prelude.{option_map, ◌++◌, [], ◌∷◌}
 use Rattle.std.specs.Vec.{vec_capacity}
 use Rattle.record_store.specs.Kept.{HasMemory}
 use Rattle.cell_store.specs.Cells.{Cells}

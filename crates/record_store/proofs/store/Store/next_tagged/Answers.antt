@@ -1,6 +1,6 @@
-use Rattle.std.proofs.Common.{length, arith, eq-eqb}
+use Rattle.std.proofs.Common.{arith}
 use Rattle.record_store.specs.Held.{tags_of}
-use Rattle.record_store.specs.Tags.{stamp_tag_of, tag_of}
+use Rattle.record_store.specs.Tags.{stamp_of, tag_of}
 use Rattle.record_store.proofs.TaggedSlots.{tag-here, tag-other, tags-told}
 use Rattle.record_store.proofs.store.Store.next_tagged.Goals as goal
 
@@ -12,16 +12,18 @@ returns-in-Name-clause-others c = rw c.in-Name.is (λ image passed stands onward
 pub returns-in-Name-clause-here : goal.returns-in-Name-clause-here
 returns-in-Name-clause-here c = rw c.in-Name.is (λ image octets stands there.
     let held = c.args.self.now in
-    eq-eqb (tag_of octets) c.in-Name.tag (tag-here tag_of (tags_of held c.args.side).names held c.args.side image (tags-told held c.args.side image stands).names c.next_with.result c.in-Name.tag octets (c.side_tags-tags.ensures.none image c.next_with.result stands)
-    (λ inside. rw (c.names.ensures, c.side_tags-tags.ensures.tags) at c.next_with.ensures.here (omega (arith, inside, rw (c.side_tags-tags.ensures.tags) at c.side_tags-tags.ensures.count.names))) there))
+    let count = rw (c.side_tags-tags.ensures.tags) at c.side_tags-tags.ensures.count.names in
+    tag-here tag_of (tags_of held c.args.side).names held c.args.side image (tags-told held c.args.side image stands).names c.next_with.result c.in-Name.tag octets (λ past. c.side_tags-tags.ensures.none image c.next_with.result stands (omega (arith, past, count)))
+    (rw (c.names.ensures, c.side_tags-tags.ensures.tags) at c.next_with.ensures.here) there)
 
 pub returns-in-Stamp-clause-others : goal.returns-in-Stamp-clause-others
 returns-in-Stamp-clause-others c = rw c.in-Stamp.is (λ image passed stands onward before.
     let held = c.args.self.now in
-    tag-other stamp_tag_of (tags_of held c.args.side).stamps held c.args.side image (tags-told held c.args.side image stands).stamps passed c.in-Stamp.tag (rw (c.stamps.ensures, c.side_tags-tags.ensures.tags) at c.next_with-in-Stamp.ensures.others passed onward before))
+    tag-other stamp_of (tags_of held c.args.side).stamps held c.args.side image (tags-told held c.args.side image stands).stamps passed c.in-Stamp.stamp (rw (c.stamps.ensures, c.side_tags-tags.ensures.tags) at c.next_with-in-Stamp.ensures.others passed onward before))
 
 pub returns-in-Stamp-clause-here : goal.returns-in-Stamp-clause-here
 returns-in-Stamp-clause-here c = rw c.in-Stamp.is (λ image octets stands there.
     let held = c.args.self.now in
-    eq-eqb (stamp_tag_of octets) c.in-Stamp.tag (tag-here stamp_tag_of (tags_of held c.args.side).stamps held c.args.side image (tags-told held c.args.side image stands).stamps c.next_with-in-Stamp.result c.in-Stamp.tag octets (c.side_tags-tags.ensures.none image c.next_with-in-Stamp.result stands)
-    (λ inside. rw (c.stamps.ensures, c.side_tags-tags.ensures.tags) at c.next_with-in-Stamp.ensures.here (omega (arith, inside, rw (c.side_tags-tags.ensures.tags) at c.side_tags-tags.ensures.count.stamps))) there))
+    let count = rw (c.side_tags-tags.ensures.tags) at c.side_tags-tags.ensures.count.stamps in
+    tag-here stamp_of (tags_of held c.args.side).stamps held c.args.side image (tags-told held c.args.side image stands).stamps c.next_with-in-Stamp.result c.in-Stamp.stamp octets (λ past. c.side_tags-tags.ensures.none image c.next_with-in-Stamp.result stands (omega (arith, past, count)))
+    (rw (c.stamps.ensures, c.side_tags-tags.ensures.tags) at c.next_with-in-Stamp.ensures.here) there)

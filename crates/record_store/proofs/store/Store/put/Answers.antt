@@ -58,15 +58,15 @@ abbrev mid : (g : _) (c : After-write_chain g) → Held
 mid g c = record { chains = c.self-2.inside.chains; row_limit = c.self-2.inside.row_limit; committed = c.self-2.inside.committed.items; working = c.self-2.inside.working.items; begun = c.self-2.inside.begun; first_octets = c.self-2.inside.first_octets.items; tags = c.self-2.inside.tags }
 
 -- there is room in it for the record
-emptied : (g : _) (c : After-write_chain g) → Emptied c.args.self.now (mid g c) c.remove.new.self.chains.used c.in-Some.slot c.weight_without-weight.result (cells_for (length c.args.octets.now))
+emptied : (g : _) (c : After-write_chain g) → Emptied c.args.self.now (mid g c) c.take_out.new.self.chains.used c.in-Some.slot c.weight_without-weight.result (cells_for (length c.args.octets.now))
 emptied g c =
     let at = goal.at.After-write_chain g c in
     let cells : c.self.inside.chains.cells ≡ c.args.self.now.chains.cells = ap (λ (held : Held). held.chains.cells) c.self.view_is in
     record {
       sound = sound g at.After-as_slice;
       mid_sound = c.self-2.invariant.weighed.sound;
-      is = c.self-2.view_is ∙ c.remove.ensures.emptied;
-      fewer = c.remove.ensures.fewer;
+      is = c.self-2.view_is ∙ c.take_out.ensures.emptied;
+      fewer = c.take_out.ensures.fewer;
       begun = c.requires.begun;
       inside = inside g at.In-Some;
       weight_is = weight g at.After-weight_without-weight;
@@ -77,7 +77,7 @@ pub invariant_of-self : goal.invariant_of-self
 invariant_of-self g c =
     let at = (goal.at.invariant_of-self g c).After-write_chain in
     record {
-      weighed = rw (c.cells_for-count.ensures) (weighed-filled c.args.self.now (mid g at) c.remove.new.self.chains.used c.in-Some.slot c.weight_without-weight.result (cells_for (length c.args.octets.now)) c.in-Ok.first (slice_index c.args.octets.now 0)
+      weighed = rw (c.cells_for-count.ensures) (weighed-filled c.args.self.now (mid g at) c.take_out.new.self.chains.used c.in-Some.slot c.weight_without-weight.result (cells_for (length c.args.octets.now)) c.in-Ok.first (slice_index c.args.octets.now 0)
           c.self-2.inside.committed_weight c.self-2.inside.working_weight c.write_chain.new.self c.put.new.self (emptied g at) c.in-Ok.ensures.takes c.self-2.invariant.weighed);
       in_use = in_use-filled (mid g at) c.write_chain.new.self c.put.new.self c.in-Some.slot c.in-Ok.first (slice_index c.args.octets.now 0) c.self-2.inside.slots_in_use _ c.in-Ok.ensures.takes.cells (omega arith) (omega arith)
           (omega (arith, inside g (goal.at.After-write_chain g at).In-Some, ap (λ (held : Held). held.chains.cells) (emptied g at).is, c.self-2.invariant.in_use.most)) c.self-2.invariant.in_use;
@@ -101,12 +101,12 @@ pub unreachable-requires : goal.unreachable-requires
 unreachable-requires g c =
     let at = (goal.at.unreachable-requires g c).After-write_chain in
     let few = c.in-Err-NoCell.ensures.no_cell.0 (search rules) in
-    absurd (omega (arith, few, room-enough c.args.self.now (mid g at) c.remove.new.self.chains.used c.in-Some.slot c.weight_without-weight.result (cells_for (length c.args.octets.now)) (emptied g at)))
+    absurd (omega (arith, few, room-enough c.args.self.now (mid g at) c.take_out.new.self.chains.used c.in-Some.slot c.weight_without-weight.result (cells_for (length c.args.octets.now)) (emptied g at)))
 
 pub returns-in-Ok-clause-put : goal.returns-in-Ok-clause-put
 returns-in-Ok-clause-put g c =
     let at = (goal.at.returns-in-Ok-clause-put g c).After-write_chain in
-    filled-becomes c.args.self.now (mid g at) c.remove.new.self.chains.used c.in-Some.slot c.weight_without-weight.result (cells_for (length c.args.octets.now)) c.in-Ok.first (slice_index c.args.octets.now 0) c.write_chain.new.self c.put.new.self c.args.octets.now
+    filled-becomes c.args.self.now (mid g at) c.take_out.new.self.chains.used c.in-Some.slot c.weight_without-weight.result (cells_for (length c.args.octets.now)) c.in-Ok.first (slice_index c.args.octets.now 0) c.write_chain.new.self c.put.new.self c.args.octets.now
     (g.B.Eeprom.chip c.args.bench.now).image (g.B.Eeprom.chip c.write_chain.new.bench).image (omega (arith, c.in-Ok.ensures.there, ap (λ (held : Held). held.chains.cells) (emptied g at).is)) refl (record {
       names = omega (arith, inside g (goal.at.After-write_chain g at).In-Some, ap (λ (held : Held). held.chains.cells) (emptied g at).is, c.self-2.invariant.transaction.tags.working_count.names);
       stamps = omega (arith, inside g (goal.at.After-write_chain g at).In-Some, ap (λ (held : Held). held.chains.cells) (emptied g at).is, c.self-2.invariant.transaction.tags.working_count.stamps);
@@ -116,7 +116,7 @@ returns-in-Ok-clause-put g c =
 -- at each moment, also where the write failed
 moments : (g : _) (c : After-write_chain g) → Keeps store_of (g.B.Eeprom.chip c.args.bench.now) (g.B.Eeprom.chip c.write_chain.new.bench)
 moments g c =
-    filled-keeps c.args.self.now (mid g c) c.remove.new.self.chains.used c.self-2.inside.chains.used c.in-Some.slot c.weight_without-weight.result (cells_for (length c.args.octets.now)) c.self-2.inside.chains.cells
+    filled-keeps c.args.self.now (mid g c) c.take_out.new.self.chains.used c.self-2.inside.chains.used c.in-Some.slot c.weight_without-weight.result (cells_for (length c.args.octets.now)) c.self-2.inside.chains.cells
     (g.B.Eeprom.chip c.args.bench.now) (g.B.Eeprom.chip c.write_chain.new.bench) (emptied g c) c.requires.over.stands refl refl c.write_chain.ensures.moments
 
 pub returns-in-Ok-clause-moments : goal.returns-in-Ok-clause-moments
@@ -140,12 +140,12 @@ returns-in-Ok-clause-within g c =
 pub returns-in-Ok-clause-entries : goal.returns-in-Ok-clause-entries
 returns-in-Ok-clause-entries g c =
     let at = (goal.at.returns-in-Ok-clause-entries g c).After-write_chain in
-    entries-filled c.args.self.now (mid g at) c.write_chain.new.self (set (mid g at).first_octets c.in-Ok.first (slice_index c.args.octets.now 0)) c.put.new.self c.in-Some.slot c.in-Ok.first c.remove.new.self.chains.used c.requires.begun (emptied g at).is
+    entries-filled c.args.self.now (mid g at) c.write_chain.new.self (set (mid g at).first_octets c.in-Ok.first (slice_index c.args.octets.now 0)) c.put.new.self c.in-Some.slot c.in-Ok.first c.take_out.new.self.chains.used c.requires.begun (emptied g at).is
 
 pub returns-in-Ok-clause-only : goal.returns-in-Ok-clause-only
 returns-in-Ok-clause-only g c =
     let at = (goal.at.returns-in-Ok-clause-only g c).After-write_chain in
-    only-filled c.args.self.now (mid g at) c.write_chain.new.self (set (mid g at).first_octets c.in-Ok.first (slice_index c.args.octets.now 0)) c.put.new.self c.in-Some.slot c.in-Ok.first c.remove.new.self.chains.used c.requires.begun (emptied g at).is
+    only-filled c.args.self.now (mid g at) c.write_chain.new.self (set (mid g at).first_octets c.in-Ok.first (slice_index c.args.octets.now 0)) c.put.new.self c.in-Some.slot c.in-Ok.first c.take_out.new.self.chains.used c.requires.begun (emptied g at).is
 
 behind : (g : _) (c : After-write_chain g) → Keeps (drop (image_size c.args.self.now.chains.cells)) (g.B.Eeprom.chip c.args.bench.now) (g.B.Eeprom.chip c.write_chain.new.bench)
 behind g c =
