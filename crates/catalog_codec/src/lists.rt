@@ -1,5 +1,5 @@
 // The lists of a record: the columns of a table or a view, and the conditions of a view.
-ghost use Rattle.std.specs.Prelude.{◌≡◌, ◌≤◌, ◌+◌, ◌++◌, length, option_map};
+ghost use Rattle.std.specs.Prelude.{◌≡◌, ◌≤◌, ◌+◌, [], ◌++◌, length, option_map};
 ghost use Rattle.arrayvec.specs.ArrayVec.{array_vec_len};
 ghost use Rattle.eeprom.specs.StoreOf.{longest_record};
 ghost use Rattle.scql_base.specs.Name.{is_name};
@@ -24,8 +24,10 @@ pub(crate) fn columns_at(octets: &[u8]) -> Option<(NameList, &[u8])>
     names_at(*count, names)
 }
 
-pub(crate) fn conditions_at(octets: &[u8]) -> Option<(Conditions, &[u8])>
-    ensures { option_map (λ x. (x.0, x.1.now)) result ≡ records.conditions.read octets.now }
+/// Reads conditions into an empty list, and answers the octets behind them.
+pub(crate) fn conditions_into<'a>(octets: &'a [u8], conditions: &mut Conditions) -> Option<&'a [u8]>
+    requires empty { conditions.old ≡ [] }
+    ensures { option_map (λ x. (conditions.new, x.now)) result ≡ records.conditions.read octets.now }
 {
     let [count, entries @ ..] = octets else {
         return None;
@@ -33,7 +35,7 @@ pub(crate) fn conditions_at(octets: &[u8]) -> Option<(Conditions, &[u8])>
     if *count > 8 {
         return None;
     }
-    entries_at(*count, entries)
+    entries_into(*count, entries, conditions)
 }
 
 // So many names.
@@ -53,11 +55,11 @@ fn names_at(count: u8, octets: &[u8]) -> Option<(NameList, &[u8])>
 }
 
 // So many conditions.
-fn entries_at(count: u8, octets: &[u8]) -> Option<(Conditions, &[u8])>
+fn entries_into<'a>(count: u8, octets: &'a [u8], conditions: &mut Conditions) -> Option<&'a [u8]>
     requires few { count ≤ 8 }
-    ensures { option_map (λ x. (x.0, x.1.now)) result ≡ many_at condition.read count octets.now }
+    requires empty { conditions.old ≡ [] }
+    ensures { option_map (λ x. (conditions.new, x.now)) result ≡ many_at condition.read count octets.now }
 {
-    let mut conditions = Conditions::new();
     let mut rest = octets;
     for _ in 0..count {
         let (condition, after) = condition_at(rest)?;
@@ -65,7 +67,7 @@ fn entries_at(count: u8, octets: &[u8]) -> Option<(Conditions, &[u8])>
         prove!(pushed);
         rest = after;
     }
-    Some((conditions, rest))
+    Some(rest)
 }
 
 fn condition_at(octets: &[u8]) -> Option<(Condition, &[u8])>

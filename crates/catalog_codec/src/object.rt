@@ -6,11 +6,11 @@ ghost use Rattle.catalog_codec.specs.Kinds.{read_as};
 
 use crate::Record;
 use crate::fields::{name_at, subject_at};
-use crate::lists::{columns_at, conditions_at, put_columns, put_conditions};
+use crate::lists::{columns_at, conditions_into, put_columns, put_conditions};
 use crate::writing::put_text;
 use eeprom::RecordOctets;
 use row_codec::{number_and_rest, put_number};
-use scql_base::{Object, ObjectKind};
+use scql_base::{Conditions, Object, ObjectKind};
 
 const TABLE: u8 = Object::TABLE_MARK;
 
@@ -120,7 +120,8 @@ fn read_view(fields: &[u8], place: &mut Option<Object>) -> Option<()>
     let (base, rest) = number_and_rest(rest)?;
     let (name, rest) = name_at(rest)?;
     let (columns, rest) = columns_at(rest)?;
-    let (conditions, rest) = conditions_at(rest)?;
+    let mut conditions = Conditions::new();
+    let rest = conditions_into(rest, &mut conditions)?;
     if !rest.is_empty() {
         return None;
     }

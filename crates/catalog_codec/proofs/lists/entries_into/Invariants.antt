@@ -3,7 +3,7 @@ use Rattle.std.proofs.Common.{◌≡◌, ◌-◌, length}
 use Rattle.scql_model.specs.Fields.{many_at}
 use Rattle.catalog_codec.specs.Conditions.{condition}
 use Rattle.catalog_codec.proofs.ListedFields.{behind}
-use Rattle.catalog_codec.proofs.lists.entries_at.Given as goal
+use Rattle.catalog_codec.proofs.lists.entries_into.Given as goal
 
 abbrev pub invariant-loop : goal.invariant-loop
 invariant-loop l = record {

@@ -2,7 +2,7 @@ use Rattle.std.proofs.Common.{rules, ◌≡◌, ◌+◌, ◌-◌, [], ◌∷◌,
 use Rattle.scql_model.specs.Fields.{many_at}
 use Rattle.catalog_codec.specs.Conditions.{condition}
 use Rattle.catalog_codec.proofs.ListedFields.{one_more_read}
-use Rattle.catalog_codec.proofs.lists.entries_at.Goals as goal
+use Rattle.catalog_codec.proofs.lists.entries_into.Goals as goal
 
 pub loop-preserved : goal.loop-preserved
 loop-preserved c =
