@@ -14,8 +14,8 @@ ghost use Rattle.db_define.specs.Layers as specs;
 ghost use Rattle.db_define.specs.Layers.{IsBase, layer_found, layer_under, reaches_table};
 
 use eeprom::{Eeprom, EepromFault};
-use object_table::find_stamp;
-use privilege_table::{find_seen, is_owned_by};
+use object_table::find_stamp_into;
+use privilege_table::{find_seen_into, is_owned_by};
 use record_store::{Side, Store};
 use record_table::{Stop, refused};
 use scql_base::{Actor, Name, NameList, Object, ObjectKind, StatusWord};
@@ -39,7 +39,9 @@ pub(crate) enum Layer {
     Other,
 }
 
-/// The table or the view of a name that the actor sees and owns, or the first refusal.
+/// The table or the view of a name that the actor sees and owns, or the first refusal. It isn't inlined, so that the object's place doesn't
+/// stand beside the view.
+#[inline(never)]
 pub(crate) fn find_base<B: Eeprom>(
     store: &Store,
     bench: &mut B,
@@ -52,13 +54,15 @@ pub(crate) fn find_base<B: Eeprom>(
         → owned_by actor (of_kind is_table_or_view (seen_named db actor name)) ≡ Err word }
     ensures frame { Reads is_stop_fault B.chip B.faults bench.old bench.new result }
 {
-    let Some(found) = find_seen(store, bench, Side::Working, actor, name)? else {
+    let mut place = None;
+    find_seen_into(store, bench, Side::Working, actor, name, &mut place)?;
+    let Some(found) = &place else {
         return refused(StatusWord::NOT_FOUND);
     };
-    let Some(base) = base_of(&found.value) else {
+    let Some(base) = base_of(found) else {
         return refused(StatusWord::NOT_FOUND);
     };
-    if !is_owned_by(actor, found.value.owner) {
+    if !is_owned_by(actor, found.owner) {
         return refused(StatusWord::SECURITY_NOT_SATISFIED);
     }
     Ok(base)
@@ -94,14 +98,17 @@ fn find_under<B: Eeprom>(store: &Store, bench: &mut B, layer: Layer) -> Result<L
     }
 }
 
-// The object of a stamp, if there is one.
+// The object of a stamp, if there is one. It isn't inlined either.
+#[inline(never)]
 fn find_layer<B: Eeprom>(store: &Store, bench: &mut B, stamp: u32) -> Result<Layer, EepromFault>
     requires over { IsOver store.now (B.chip bench.old) }
     ensures found { (db : Database) → IsHeld store.now Working (B.chip bench.old) db → IfOk result (λ layer. layer ≡ layer_found (object_stamped db.objects stamp)) }
     ensures frame { Reads each_error B.chip B.faults bench.old bench.new result }
 {
-    match find_stamp(store, bench, Side::Working, stamp)? {
-        Some(found) => Ok(layer_of(&found.value.kind)),
+    let mut place = None;
+    find_stamp_into(store, bench, Side::Working, stamp, &mut place)?;
+    match &place {
+        Some(found) => Ok(layer_of(&found.kind)),
         None => Ok(Layer::Other),
     }
 }

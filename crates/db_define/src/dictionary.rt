@@ -25,6 +25,8 @@ use row_index::RowIndex;
 use scql_base::{Actor, Name, ObjectKind, Subject};
 
 /// CREATE DICTIONARY: adds a dictionary that tells of a subject, which the actor owns. All rows stay where they are, and so does the index.
+/// It isn't inlined, so that other commands have no room for its places.
+#[inline(never)]
 pub fn create_dictionary<B: Eeprom>(
     store: &mut Store,
     bench: &mut B,

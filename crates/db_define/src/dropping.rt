@@ -1,5 +1,5 @@
 // What the operations have in common that drop objects.
-ghost use Rattle.std.specs.Prelude.{◌≡◌, ◌<◌, ◌≤◌, ◌+◌, ◌==◌, ◌||◌, Some, None, Ok, Err, IsTrue, IfOk, IfErr, IfSome, OnOk, count_by, slice_index_or, slice_set};
+ghost use Rattle.std.specs.Prelude.{◌≡◌, ◌<◌, ◌≤◌, ◌+◌, ◌==◌, ◌||◌, Some, None, Ok, Err, IsTrue, IfOk, IfErr, IfSome, IsSome, OnOk, count_by, slice_index_or, slice_set};
 ghost use Rattle.std.specs.List.{list_any};
 ghost use Rattle.eeprom.specs.Fault.{each_error};
 ghost use Rattle.eeprom.specs.Frame.{Reads};
@@ -18,77 +18,86 @@ ghost use Rattle.record_table.specs.Swept.{all_without, has_passing};
 
 use crate::dropped::Dropped;
 use eeprom::{Eeprom, EepromFault};
-use privilege_table::{find_seen, is_owned_by};
-use record_store::{Found, Side, Store, Tag};
-use record_table::{Stop, Wanted, find_by, refused, remove, remove_each};
+use privilege_table::{find_seen_into, is_owned_by};
+use record_store::{Side, Store, Tag};
+use record_table::{Stop, Wanted, find_into, refused, remove, remove_each};
 use scql_base::{Actor, Grant, Name, Object, ObjectKind, StatusWord};
 
-/// The object of a name that is dropped so: one that the actor owns, and on which no view rests. Or the first refusal.
+/// Reads the object of a name that is dropped so into a place: one that the actor owns, and on which no view rests. Its slot is answered, or
+/// the first refusal.
 pub(crate) fn find_to_drop<B: Eeprom>(
     store: &Store,
     bench: &mut B,
     actor: Actor,
     name: Name,
     dropped: Dropped,
-) -> Result<Found<Object>, Stop>
+    place: &mut Option<Object>,
+) -> Result<u16, Stop>
     requires over { IsOver store.now (B.chip bench.old) }
-    ensures there { IfOk result (λ object. object.slot < store.now.chains.cells) }
-    ensures at { IfOk result (λ object. IfSome (slots_of store.now Working (B.chip bench.old)) (λ slots. Some object.value ≡ at_slot object_kind object.slot slots)) }
+    ensures there { IfOk result (λ slot. slot < store.now.chains.cells) }
+    ensures some { IfOk result (λ _. IsSome place.new) }
+    ensures at { IfOk result (λ slot. IfSome (slots_of store.now Working (B.chip bench.old)) (λ slots. place.new ≡ at_slot object_kind slot slots)) }
     ensures found { (db : Database) → IsHeld store.now Working (B.chip bench.old) db
-        → IfOk result (λ object. specs.dropped dropped db actor name ≡ Ok (dropping dropped db object.value)) }
+        → IfOk result (λ _. IfSome place.new (λ object. specs.dropped dropped db actor name ≡ Ok (dropping dropped db object))) }
     ensures refused { (db : Database) → IsHeld store.now Working (B.chip bench.old) db
         → IfErr result (λ stop. Ends {T = Unit {0}} db (specs.dropped dropped db actor name) (Err stop) store.now store.now (B.chip bench.old) (B.chip bench.new)) }
     ensures frame { Reads is_stop_fault B.chip B.faults bench.old bench.new result }
 {
-    let Some(object) = find_seen(store, bench, Side::Working, actor, name)? else {
+    let slot = find_seen_into(store, bench, Side::Working, actor, name, place)?;
+    let Some(object) = place else {
         return refused(StatusWord::NOT_FOUND);
     };
-    if !drops(dropped, &object.value.kind) {
+    if !drops(dropped, &object.kind) {
         return refused(StatusWord::NOT_FOUND);
     }
-    if !is_owned_by(actor, object.value.owner) {
+    if !is_owned_by(actor, object.owner) {
         return refused(StatusWord::SECURITY_NOT_SATISFIED);
     }
-    if is_viewed(store, bench, object.value.stamp)? {
+    if is_viewed(store, bench, object.stamp)? {
         return refused(StatusWord::CONDITIONS_NOT_SATISFIED);
     }
-    Ok(object)
+    let Some(slot) = slot else { unreachable!() };
+    Ok(slot)
 }
 
-/// Removes an object and the grants on it.
+/// Removes the object of a slot, which has this stamp, and the grants on it.
 pub(crate) fn remove_object<B: Eeprom>(
     store: &mut Store,
     bench: &mut B,
-    object: &Found<Object>,
+    slot: u16,
+    stamp: u32,
 ) -> Result<(), EepromFault>
     requires begun { IsTrue store.old.begun }
     requires over { IsOver store.old (B.chip bench.old) }
-    requires there { object.now.slot < store.old.chains.cells }
+    requires there { slot < store.old.chains.cells }
     ensures removed { OnOk result (IfSome (slots_of store.old Working (B.chip bench.old))
-        (λ slots. slots_of store.new Working (B.chip bench.new) ≡ Some (all_without grant_kind (is_on object.now.value.stamp) (slice_set slots object.now.slot None)))) }
+        (λ slots. slots_of store.new Working (B.chip bench.new) ≡ Some (all_without grant_kind (is_on stamp) (slice_set slots slot None)))) }
     ensures committed { OnOk result (slots_of store.new Committed (B.chip bench.new) ≡ slots_of store.old Committed (B.chip bench.old)) }
     ensures over { OnOk result (IsOver store.new (B.chip bench.new)) }
     ensures begun { OnOk result (store.new.begun ≡ store.old.begun) }
     ensures cells { OnOk result (store.new.chains.cells ≡ store.old.chains.cells) }
     ensures rows { OnOk result (store.new.row_limit ≡ store.old.row_limit) }
     ensures only { OnOk result (IfSome (slots_of store.old Working (B.chip bench.old))
-        (λ slots. ChangesWhere (λ slot. slot == object.now.slot || has_passing grant_kind (is_on object.now.value.stamp) (slice_index_or slots slot None)) store.old store.new)) }
+        (λ slots. ChangesWhere (λ each. each == slot || has_passing grant_kind (is_on stamp) (slice_index_or slots each None)) store.old store.new)) }
     ensures entries { OnOk result (IfSome (slots_of store.old Working (B.chip bench.old))
-        (λ slots. entries store.new ≤ entries store.old + 1 + count_by (has_passing grant_kind (is_on object.now.value.stamp)) (slice_set slots object.now.slot None))) }
+        (λ slots. entries store.new ≤ entries store.old + 1 + count_by (has_passing grant_kind (is_on stamp)) (slice_set slots slot None))) }
     ensures frame { Reads each_error B.chip B.faults bench.old bench.new result }
 {
-    remove(store, object.slot);
-    remove_each(store, bench, &OnObject(object.value.stamp))?;
+    remove(store, slot);
+    remove_each(store, bench, &OnObject(stamp))?;
     Ok(())
 }
 
-// Whether a view rests on the object of a stamp.
+// Whether a view rests on the object of a stamp. It isn't inlined, so that the place of that view stands in no other frame.
+#[inline(never)]
 fn is_viewed<B: Eeprom>(store: &Store, bench: &mut B, stamp: u32) -> Result<bool, EepromFault>
     requires over { IsOver store.now (B.chip bench.old) }
     ensures viewed { (db : Database) → IsHeld store.now Working (B.chip bench.old) db → IfOk result (λ viewed. viewed ≡ list_any (λ (o : Object). is_view_on stamp o.kind) db.objects) }
     ensures frame { Reads each_error B.chip B.faults bench.old bench.new result }
 {
-    Ok(find_by(store, bench, Side::Working, &ViewOn(stamp))?.is_some())
+    let mut place = None;
+    find_into(store, bench, Side::Working, &ViewOn(stamp), &mut place)?;
+    Ok(place.is_some())
 }
 
 // Whether an object of a kind is dropped so.

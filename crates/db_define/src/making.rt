@@ -18,7 +18,7 @@ ghost use Rattle.record_table.specs.Listed.{slots_of};
 ghost use Rattle.record_table.specs.Making.{Ends, GoesOn, IsHeld, IsValidWith, KeepsRows, is_stop_fault};
 
 use eeprom::{Eeprom, EepromFault};
-use object_table::find_name;
+use object_table::find_name_into;
 use privilege_table::actor_stamp;
 use record_store::{Side, Store};
 use record_table::{Stop, make, next_stamp, refused};
@@ -97,11 +97,14 @@ pub(crate) fn add_named<B: Eeprom>(
     Ok(())
 }
 
-// Whether an object has the name.
+// Whether an object has the name. It isn't inlined, so that the place of that object doesn't stand beside what is made.
+#[inline(never)]
 fn is_taken<B: Eeprom>(store: &Store, bench: &mut B, name: Name) -> Result<bool, EepromFault>
     requires over { IsOver store.now (B.chip bench.old) }
     ensures taken { (db : Database) → IsHeld store.now Working (B.chip bench.old) db → IfOk result (λ taken. taken ≡ list_any (has_name name) db.objects) }
     ensures frame { Reads each_error B.chip B.faults bench.old bench.new result }
 {
-    Ok(find_name(store, bench, Side::Working, name)?.is_some())
+    let mut place = None;
+    find_name_into(store, bench, Side::Working, name, &mut place)?;
+    Ok(place.is_some())
 }

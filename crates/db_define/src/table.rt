@@ -27,7 +27,9 @@ use record_table::Stop;
 use row_index::RowIndex;
 use scql_base::{Actor, Name, NameList, ObjectKind};
 
-/// CREATE TABLE: adds a table with these columns, which the actor owns. All rows stay where they are, and so does the index.
+/// CREATE TABLE: adds a table with these columns, which the actor owns. All rows stay where they are, and so does the index. It isn't
+/// inlined, so that other commands have no room for its places.
+#[inline(never)]
 pub fn create_table<B: Eeprom>(
     store: &mut Store,
     bench: &mut B,
@@ -58,6 +60,8 @@ pub fn create_table<B: Eeprom>(
 }
 
 /// DROP TABLE: removes a table that the actor owns and on which no view rests, the grants on it and its rows, which the index names.
+/// It isn't inlined either.
+#[inline(never)]
 pub fn drop_table<B: Eeprom>(
     store: &mut Store,
     bench: &mut B,
@@ -80,9 +84,11 @@ pub fn drop_table<B: Eeprom>(
     ensures index_committed { index.new.committed ≡ index.old.committed }
     ensures index_begun { IsTrue index.new.begun }
 {
-    let table = find_to_drop(store, bench, actor, name, Dropped::Table)?;
-    remove_object(store, bench, &table)?;
-    remove_rows(store, table.value.stamp, index);
+    let mut place = None;
+    let slot = find_to_drop(store, bench, actor, name, Dropped::Table, &mut place)?;
+    let Some(table) = &place else { unreachable!() };
+    remove_object(store, bench, slot, table.stamp)?;
+    remove_rows(store, table.stamp, index);
     Ok(())
 }
 

@@ -35,7 +35,8 @@ use row_index::RowIndex;
 use scql_base::{Actor, Conditions, Name, NameList, ObjectKind, StatusWord};
 
 /// CREATE VIEW: adds a view that the actor owns, on a table or a view that the actor owns too. With no columns it shows all of its base.
-/// All rows stay where they are, and so does the index.
+/// All rows stay where they are, and so does the index. It isn't inlined, so that other commands have no room for its places.
+#[inline(never)]
 pub fn create_view<B: Eeprom>(
     store: &mut Store,
     bench: &mut B,
@@ -70,6 +71,8 @@ pub fn create_view<B: Eeprom>(
 }
 
 /// DROP VIEW: removes a view or a dictionary that the actor owns and on which no view rests, and the grants on it. All rows stay where they are, and so does the index.
+/// It isn't inlined either.
+#[inline(never)]
 pub fn drop_view<B: Eeprom>(
     store: &mut Store,
     bench: &mut B,
@@ -92,8 +95,10 @@ pub fn drop_view<B: Eeprom>(
     ensures index_committed { index.new.committed ≡ index.old.committed }
     ensures index_begun { IsTrue index.new.begun }
 {
-    let view = find_to_drop(store, bench, actor, name, Dropped::View)?;
-    remove_object(store, bench, &view)?;
+    let mut place = None;
+    let slot = find_to_drop(store, bench, actor, name, Dropped::View, &mut place)?;
+    let Some(view) = &place else { unreachable!() };
+    remove_object(store, bench, slot, view.stamp)?;
     Ok(())
 }
 

@@ -7,17 +7,17 @@ use Rattle.db_define.proofs.table.drop_table.Goals as goal
 pub returns-clause-ends : goal.returns-clause-ends
 returns-clause-ends g c = λ db held.
     let chip = g.B.Eeprom.chip c.args.bench.now in
-    let o = c.in_ok-table.table.value in
-    let slot = c.in_ok-table.table.slot in
-    let found = c.in_ok-table.ensures.frame.same in
+    let o = c.in-Some.table in
+    let slot = c.in_ok-slot.slot in
+    let found = c.in_ok-slot.ensures.frame.same in
     let object = c.in_ok-remove_object.ensures in
     let rows = c.remove_rows.ensures in
-    let is = c.in_ok-table.ensures.found db held in
+    let is = rw c.in-Some.is at (c.in_ok-slot.ensures.found db held) in
     let left = rw (object.frame.same, found) at object.removed in
     let committed = rw (object.frame.same, found) at object.committed in
     let over = rw (object.frame.same, found) at object.over in
-    let stands = Indexes-ungranted c.args.index.now db o slot c.args.store.now c.remove_object.new.store chip held c.requires.index c.in_ok-table.ensures.at left object.cells committed in
-    let makes = Makes-table_dropped db c.args.actor c.args.name o slot c.args.store.now c.remove_object.new.store c.remove_rows.new.store chip held is c.in_ok-table.ensures.at left
+    let stands = Indexes-ungranted c.args.index.now db o slot c.args.store.now c.remove_object.new.store chip held c.requires.index (rw c.in-Some.is at c.in_ok-slot.ensures.at) left object.cells committed in
+    let makes = Makes-table_dropped db c.args.actor c.args.name o slot c.args.store.now c.remove_object.new.store c.remove_rows.new.store chip held is (rw c.in-Some.is at c.in_ok-slot.ensures.at) left
     (rows.removed chip over stands) (rows.cells ∙ object.cells) (rows.rows ∙ object.rows) (rows.committed chip over ∙ committed) (rw found at object.entries) (rows.entries chip stands)
     (rw found at object.only) (rows.only chip stands) in
     (dropping_edits db o, is, rw (object.frame.same, found) makes)
@@ -25,9 +25,9 @@ returns-clause-ends g c = λ db held.
 pub returns-clause-index : goal.returns-clause-index
 returns-clause-index g c = λ db held fine.
     let chip = g.B.Eeprom.chip c.args.bench.now in
-    let found = c.in_ok-table.ensures.frame.same in
+    let found = c.in_ok-slot.ensures.frame.same in
     let object = c.in_ok-remove_object.ensures in
     let over = rw (object.frame.same, found) at object.over in
-    let stands = Indexes-ungranted c.args.index.now db c.in_ok-table.table.value c.in_ok-table.table.slot c.args.store.now c.remove_object.new.store chip held c.requires.index c.in_ok-table.ensures.at
+    let stands = Indexes-ungranted c.args.index.now db c.in-Some.table c.in_ok-slot.slot c.args.store.now c.remove_object.new.store chip held c.requires.index (rw c.in-Some.is at c.in_ok-slot.ensures.at)
     (rw (object.frame.same, found) at object.removed) object.cells (rw (object.frame.same, found) at object.committed) in
     rw (object.frame.same, found) (c.remove_rows.ensures.index chip over stands)
