@@ -83,16 +83,18 @@ pub(crate) fn add_named<B: Eeprom>(
     ensures behind { Keeps (drop (image_size store.old.chains.cells)) (B.chip bench.old) (B.chip bench.new) }
     ensures cause { CountsFaults is_stop_fault (B.faults bench.old) (B.faults bench.new) result }
 {
-    if is_taken(store, bench, name.copy())? {
-        return refused(StatusWord::ALREADY_EXISTS);
-    }
-    let counter = next_stamp(store, bench)?;
-    let object = Object {
-        stamp: counter.value.next,
+    // The object is made first, so that its kind has no second place beside it.
+    let mut object = Object {
+        stamp: 0,
         name,
         owner: actor_stamp(actor),
         kind,
     };
+    if is_taken(store, bench, object.name.copy())? {
+        return refused(StatusWord::ALREADY_EXISTS);
+    }
+    let counter = next_stamp(store, bench)?;
+    object.stamp = counter.value.next;
     make(store, bench, &counter, &object)?;
     Ok(())
 }

@@ -102,7 +102,9 @@ pub fn drop_view<B: Eeprom>(
     Ok(())
 }
 
-// What is made, or the first refusal before that of its name.
+// What is made, or the first refusal before that of its name. It isn't inlined, so that what it needs room for doesn't stand beside what is
+// done with the view.
+#[inline(never)]
 fn find_view<B: Eeprom>(
     store: &Store,
     bench: &mut B,
