@@ -22,7 +22,7 @@ use crate::names::{object_name, user_name};
 use crate::rows::grant_row;
 use crate::telling::TellsOf;
 use eeprom::{Eeprom, EepromFault};
-use record_store::{Found, RecordOctets, Side, Store};
+use record_store::{RecordOctets, Side, Store};
 use record_table::{next_slot, read_entry};
 use scql_base::{Grant, Name, Object, Row};
 
@@ -124,7 +124,8 @@ fn nearest_told<B: Eeprom>(
     }
 }
 
-// Whether a dictionary of this owner tells of a grant.
+// Whether a dictionary of this owner tells of a grant. It isn't inlined, so that the object's place stands in no other frame.
+#[inline(never)]
 fn is_told<B: Eeprom>(
     store: &Store,
     bench: &mut B,
@@ -142,16 +143,17 @@ fn is_told<B: Eeprom>(
     if telling.all() {
         return Ok(true);
     }
-    let object = object_table::find_stamp(store, bench, side, grant.object)?;
-    Ok(telling.of(owner_of(&object)))
+    let mut place = None;
+    object_table::find_stamp_into(store, bench, side, grant.object, &mut place)?;
+    Ok(telling.of(owner_of(&place)))
 }
 
 // The owner of an object that was found.
-fn owner_of(found: &Option<Found<Object>>) -> u32
-    ensures { result ≡ option_map_or (λ object. object.owner) (option_map (λ found. found.value) found.now) 0 }
+fn owner_of(place: &Option<Object>) -> u32
+    ensures { result ≡ option_map_or (λ object. object.owner) place.now 0 }
 {
-    match found {
-        Some(found) => found.value.owner,
+    match place {
+        Some(object) => object.owner,
         None => 0,
     }
 }

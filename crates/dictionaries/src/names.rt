@@ -40,7 +40,8 @@ fn name_of_user(found: Option<Found<User>>) -> Option<Name>
     Some(found.value.name)
 }
 
-/// The name of the object of a stamp.
+/// The name of the object of a stamp. It isn't inlined, so that the object's place stands in no other frame.
+#[inline(never)]
 pub(crate) fn object_name<B: Eeprom>(
     store: &Store,
     bench: &mut B,
@@ -53,13 +54,16 @@ pub(crate) fn object_name<B: Eeprom>(
         (λ slots. Becomes (RisesAtMost (cell_size * cells_marked object_kind slots)) (B.octets_read bench.old) (B.octets_read bench.new))) }
     ensures frame { Reads each_error B.chip B.faults bench.old bench.new result }
 {
-    let found = object_table::find_stamp(store, bench, side, stamp)?;
-    Ok(name_of_object(found))
+    let mut place = None;
+    object_table::find_stamp_into(store, bench, side, stamp, &mut place)?;
+    Ok(name_of_object(&place))
 }
 
-fn name_of_object(found: Option<Found<Object>>) -> Option<Name>
-    ensures { result ≡ option_map (λ object. object.name) (option_map (λ found. found.value) found) }
+fn name_of_object(place: &Option<Object>) -> Option<Name>
+    ensures { result ≡ option_map (λ object. object.name) place.now }
 {
-    let found = found?;
-    Some(found.value.name)
+    match place {
+        Some(object) => Some(object.name.copy()),
+        None => None,
+    }
 }

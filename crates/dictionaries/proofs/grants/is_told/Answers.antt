@@ -10,8 +10,8 @@ use Rattle.dictionaries.proofs.grants.is_told.Goals as goal
 
 pub returns-clause-told : goal.returns-clause-told
 returns-clause-told g c = λ db held.
-    c.of.ensures ∙ ap (tells_of c.args.owner) (c.owner_of.ensures ∙ object-owned c.args.store.now c.args.side (g.B.Eeprom.chip c.args.bench.now) db c.args.grant.now.object _ held c.in_ok-object.ensures.found)
+    c.of.ensures ∙ ap (tells_of c.args.owner) (c.owner_of.ensures ∙ object-owned c.args.store.now c.args.side (g.B.Eeprom.chip c.args.bench.now) db c.args.grant.now.object c.find_stamp_into.new.place held c.in_ok-find_stamp_into.ensures.found)
 
 pub returns-clause-octets_read : goal.returns-clause-octets_read
 returns-clause-octets_read g c =
-    reads-fewer object_kind (Some (Stamp c.args.grant.now.object)) (slots_of c.args.store.now c.args.side (g.B.Eeprom.chip c.args.bench.now)) _ _ c.in_ok-object.ensures.octets_read
+    reads-fewer object_kind (Some (Stamp c.args.grant.now.object)) (slots_of c.args.store.now c.args.side (g.B.Eeprom.chip c.args.bench.now)) _ _ c.in_ok-find_stamp_into.ensures.octets_read

@@ -9,8 +9,8 @@ use Rattle.dictionaries.proofs.ToldRows.{object-named}
 use Rattle.dictionaries.proofs.names.object_name.Goals as goal
 
 pub returns-clause-name : goal.returns-clause-name
-returns-clause-name g c = λ db held. ap name_or_none c.name_of_object.ensures ∙ object-named c.args.store.now c.args.side (g.B.Eeprom.chip c.args.bench.now) db c.args.stamp _ held c.in_ok-found.ensures.found
+returns-clause-name g c = λ db held. ap name_or_none c.name_of_object.ensures ∙ object-named c.args.store.now c.args.side (g.B.Eeprom.chip c.args.bench.now) db c.args.stamp c.find_stamp_into.new.place held c.in_ok-find_stamp_into.ensures.found
 
 pub returns-clause-octets_read : goal.returns-clause-octets_read
 returns-clause-octets_read g c =
-    reads-fewer object_kind (Some (Stamp c.args.stamp)) (slots_of c.args.store.now c.args.side (g.B.Eeprom.chip c.args.bench.now)) _ _ c.in_ok-found.ensures.octets_read
+    reads-fewer object_kind (Some (Stamp c.args.stamp)) (slots_of c.args.store.now c.args.side (g.B.Eeprom.chip c.args.bench.now)) _ _ c.in_ok-find_stamp_into.ensures.octets_read
