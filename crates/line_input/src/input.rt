@@ -13,7 +13,7 @@ use eeprom::Source;
 pub const LONGEST_INPUT: usize = 67_108_864;
 
 /// How many octets are asked for at a time.
-const PIECE: usize = 4096;
+const PIECE: usize = 512;
 
 /// How the lines of an input came to an end.
 #[derive(Drop, Clone, PartialEq, Eq, Debug)]

@@ -69,10 +69,10 @@ impl<'a> Tokens<'a> {
     }
 
     #[tactic(auto, unfolding(crate::specs::Grammar::with_condition, crate::specs::Reading::one))]
-    fn with_condition(&mut self, mut conditions: Conditions) -> Option<Conditions>
-        requires { length conditions < 8 }
-        ensures value { grammar.with_condition conditions self.old ≡ (result, self.new) }
-        ensures grown { IfSome result (λ longer. length longer ≡ length conditions + 1) }
+    fn with_condition(&mut self, conditions: &mut Conditions) -> Option<()>
+        requires { length conditions.old < 8 }
+        ensures value { grammar.with_condition conditions.old self.old ≡ (option_map (λ _. conditions.new) result, self.new) }
+        ensures grown { IfSome result (λ _. length conditions.new ≡ length conditions.old + 1) }
     {
         let column = self.name()?;
         let comparison = comparison_of(self.next())?;
@@ -83,29 +83,30 @@ impl<'a> Tokens<'a> {
             comparison,
             value,
         };
-        conditions.push(condition).ok()?;
-        Some(conditions)
+        conditions.push(condition).ok()
     }
 
-    fn conditions(&mut self) -> Option<Conditions>
-        ensures { grammar.conditions self.old ≡ (result, self.new) }
+    fn conditions(&mut self, conditions: &mut Conditions) -> Option<()>
+        requires { conditions.old ≡ [] }
+        ensures { grammar.conditions self.old ≡ (option_map (λ _. conditions.new) result, self.new) }
     {
-        let mut conditions = self.with_condition(Conditions::new())?;
+        self.with_condition(conditions)?;
         while conditions.len() < 8 && self.takes(b"AND") {
-            conditions = self.with_condition(conditions)?;
+            self.with_condition(conditions)?;
         }
-        Some(conditions)
+        Some(())
     }
 
     /// The conditions behind WHERE, or none where there is no WHERE.
     #[tactic(auto, unfolding(crate::specs::Grammar::where_conditions))]
-    pub(crate) fn where_conditions(&mut self) -> Option<Conditions>
-        ensures { grammar.where_conditions self.old ≡ (result, self.new) }
+    pub(crate) fn where_conditions(&mut self, conditions: &mut Conditions) -> Option<()>
+        requires { conditions.old ≡ [] }
+        ensures { grammar.where_conditions self.old ≡ (option_map (λ _. conditions.new) result, self.new) }
     {
         if self.takes(b"WHERE") {
-            self.conditions()
+            self.conditions(conditions)
         } else {
-            Some(Conditions::new())
+            Some(())
         }
     }
 

@@ -8,7 +8,7 @@ use crate::Statement;
 use crate::literal::{given_secret_of, presented_secret_of};
 use crate::tokens::Tokens;
 use crate::words::{channel_of, further_channel_of, profile_of, subject_of};
-use scql_base::{Changes, Octets, Operation};
+use scql_base::{Changes, Conditions, Octets, Operation};
 
 impl<'a> Tokens<'a> {
     #[inline(never)]
@@ -34,7 +34,8 @@ impl<'a> Tokens<'a> {
         let columns = self.columns()?;
         self.expect(b"FROM")?;
         let base = self.name()?;
-        let conditions = self.where_conditions()?;
+        let mut conditions = Conditions::new();
+        self.where_conditions(&mut conditions)?;
         put(
             Operation::CreateView {
                 name,
@@ -179,7 +180,8 @@ impl<'a> Tokens<'a> {
         let columns = self.columns()?;
         self.expect(b"FROM")?;
         let object = self.name()?;
-        let conditions = self.where_conditions()?;
+        let mut conditions = Conditions::new();
+        self.where_conditions(&mut conditions)?;
         *place = Statement::Select {
             object,
             columns,
@@ -197,7 +199,8 @@ impl<'a> Tokens<'a> {
         self.expect(b"SET")?;
         let mut changes = Changes::new();
         self.changes(&mut changes)?;
-        let conditions = self.where_conditions()?;
+        let mut conditions = Conditions::new();
+        self.where_conditions(&mut conditions)?;
         *place = Statement::UpdateRows {
             object,
             changes,
@@ -212,7 +215,8 @@ impl<'a> Tokens<'a> {
         ensures { grammar.delete_rows self.old ≡ (option_map (λ _. place.new) result, self.new) }
     {
         let object = self.name()?;
-        let conditions = self.where_conditions()?;
+        let mut conditions = Conditions::new();
+        self.where_conditions(&mut conditions)?;
         *place = Statement::DeleteRows { object, conditions };
         Some(())
     }
