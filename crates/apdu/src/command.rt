@@ -158,10 +158,10 @@ fn write_at(command: &Command, part: u8, out: &mut CommandOctets)
     requires there { part < spelling.part_count command.now }
     ensures { out.new.items ≡ spelling.part_octets command.now part }
 {
-    if has_field(&command.operation) {
-        write_field_at(command, part, out);
-    } else {
-        put_field(command, &[], part, out);
+    match &command.operation {
+        Operation::Update { changes } => put_field(command, changes.octets(), part, out),
+        operation if has_field(operation) => write_field_at(command, part, out),
+        _ => put_field(command, &[], part, out),
     }
 }
 

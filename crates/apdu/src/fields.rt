@@ -7,11 +7,11 @@ ghost use Rattle.scql_model.specs.Operations as table;
 ghost use Rattle.scql_model.specs.Parameters as parameters;
 ghost use Rattle.apdu.specs.Fields as fields;
 
-use crate::lists::{changes_in, columns_in, conditions_in, names_in, read_row};
+use crate::lists::{columns_in, conditions_in, names_in, read_changes, read_row};
 use crate::table::has_instruction;
 use scql_base::{
-    Conditions, Name, NameList, Octets, Operation, OperationKind, Params, Privileges, Profile, Row,
-    Subject, User,
+    Conditions, Name, NameList, Octets, Operation, OperationKind, PackedChanges, Params,
+    Privileges, Profile, Row, Subject, User,
 };
 
 // Reads the operation that a data field asks for into a place, where a row has at most so many octets. What the place has where none
@@ -237,9 +237,13 @@ fn read_update(octets: &[u8], place: &mut Operation) -> Option<()>
     requires { length octets.now ≤ LONGEST_IN_PARTS }
     ensures { option_map (λ _. place.new) result ≡ fields.read_by parameters.update_in octets.now }
 {
-    let changes = changes_in(octets)?;
-    *place = Operation::Update { changes };
-    Some(())
+    *place = Operation::Update {
+        changes: PackedChanges::new(),
+    };
+    match place {
+        Operation::Update { changes } => read_changes(octets, changes),
+        _ => unreachable!(),
+    }
 }
 
 #[inline(never)]

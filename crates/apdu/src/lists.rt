@@ -1,5 +1,5 @@
 // The lists of a data field: names, conditions, changes and the values of a row.
-ghost use Rattle.std.specs.Prelude.{◌≡◌, ◌≤◌, length, option_map};
+ghost use Rattle.std.specs.Prelude.{◌≡◌, ◌≤◌, [], length, option_map};
 ghost use Rattle.scql_base.specs.declared.operation.TheConstants.Command.{LONGEST_IN_PARTS};
 ghost use Rattle.scql_base.specs.declared.row.TheConstants.Row.{LARGEST};
 ghost use Rattle.apdu.specs.Fields as fields;
@@ -83,13 +83,13 @@ fn comparison_in(string: &[u8]) -> Option<Comparison>
     }
 }
 
-// 1 to 15 changes of different columns, to the end.
-pub(crate) fn changes_in(octets: &[u8]) -> Option<PackedChanges>
+// Reads 1 to 15 changes of different columns, to the end, into a place without any.
+pub(crate) fn read_changes(octets: &[u8], changes: &mut PackedChanges) -> Option<()>
     requires short { length octets.now ≤ LONGEST_IN_PARTS }
-    ensures { result ≡ fields.read_by fields.changes_in octets.now }
+    requires empty { changes.old ≡ [] }
+    ensures { option_map (λ _. changes.new) result ≡ fields.read_by fields.changes_in octets.now }
 {
     let mut columns = NameList::new();
-    let mut changes = PackedChanges::new();
     let mut rest = octets;
     while let Some((column, after)) = Params::first_in(rest) {
         let (value, after) = Params::first_in(after)?;
@@ -103,7 +103,7 @@ pub(crate) fn changes_in(octets: &[u8]) -> Option<PackedChanges>
         rest = after;
     }
     if rest.is_empty() && columns.len() != 0 && columns.are_different() {
-        Some(changes)
+        Some(())
     } else {
         None
     }

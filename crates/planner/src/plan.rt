@@ -1,12 +1,13 @@
 // Which command comes next.
-ghost use Rattle.std.specs.Prelude.{◌≡◌, ◌≤◌, ◌++◌, OnOk, IfErr, Ok, Err, unwrap_or, nat_le, nat_lt, length, option_copied, true, if◌then◌else◌};
+ghost use Rattle.std.specs.Prelude.{◌≡◌, ◌≤◌, [], ◌++◌, OnOk, IfErr, Ok, Err, unwrap_or, nat_le, nat_lt, length, option_copied, true, if◌then◌else◌};
+ghost use Rattle.scql_base.specs.Changes.{change_octets};
 ghost use Rattle.scql_base.specs.Row.{row_from};
 ghost use Rattle.scql_base.specs.declared.row.TheConstants.Row.{LARGEST};
-ghost use Rattle.scql_base.specs.declared.operation.Operation.TheVariants.{DeclareCursor, FetchNext};
+ghost use Rattle.scql_base.specs.declared.operation.Operation.TheVariants.{DeclareCursor, FetchNext, Update};
 ghost use Rattle.script.specs.Commands as commands;
 ghost use Rattle.script.specs.Commands.{CanAlwaysBeSent, CanBeSent, IsSendable};
 ghost use Rattle.script.specs.Line.{statement_of};
-ghost use Rattle.scql_base.specs.declared.operation.TheConstants.Command.{LAST_CHANNEL};
+ghost use Rattle.scql_base.specs.declared.operation.TheConstants.Command.{LAST_CHANNEL, LONGEST_IN_PARTS};
 ghost use Rattle.scql_model.specs.Lines.{longest_line};
 ghost use Rattle.planner.specs.declared.stage.Stage.TheVariants as Stage;
 ghost use Rattle.planner.specs.declared.step.Step.TheVariants as Step;
@@ -19,7 +20,9 @@ use crate::stage::Stage;
 use crate::words::{closing_of, has_more, is_end, is_refusal};
 use crate::{Closing, Step};
 use apdu::Reply;
-use scql_base::{Command, Conditions, Name, NameList, Operation, PackedChanges, Row, StatusWord};
+use scql_base::{
+    Changes, Command, Conditions, Name, NameList, Operation, PackedChanges, Row, StatusWord,
+};
 use script::{ScriptFault, Statement};
 use std::marker::Model;
 use std::mem;
@@ -262,23 +265,27 @@ impl Plan {
         ensures { planned.reaches self.old.statement self.old ≡ record { plan = self.new; step = step.new } }
     {
         match self.statement() {
-            Some(Statement::UpdateRows { changes, .. }) => {
-                let Some(changes) = PackedChanges::of(changes) else {
-                    unreachable!();
-                };
-                self.change(Operation::Update { changes }, step)
-            }
-            Some(Statement::DeleteRows { .. }) => self.change(Operation::Delete, step),
+            Some(Statement::UpdateRows { .. } | Statement::DeleteRows { .. }) => self.change(step),
             _ => self.want(Stage::Fetching, Operation::Fetch, step),
         }
     }
 
-    fn change(&mut self, operation: Operation, step: &mut Step)
-        ensures { planned.changes_row operation self.old ≡ record { plan = self.new; step = step.new } }
+    // The row that was reached is changed, where it is one of the first ones.
+    fn change(&mut self, step: &mut Step)
+        requires changes { planned.changes_rows self.old.statement ≡ true }
+        ensures { planned.reaches self.old.statement self.old ≡ record { plan = self.new; step = step.new } }
     {
+        let channel = self.channel;
         if self.rows < Plan::MOST_ROWS {
+            match self.statement() {
+                Some(Statement::UpdateRows { changes, .. }) => put_update(channel, changes, step),
+                Some(Statement::DeleteRows { .. }) => {
+                    put_sent(asking(channel, Operation::Delete), step)
+                }
+                _ => unreachable!(),
+            }
             self.rows += 1;
-            self.ask(Stage::Changing, operation, step)
+            self.stage = Stage::Changing;
         } else {
             self.finish(step)
         }
@@ -376,7 +383,7 @@ impl Plan {
         ensures { planned.sends stage command self.old ≡ record { plan = self.new; step = step.new } }
     {
         self.stage = stage;
-        *step = Step::Send { command };
+        put_sent(command, step);
     }
 
     fn end(&mut self, closing: Closing, step: &mut Step)
@@ -403,6 +410,51 @@ fn asking(channel: u8, operation: Operation) -> Command
         channel,
         operation,
         le: None,
+    }
+}
+
+fn put_sent(command: Command, step: &mut Step)
+    ensures { step.new ≡ Step.Send command }
+{
+    *step = Step::Send { command };
+}
+
+// Makes the step that updates a row. The changes are packed there, so that the octets of a command aren't copied for each row.
+#[inline(never)]
+fn put_update(channel: u8, changes: &Changes, step: &mut Step)
+    requires fits { length (change_octets changes.now) ≤ LONGEST_IN_PARTS }
+    ensures { step.new ≡ Step.Send (commands.asking channel (Update changes.now)) }
+{
+    *step = Step::Send {
+        command: asking(
+            channel,
+            Operation::Update {
+                changes: PackedChanges::new(),
+            },
+        ),
+    };
+    match step {
+        Step::Send {
+            command: Command {
+                operation: Operation::Update { changes: packed },
+                ..
+            },
+        } => pack(changes, packed),
+        _ => unreachable!(),
+    }
+}
+
+// Puts changes that one command can have into a place without any.
+fn pack(changes: &Changes, packed: &mut PackedChanges)
+    requires fits { length (change_octets changes.now) ≤ LONGEST_IN_PARTS }
+    requires empty { packed.old ≡ [] }
+    ensures { packed.new ≡ changes.now }
+{
+    for change in changes.as_slice() {
+        let pushed = packed
+            .push(&change.pair.0, change.pair.1.as_slice())
+            .is_ok();
+        prove!(pushed);
     }
 }
 

@@ -189,3 +189,15 @@ if_ok r x y ok = rw ok refl
 -- what has a key, by where it stands
 pub find-at : {X : Type 0} (key : X → ℕ) (k : ℕ) (xs : List X) (i : ℕ) (o : Option X) → Rises key xs → i ≡ count_by (λ y. ltb (key y) k) xs → slice_get xs i ≡ o → find (has key k) xs ≡ with_key key k o
 find-at key k xs i o rises count got = find-has key k xs rises ∙ ap (λ i. with_key key k (slice_get xs i)) (sym count) ∙ ap (with_key key k) got
+
+-- so many keys are below one as stand before it
+pub count_by-before : {X : Type 0} (key : X → ℕ) (k : ℕ) (xs : List X) (i : ℕ) (x : X) → Rises key xs → slice_get xs i ≡ Some x → key x ≡ k → i ≡ count_by (λ y. ltb (key y) k) xs
+count_by-before key k [] i x rises got same = absurd (none-some x got)
+count_by-before key k (y ∷ ys) zero x rises got same =
+    let least : k ≤ key y = omega (arith, same, ap key (same_Some y x got)) in
+    sym (counts_not (λ z. ltb (key z) k) y ys (le-ltb (key y) k least) ∙ none_below key k (key y) ys least rises.0)
+count_by-before key k (y ∷ ys) (suc i) x rises got same =
+    let less : key y < key x = all-got (λ w. key y < key w) ys i x rises.0 got in
+    let rest = count_by-before key k ys i x rises.1 got same in
+    let one = counts (λ z. ltb (key z) k) y ys (lt-ltb (key y) k (omega (arith, less, same))) in
+    omega arith

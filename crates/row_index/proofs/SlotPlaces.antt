@@ -1,8 +1,8 @@
 -- Slots of rows, and the places that these have.
-use Rattle.std.proofs.Common.{◌≡◌, ℕ, suc, ◌+◌, ◌-◌, ◌<◌, ◌≤◌, Bool, true, false, cond, not, ◌||◌, ltb, eqb, List, [], ◌∷◌, ◌++◌, length, map, Some, None, take, drop, inl, inr, refl, sym, ap, ◌∙◌, arith}
+use Rattle.std.proofs.Common.{◌≡◌, ℕ, suc, ◌+◌, ◌-◌, ◌<◌, ◌≤◌, Bool, true, false, cond, not, ◌||◌, ltb, eqb, List, [], ◌∷◌, ◌++◌, length, map, Option, Some, None, take, drop, inl, inr, refl, sym, ap, ◌∙◌, arith}
 use Rattle.std.specs.Option.{option_map_or}
 use Rattle.std.specs.List.{filter, find, insert, list_any, remove, slice_get, slice_range, count_by, AllByRecursion}
-use Rattle.std.proofs.lemmas.Bool.{cases_Bool, eqb-false, eqb-true, ltb-true, ltb-false, ne_eqb, or_parts}
+use Rattle.std.proofs.lemmas.Bool.{cases_Bool, eqb-false, eqb-true, false≢true, ltb-true, ltb-false, ne_eqb, or_parts}
 use Rattle.std.proofs.lemmas.List.{drop-map, get_or-set_other, get_or-set_same, take-map}
 use Rattle.eeprom.specs.Slots.{Rises, has, without}
 use Rattle.eeprom.proofs.InOrder.{counts, counts_not, count_by-cons}
@@ -11,7 +11,7 @@ use Rattle.row_index.specs.SlotRows.{place_at, places_at, with_place}
 use Rattle.row_index.specs.declared.order.Order.{Order}
 use Rattle.row_index.specs.declared.place.RowPlace.{RowPlace}
 use Rattle.row_index.specs.declared.slot_row.SlotRow.{SlotRow}
-use Rattle.row_index.proofs.Searches.{none_below}
+use Rattle.row_index.proofs.Searches.{count_by-before, none_below}
 
 -- what is counted, kept, looked for and put in among what a function makes of elements
 pub count_by-map : {X Y : Type 0} (p : Y → Bool) (f : X → Y) (xs : List X) → count_by p (map f xs) ≡ count_by (λ x. p (f x)) xs
@@ -158,3 +158,15 @@ found-slot rows k (slot ∷ slots) =
       | inl t ↦ rw t (ap (λ slot. Some (place_at rows slot)) (eqb-true slot k t))
       | inr n ↦ rw n (found-slot rows k slots)
     ]
+
+-- a slot that stands somewhere stands behind those of lesser keys
+there : (slot : ℕ) (o : Option ℕ) → option_map_or (λ other. eqb other slot) o false ≡ true → o ≡ Some slot
+there slot None stands = absurd (false≢true stands)
+there slot (Some other) stands = ap (λ (x : ℕ). Some x) (eqb-true other slot stands)
+
+pub standing-before : (order : Order) (rows : List SlotRow) (slot : ℕ) (slots : List ℕ) (at : ℕ) → Rises (key_of order) (places_at rows slots)
+    → option_map_or (λ other. eqb other slot) (slice_get slots at) false ≡ true
+    → at ≡ count_by (λ place. ltb (key_of order place) (key_of order (place_at rows slot))) (places_at rows slots)
+standing-before order rows slot slots at rises stands =
+    count_by-before (λ other. key_of order (place_at rows other)) (key_of order (place_at rows slot)) slots at slot (Rises-map (key_of order) (place_at rows) slots rises) (there slot (slice_get slots at) stands) refl
+    ∙ sym (count_by-map (λ place. ltb (key_of order place) (key_of order (place_at rows slot))) (place_at rows) slots)

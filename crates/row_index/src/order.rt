@@ -136,18 +136,36 @@ pub(crate) fn put(slots: &mut Vec<u16, Heap>, rows: &[SlotRow], order: Order, sl
     }
 }
 
-// Takes a slot out, and answers whether it was there.
-pub(crate) fn take(slots: &mut Vec<u16, Heap>, rows: &[SlotRow], order: Order, slot: u16) -> bool
+// How many slots come before one in order. Where it stands at the place `near`, nothing is searched for.
+fn count_before(slots: &[u16], rows: &[SlotRow], order: Order, slot: u16, near: usize) -> usize
+    requires rises { Rises (key_of order) (places_at rows.now slots.now) }
+    ensures count { result ≡ count_by (λ place. nat_lt (key_of order place) (key_of order (specs.place_at rows.now slot))) (places_at rows.now slots.now) }
+{
+    if stands_at(slots, near, slot) {
+        near
+    } else {
+        count_below(slots, rows, order, order.key(&place_at(rows, slot)))
+    }
+}
+
+// Takes a slot out, and answers whether it was there. It is looked for at the place `near` first, which is where it stood afterwards.
+pub(crate) fn take(
+    slots: &mut Vec<u16, Heap>,
+    rows: &[SlotRow],
+    order: Order,
+    slot: u16,
+    near: &mut u16,
+) -> bool
     requires rises { Rises (key_of order) (places_at rows.now slots.old.items) }
     ensures taken { places_at rows.now slots.new.items ≡ without place_slot slot (places_at rows.now slots.old.items) }
     ensures was { result ≡ list_any (has place_slot slot) (places_at rows.now slots.old.items) }
     ensures room { vec_capacity slots.new ≡ vec_capacity slots.old }
 {
-    let key = order.key(&place_at(rows, slot));
-    let at = count_below(slots.as_slice(), rows, order, key);
+    let at = count_before(slots.as_slice(), rows, order, slot, usize::from(*near));
     let was = stands_at(slots.as_slice(), at, slot);
     if was {
         slots.remove(at);
+        *near = u16::try_from(at).unwrap_or(0);
     }
     was
 }

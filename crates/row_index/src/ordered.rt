@@ -24,6 +24,9 @@ pub(crate) struct OrderedPlaces {
     rows: Vec<SlotRow, Heap>,
     by_stamp: Vec<u16, Heap>,
     by_table: Vec<u16, Heap>,
+    /// Where in these two orders the last slot stood that was taken out: the next one may stand there now.
+    near_stamp: u16,
+    near_table: u16,
 }
 
 impl Model for OrderedPlaces {
@@ -48,6 +51,8 @@ impl OrderedPlaces {
             rows: vec![in alloc; SlotRow { stamp: 0, table: 0 }; usize::from(cells)]?,
             by_stamp: Vec::with_capacity(alloc, usize::from(cells))?,
             by_table: Vec::with_capacity(alloc, usize::from(cells))?,
+            near_stamp: 0,
+            near_table: 0,
         })
     }
 
@@ -164,8 +169,10 @@ impl OrderedPlaces {
         ensures one_less { (place : RowPlace) → AreApart place_slot self.old.places → find (has place_slot slot) self.old.places ≡ Some place → IsOneMore place self.new.places self.old.places }
     {
         let rows = self.rows.as_slice();
-        if take(&mut self.by_stamp, rows, Order::ByStamp, slot) {
-            take(&mut self.by_table, rows, Order::ByTable, slot);
+        let near = &mut self.near_stamp;
+        if take(&mut self.by_stamp, rows, Order::ByStamp, slot, near) {
+            let near = &mut self.near_table;
+            take(&mut self.by_table, rows, Order::ByTable, slot, near);
             Some(place_at(rows, slot))
         } else {
             None

@@ -4,7 +4,7 @@ use Rattle.scql_base.specs.Changes.{ArePacked, change_octets}
 use Rattle.scql_base.specs.Strings.{params_of}
 use Rattle.apdu.proofs.NamesRead.{behind}
 use Rattle.apdu.proofs.ListsRead.{Assigned, changes_of}
-use Rattle.apdu.proofs.lists.changes_in.Given as goal
+use Rattle.apdu.proofs.lists.read_changes.Given as goal
 
 abbrev pub invariant-loop-column : goal.invariant-loop-column
 invariant-loop-column l = record {

@@ -5,13 +5,12 @@ use Rattle.scql_base.specs.Strings.{params_of, with_string}
 use Rattle.scql_base.proofs.PackedRuns.{change_octets-size}
 use Rattle.scql_base.proofs.Splitting.{first_of-length}
 use Rattle.apdu.proofs.ListsRead.{changes_in-unnamed, changes_in-wide, changes_in-many, changes_of, changes-one_more, changes-packed, changes-tested, columns-length, columns-one_more, name-is, name-none, too_wide}
-use Rattle.apdu.proofs.lists.changes_in.Goals as goal
+use Rattle.apdu.proofs.lists.read_changes.Goals as goal
 
 pub returns-in_err-column : goal.returns-in_err-column
 returns-in_err-column c =
     let here = c.in-Some.ensures.some ∙ ap (with_string c.in-Some.column.now) c.in_ok-value.ensures.some in
-    c.from_residual-in_err-column.ensures
-    ∙ (changes_in-unnamed c.loop-column.changes c.in-Some.column.now c.in_ok-value.value.now (params_of c.loop-column.rest.now) (params_of c.in_ok-value.after.now) (changes_of (params_of c.args.octets.now))
+    rw c.from_residual-in_err-column.ensures (changes_in-unnamed c.loop-column.changes c.in-Some.column.now c.in_ok-value.value.now (params_of c.loop-column.rest.now) (params_of c.in_ok-value.after.now) (changes_of (params_of c.args.octets.now))
     here c.loop-column.invariant.told (name-none c.in-Some.column.now c.in_err-column.ensures.value)
     ∙ changes-tested (params_of c.args.octets.now))
 
@@ -27,8 +26,7 @@ returns-in_err-ok c =
     let here = c.in-Some.ensures.some ∙ ap (with_string c.in-Some.column.now) c.in_ok-value.ensures.some in
     let full : 15 ≤ length c.loop-column.columns = search rules in
     let size = columns-length c.loop-column.columns c.loop-column.changes c.loop-column.invariant.columns in
-    c.from_residual-in_err-ok.ensures
-    ∙ (changes_in-many c.loop-column.changes c.in-Some.column.now c.in_ok-value.value.now (params_of c.loop-column.rest.now) (params_of c.in_ok-value.after.now) (changes_of (params_of c.args.octets.now))
+    rw c.from_residual-in_err-ok.ensures (changes_in-many c.loop-column.changes c.in-Some.column.now c.in_ok-value.value.now (params_of c.loop-column.rest.now) (params_of c.in_ok-value.after.now) (changes_of (params_of c.args.octets.now))
     here c.loop-column.invariant.told (omega (arith, full, size))
     ∙ changes-tested (params_of c.args.octets.now))
 
