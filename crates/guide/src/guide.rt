@@ -29,7 +29,10 @@ impl<D: Dialect + Drop> Guide<D> {
         ensures { ShowsSome P.lost P.shown person.old person.new }
     {
         show_title_where(self.is_titled(cells), person);
-        let message = self.greeting(cells);
+        let mut message = Message::new();
+        if self.lines.presence == Presence::Typing {
+            self.put_greeting(cells, &mut message);
+        }
         person.show(message.as_slice());
     }
 
@@ -38,11 +41,7 @@ impl<D: Dialect + Drop> Guide<D> {
         self.lines.presence == Presence::Typing && cells.is_some()
     }
 
-    fn greeting(&self, cells: Option<Cells>) -> Message {
-        let mut message = Message::new();
-        if self.lines.presence != Presence::Typing {
-            return message;
-        }
+    fn put_greeting(&self, cells: Option<Cells>, message: &mut Message) {
         if let Some(cells) = cells {
             message.put(b": ");
             message.put_number(usize::from(cells.all));
@@ -52,7 +51,6 @@ impl<D: Dialect + Drop> Guide<D> {
         }
         message.put(self.dialect.help());
         message.put(b"; ^D (end of input) leaves.\n");
-        message
     }
 
     /// Says what is known of a line before it is carried out. It is none where it is longer than a line may be.
@@ -72,17 +70,18 @@ impl<D: Dialect + Drop> Guide<D> {
     fn show_foreword<P: Person>(&self, line: Option<&[u8]>, person: &mut P)
         ensures { ShowsSome P.lost P.shown person.old person.new }
     {
-        person.show(self.foreword(line).as_slice());
+        let mut message = Message::new();
+        self.put_foreword(line, &mut message);
+        person.show(message.as_slice());
     }
 
-    fn foreword(&self, line: Option<&[u8]>) -> Message {
-        let mut message = Message::new();
-        self.lines.put_margin(&mut message);
+    fn put_foreword(&self, line: Option<&[u8]>, message: &mut Message) {
+        self.lines.put_margin(message);
         let margin = message.len();
         if let Some(line) = line {
-            self.dialect.before(line, &mut message);
+            self.dialect.before(line, message);
         }
-        ended(message, margin)
+        end(message, margin);
     }
 
     /// Says what came of a line, behind its closing text: why it wasn't carried out, or, where that isn't told, what goes with one that was.
@@ -116,26 +115,28 @@ impl<D: Dialect + Drop> Guide<D> {
     )
         ensures { ShowsSome P.lost P.shown person.old person.new }
     {
-        person.show(self.afterword(line, why, cells).as_slice());
+        let mut message = Message::new();
+        self.put_afterword(line, why, cells, &mut message);
+        person.show(message.as_slice());
     }
 
-    fn afterword(
+    fn put_afterword(
         &mut self,
         line: Option<&[u8]>,
         why: Option<Why>,
         cells: Option<Cells>,
-    ) -> Message {
-        let mut message = Message::new();
-        self.lines.put_margin(&mut message);
+        message: &mut Message,
+    ) {
+        self.lines.put_margin(message);
         let margin = message.len();
         match line {
-            Some(line) => self.put_afterword(line, why, cells, &mut message),
+            Some(line) => self.put_what_came(line, why, cells, message),
             None => message.put(b"a line has at most 1,000 octets"),
         }
-        ended(message, margin)
+        end(message, margin);
     }
 
-    fn put_afterword(
+    fn put_what_came(
         &mut self,
         line: &[u8],
         why: Option<Why>,
@@ -197,11 +198,11 @@ fn show_title_where<P: Person>(is_titled: bool, person: &mut P)
     }
 }
 
-// A message with its line feed, or none where only its margin is there.
-fn ended(mut message: Message, margin: usize) -> Message {
+// Ends a message with its line feed, or leaves none where only its margin is there.
+fn end(message: &mut Message, margin: usize) {
     if message.len() <= margin {
-        return Message::new();
+        message.clear();
+    } else {
+        message.put(b"\n");
     }
-    message.put(b"\n");
-    message
 }

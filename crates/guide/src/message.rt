@@ -54,6 +54,13 @@ impl Message {
         self.put(Buffer::new().format(number).as_bytes());
     }
 
+    /// Leaves no text.
+    pub fn clear(&mut self)
+        ensures { self.new ≡ [] }
+    {
+        self.octets.clear();
+    }
+
     /// How many octets it has.
     pub fn len(&self) -> usize
         ensures { result ≡ length self.now }

@@ -46,12 +46,9 @@ impl Statements {
     }
 }
 
-// The statement of a line, where it is one.
-fn statement_of(line: &[u8]) -> Option<Statement> {
-    if line.len() > LONGEST_LINE {
-        return None;
-    }
-    Statement::read(line).ok()
+// Reads the statement of a line into a place, and tells whether it is one.
+fn is_read(line: &[u8], place: &mut Statement) -> bool {
+    line.len() <= LONGEST_LINE && Statement::read_into(line, place).is_ok()
 }
 
 fn put_names(names: &NameList, message: &mut Message) {
@@ -70,9 +67,10 @@ impl Grammar for Statements {
     ghost fault_of = { λ _ line. place_of (statement_of line) };
 
     fn fault_place(&self, line: &[u8]) -> Option<usize> {
-        match Statement::read(line) {
+        let mut statement = Statement::Blank;
+        match Statement::read_into(line, &mut statement) {
             Err(ScriptFault::At { place }) => Some(usize::from(place)),
-            Ok(_) | Err(ScriptFault::TooLarge) => None,
+            Ok(()) | Err(ScriptFault::TooLarge) => None,
         }
     }
 }
@@ -88,15 +86,20 @@ impl Dialect for Statements {
 
     #[inline(never)]
     fn before(&self, line: &[u8], message: &mut Message) {
-        if let Some(Statement::Select { columns, .. }) = statement_of(line) {
-            put_names(&columns, message);
+        let mut statement = Statement::Blank;
+        if !is_read(line, &mut statement) {
+            return;
+        }
+        if let Statement::Select { columns, .. } = &statement {
+            put_names(columns, message);
         }
     }
 
     #[inline(never)]
     fn done(&mut self, line: &[u8], message: &mut Message) {
         put_note(line, message);
-        if let Some(statement) = statement_of(line) {
+        let mut statement = Statement::Blank;
+        if is_read(line, &mut statement) {
             self.warn(&statement, message);
             self.session.follow(&statement);
         }
@@ -104,7 +107,8 @@ impl Dialect for Statements {
 
     #[inline(never)]
     fn refused(&self, line: &[u8], word: StatusWord, cells: Option<Cells>, message: &mut Message) {
-        if let Some(statement) = statement_of(line) {
+        let mut statement = Statement::Blank;
+        if is_read(line, &mut statement) {
             put_refusal(&self.session, &statement, word, cells, message);
         }
     }
