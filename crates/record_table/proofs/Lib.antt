@@ -17,6 +17,7 @@ pub mod SlotReads
 pub mod Stamping
 pub mod StampsInSlots
 pub mod Steps
+pub mod Stopped
 pub mod SweptSlots
 pub mod TaggedCosts
 pub mod TaggedSearches

@@ -17,7 +17,7 @@ use Rattle.catalog_codec.specs.Kinds.{Kind, IsKind, read_as}
 use Rattle.record_table.specs.Listed.{in_slots, has_kind_mark, kind_cells, cells_marked}
 use Rattle.record_table.specs.Swept.{has_passing}
 use Rattle.record_table.specs.Tagged.{IsTagged, AreTagged, is_searched, tagged_cells, cells_tagged}
-use Rattle.record_table.proofs.Scan.{IsOfLeft, passed-place, passed_over}
+use Rattle.record_table.proofs.Scan.{IsOfLeft}
 use Rattle.record_table.proofs.SlotReads.{unmarked}
 
 -- from a slot to another none has a record that passes

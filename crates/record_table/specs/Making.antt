@@ -2,6 +2,7 @@
 use Rattle.std.specs.Prelude.{◌≡◌, ℕ, ◌+◌, ◌≤◌, Bool, true, false, List, length, Option, Some, Result, Ok, Err, is_some}
 use Rattle.eeprom.specs.Chip.{Chip, Becomes, RisesAtMost}
 use Rattle.eeprom.specs.StoreOf.{Slots}
+use Rattle.eeprom.specs.declared.fault.EepromFault.{EepromFault}
 use Rattle.record_store.specs.Held.{Held, IsOver}
 use Rattle.record_store.specs.Transaction.{entries}
 use Rattle.record_store.specs.declared.side.Side.{Side}
@@ -63,6 +64,11 @@ pub record GoesOn (old new : Held) (before after : Chip) : Type 0 where
 abbrev pub is_stop_fault : Stop → Bool
 is_stop_fault (Refused word) = false
 is_stop_fault Fault = true
+
+-- what is answered to a command that stopped
+abbrev pub stop_answer : Stop → Result StatusWord EepromFault
+stop_answer (Refused word) = Ok word
+stop_answer Fault = Err (record {})
 
 -- a record was added in a slot, and then the counter in another slot counts on to the next stamp
 pub record IsMade {X : Type 0} (kind : Kind X) (x : X) (slot counter next : ℕ) (old new : Slots) : Type 0 where

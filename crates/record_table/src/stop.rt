@@ -2,6 +2,7 @@
 ghost use Rattle.std.specs.Prelude.{◌≡◌, Err};
 ghost use Rattle.record_store.specs.declared.refusal.StoreRefusal.TheVariants.{Full, Fault as StoreFault};
 ghost use Rattle.scql_base.specs.Words.{no_space};
+ghost use Rattle.record_table.specs.Making.{stop_answer};
 ghost use Rattle.record_table.specs.declared.stop.Stop.TheVariants.{Refused, Fault};
 
 use eeprom::EepromFault;
@@ -15,6 +16,18 @@ pub enum Stop {
     Refused { word: StatusWord },
     /// The EEPROM didn't read or write.
     Fault,
+}
+
+impl Stop {
+    /// What is answered to a command that stopped: the word of the refusal, or the fault.
+    pub fn answer(self) -> Result<StatusWord, EepromFault>
+        ensures { result ≡ stop_answer self }
+    {
+        match self {
+            Stop::Refused { word } => Ok(word),
+            Stop::Fault => Err(EepromFault),
+        }
+    }
 }
 
 impl From<EepromFault> for Stop {
