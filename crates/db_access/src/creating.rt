@@ -38,7 +38,7 @@ pub fn create_user<B: Eeprom>(
 ) -> Result<(), Stop>
     requires begun { IsTrue tables.old.store.begun }
     requires stand { Stand tables.old (B.chip bench.old) }
-    ensures ended { Ended B.chip B.faults (λ db. IsActorOf db actor × HasForm (operation.CreateUser name profile secret.now)) (λ db. user_added db actor name profile secret.now) bench.old bench.new tables.old tables.new result }
+    ensures { Ended B.chip B.faults (λ db. IsActorOf db actor × HasForm (operation.CreateUser name profile secret.now)) (λ db. user_added db actor name profile secret.now) bench.old bench.new tables.old tables.new result }
 {
     let Some(owner) = owner_for(actor, profile) else {
         return Err(Stop::Refused {

@@ -24,10 +24,16 @@ pub fn grant<B: Eeprom>(
 ) -> Result<(), Stop>
     requires begun { IsTrue tables.old.store.begun }
     requires stand { Stand tables.old (B.chip bench.old) }
-    ensures ended { Ended B.chip B.faults (λ _. HasForm (operation.Grant privileges object grantee)) (λ db. privileges_granted db actor privileges object grantee) bench.old bench.new tables.old tables.new result }
+    ensures { Ended B.chip B.faults (λ _. HasForm (operation.Grant privileges object grantee)) (λ db. privileges_granted db actor privileges object grantee) bench.old bench.new tables.old tables.new result }
 {
     let pair = find_named(&tables.store, bench, actor, object, grantee)?;
-    let held = find_pair(&tables.store, bench, Side::Working, pair.object.stamp, pair.grantee)?;
+    let held = find_pair(
+        &tables.store,
+        bench,
+        Side::Working,
+        pair.object.stamp,
+        pair.grantee,
+    )?;
     if let Some(found) = held {
         let more = with_privileges(&found.value, both(found.value.privileges, privileges));
         return tables.change_in_place(bench, found.slot, &more);

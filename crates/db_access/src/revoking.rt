@@ -29,10 +29,16 @@ pub fn revoke<B: Eeprom>(
 ) -> Result<(), Stop>
     requires begun { IsTrue tables.old.store.begun }
     requires stand { Stand tables.old (B.chip bench.old) }
-    ensures ended { Ended B.chip B.faults (λ _. Unit {0}) (λ db. privileges_revoked db actor privileges object grantee) bench.old bench.new tables.old tables.new result }
+    ensures { Ended B.chip B.faults (λ _. Unit {0}) (λ db. privileges_revoked db actor privileges object grantee) bench.old bench.new tables.old tables.new result }
 {
     let pair = find_named(&tables.store, bench, actor, object, grantee)?;
-    let Some(found) = find_pair(&tables.store, bench, Side::Working, pair.object.stamp, pair.grantee)?
+    let Some(found) = find_pair(
+        &tables.store,
+        bench,
+        Side::Working,
+        pair.object.stamp,
+        pair.grantee,
+    )?
     else {
         return refused(StatusWord::NOT_FOUND);
     };

@@ -52,8 +52,7 @@ pub fn verify<B: Eeprom>(
     match try_secret(store, bench, user, secret) {
         Ok(word) => Ok(word),
         // Tries never change the length of a record, so a card has room for them.
-        Err(Stop::Refused { word }) => Ok(word),
-        Err(Stop::Fault) => Err(EepromFault),
+        Err(stop) => stop.answer(),
     }
 }
 

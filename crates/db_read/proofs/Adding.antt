@@ -18,13 +18,13 @@ use Rattle.scql_model.specs.Objects.{StampedRow}
 use Rattle.scql_model.specs.ReadBound.{RisesAtLeast, is_at, is_passed}
 use Rattle.privilege_table.proofs.Seen.{told-held}
 use Rattle.record_table.specs.Listed.{slots_of}
-use Rattle.record_table.specs.Making.{IsHeld}
+use Rattle.record_table.specs.Making.{IsHeld, stop_answer}
 use Rattle.record_table.specs.Reading.{NeverFalls}
 use Rattle.record_table.specs.declared.stop.Stop.{Stop}
 use Rattle.record_table.specs.declared.stop.Stop.TheVariants.{Refused, Fault}
 use Rattle.cursor.specs.Costs.{Cost, RisesBetween, cost_at, cost_between, cost_where}
 use Rattle.cursor.specs.Moved.{AreStamped}
-use Rattle.db_read.specs.Answered.{WhereStopped, stop_answer}
+use Rattle.db_read.specs.Answered.{WhereStopped}
 
 -- where nothing was read
 pub nothing-read : (most : ℕ) (a : Option ℕ) → Becomes (RisesAtMost most) a a

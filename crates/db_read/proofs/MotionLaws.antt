@@ -18,13 +18,13 @@ use Rattle.scql_model.specs.Matching.{Values}
 use Rattle.scql_model.specs.Moves.{first_row, moved, row_behind, rows_under}
 use Rattle.scql_model.specs.Objects.{StampedRow}
 use Rattle.scql_model.specs.ReadBound.{IsOnTableOrView, RisesAtLeast, cells_moved, is_passed, place_reached, row_cells}
-use Rattle.record_table.specs.Making.{IsHeld}
+use Rattle.record_table.specs.Making.{IsHeld, stop_answer}
 use Rattle.record_table.specs.declared.stop.Stop.{Stop}
 use Rattle.record_table.specs.declared.stop.Stop.TheVariants.{Refused, Fault}
 use Rattle.cursor.specs.Costs.{Cost, RisesBetween, cost_between, cost_where}
 use Rattle.cursor.specs.Moved.{AreStamped, fetched, refuses}
 use Rattle.db_read.specs.Advanced.{Advances}
-use Rattle.db_read.specs.Answered.{Chooses, Stops, WhereStopped, given, stop_answer}
+use Rattle.db_read.specs.Answered.{Chooses, Stops, WhereStopped, given}
 use Rattle.db_read.specs.Searched.{cells_chosen, cells_searched, octets_for_operation}
 use Rattle.db_read.specs.Motion.{Goes, Stays, answer_of, asks_opened, command_of, cost_by, is_on_way, least_by}
 use Rattle.db_read.specs.declared.motion.Motion.{Motion}

@@ -10,10 +10,11 @@ use Rattle.scql_model.specs.Contents.{Contents}
 use Rattle.scql_model.specs.Database.{Database}
 use Rattle.scql_model.specs.Machine.{Reading}
 use Rattle.scql_model.specs.ReadingCommands.{Move}
+use Rattle.record_table.specs.Making.{stop_answer}
 use Rattle.record_table.specs.declared.stop.Stop.{Stop}
 use Rattle.record_table.specs.declared.stop.Stop.TheVariants.{Refused, Fault}
 use Rattle.cursor.specs.Moved.{refuses}
-use Rattle.db_read.specs.Answered.{Stops, WhereRead, WhereStopped, answered, selectable, stop_answer}
+use Rattle.db_read.specs.Answered.{Stops, WhereRead, WhereStopped, answered, selectable}
 use Rattle.db_read.proofs.Sighted.{asked, asked-Err}
 
 -- a stop is handed on

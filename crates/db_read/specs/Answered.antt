@@ -1,6 +1,5 @@
 -- What the answers of reading operations mean: the word, the cursor and the row as a move of the model; and what a cursor chooses.
 use Rattle.std.specs.Prelude.{◌≡◌, ℕ, ◌*◌, ◌==◌, Bool, true, List, [], Option, Some, Result, Ok, Err, if◌then◌else◌}
-use Rattle.eeprom.specs.declared.fault.EepromFault.{EepromFault}
 use Rattle.scql_base.specs.Words.{done, not_found, security_not_satisfied}
 use Rattle.scql_base.specs.declared.words.Actor.{Actor}
 use Rattle.scql_base.specs.declared.cursor.Cursor.{Cursor}
@@ -36,11 +35,6 @@ given le word cursor values =
 abbrev pub Stops : {T : Type 0} → Result T StatusWord → Stop → Type 0
 Stops {T} outcome (Refused word) = (outcome ≡ Err word) × (refuses word ≡ true)
 Stops {T} outcome Fault = Unit {0}
-
--- what an operation answers that stopped
-abbrev pub stop_answer : Stop → Result StatusWord EepromFault
-stop_answer (Refused word) = Ok word
-stop_answer Fault = Err (record {})
 
 -- an object that appears, where the actor may select from it
 abbrev pub selectable : Database → Actor → Option Object → Result Object StatusWord

@@ -17,7 +17,6 @@ ghost use Rattle.db_read.specs.Scan.{IsRightFor};
 ghost use Rattle.db_read.specs.Searched.{octets_for_operation};
 
 use crate::choosing::choose;
-use crate::finding::stopped;
 use crate::going::go;
 use crate::motion::Motion;
 use crate::reader::Reader;
@@ -61,7 +60,7 @@ pub fn advance<B: Eeprom>(
     }
     if !scan.has_found() {
         if let Err(stop) = choose(reader, actor, held, scan) {
-            return stopped(stop);
+            return stop.answer();
         }
     }
     let Scan { choice, room, .. } = scan;

@@ -21,7 +21,7 @@ ghost use Rattle.db_read.specs.Reader.{GoesOn};
 ghost use Rattle.db_read.specs.Searched.{cells_named, octets_for_operation};
 
 use crate::columns::columns_of;
-use crate::finding::{find_named, stopped};
+use crate::finding::find_named;
 use crate::reader::Reader;
 use eeprom::{Eeprom, EepromFault};
 use record_table::{Stop, refused};
@@ -51,7 +51,7 @@ pub fn declare<B: Eeprom>(
             *cursor = Some(declared);
             Ok(StatusWord::DONE)
         }
-        Err(stop) => stopped(stop),
+        Err(stop) => stop.answer(),
     }
 }
 

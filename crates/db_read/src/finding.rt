@@ -11,12 +11,12 @@ ghost use Rattle.scql_model.specs.Rights.{seen_named, seen_stamped};
 ghost use Rattle.record_table.specs.Listed.{slots_of};
 ghost use Rattle.record_table.specs.Making.{IsHeld, is_stop_fault};
 ghost use Rattle.record_table.specs.Reading.{NeverFalls};
-ghost use Rattle.db_read.specs.Answered.{Stops, WhereRead, selectable, stop_answer};
+ghost use Rattle.db_read.specs.Answered.{Stops, WhereRead, selectable};
 ghost use Rattle.db_read.specs.Reader.{GoesOn};
 ghost use Rattle.db_read.specs.Searched.{cells_named, cells_selected, rights_cells};
 
 use crate::reader::Reader;
-use eeprom::{Eeprom, EepromFault};
+use eeprom::Eeprom;
 use object_table::{find_name_into, find_stamp_into};
 use privilege_table::{Privilege, rights_on};
 use record_table::{Stop, refused};
@@ -92,14 +92,4 @@ fn select<'a, B: Eeprom>(
         return refused(StatusWord::SECURITY_NOT_SATISFIED);
     }
     Ok(object)
-}
-
-/// What an operation answers that stopped: the word of a refusal, or a fault.
-pub(crate) fn stopped(stop: Stop) -> Result<StatusWord, EepromFault>
-    ensures { result ≡ stop_answer stop }
-{
-    match stop {
-        Stop::Refused { word } => Ok(word),
-        Stop::Fault => Err(EepromFault),
-    }
 }

@@ -1,5 +1,5 @@
 -- A store with the index of its rows, as one value: when the two stand together, and what an operation leaves of them.
-use Rattle.std.specs.Prelude.{◌≡◌, ℕ, ◌+◌, ◌*◌, false, List, Result, IsErrOf, OnOk, is_some, drop}
+use Rattle.std.specs.Prelude.{◌≡◌, true, ℕ, ◌+◌, ◌*◌, false, List, Result, IsErrOf, OnOk, is_some, drop}
 use Rattle.eeprom.specs.Chip.{Chip, Becomes, Keeps, RisesBy}
 use Rattle.eeprom.specs.Fault.{Counts, CountsFaults}
 use Rattle.eeprom.specs.StoreOf.{store_of, image_size}
@@ -49,8 +49,7 @@ pub record Begins (old new : Tables) : Type 0 where
   pub stand : (chip : Chip) → Stand old chip → Stand new chip
   pub starts : (image : List ℕ) → contents new.store Working image ≡ contents old.store Committed image
   pub committed : (image : List ℕ) → contents new.store Committed image ≡ contents old.store Committed image
-  pub index_cells : new.index.cells ≡ old.index.cells
-  pub index_committed : new.index.committed ≡ old.index.committed
+  pub index : new.index ≡ record { cells = old.index.cells; begun = true; committed = old.index.committed; working = old.index.committed }
   pub no_entries : entries new.store ≡ 0
 
 -- A transaction is committed: what was the working side is committed.
@@ -58,6 +57,7 @@ pub record Commits {S T E : Type 0} (chip : S → Chip) (faults : S → ℕ) (be
   pub ended : OnOk result (new.store.begun ≡ false)
   pub stand : OnOk result (Stand new (chip after))
   pub slots : OnOk result (slots_of new.store Committed (chip after) ≡ slots_of old.store Working (chip before))
+  pub index : OnOk result (new.index ≡ record { cells = old.index.cells; begun = false; committed = old.index.working; working = old.index.working })
   pub cells : OnOk result (new.store.chains.cells ≡ old.store.chains.cells)
   pub rows : OnOk result (new.store.row_limit ≡ old.store.row_limit)
   pub told : OnOk result (is_some (chip after).image ≡ is_some (chip before).image)
@@ -73,5 +73,6 @@ pub record RollsBack (old new : Tables) : Type 0 where
   pub ended : new.store.begun ≡ false
   pub stand : (chip : Chip) → Stand old chip → Stand new chip
   pub committed : (image : List ℕ) → contents new.store Committed image ≡ contents old.store Committed image
+  pub index : new.index ≡ record { cells = old.index.cells; begun = false; committed = old.index.committed; working = old.index.committed }
   pub cells : new.store.chains.cells ≡ old.store.chains.cells
   pub rows : new.store.row_limit ≡ old.store.row_limit

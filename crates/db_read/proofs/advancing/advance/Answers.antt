@@ -94,7 +94,7 @@ returns-in-Err-clause-octets_read g c = λ db held cursor right kind.
     let on = c.in-Some.held in
     let reader = c.args.reader.now in
     let own : IsCursorOf db on = rw c.in-Some.is at cursor in
-    rw c.in-Some.is (where-read _ _ c.in-Err.stop c.stopped.result c.stopped.ensures (c.in-Err.ensures.octets_read db held own)
+    rw c.in-Some.is (where-read _ _ c.in-Err.stop c.answer.result c.answer.ensures (c.in-Err.ensures.octets_read db held own)
     (chosen-most db c.args.actor on c.args.motion _ _))
 
 pub returns-in-Err-clause-least : goal.returns-in-Err-clause-least
@@ -102,5 +102,5 @@ returns-in-Err-clause-least g c = λ db held cursor right kind.
     let on = c.in-Some.held in
     let reader = c.args.reader.now in
     let own : IsCursorOf db on = rw c.in-Some.is at cursor in
-    stopped-least c.args.motion c.args.out.now (rows_under db c.args.actor on) c.in-Err.stop c.stopped.result _ _ c.stopped.ensures (c.in-Err.ensures.refused db held own)
+    stopped-least c.args.motion c.args.out.now (rows_under db c.args.actor on) c.in-Err.stop c.answer.result _ _ c.answer.ensures (c.in-Err.ensures.refused db held own)
     (chosen-least _ c.in-Err.stop _ _ (c.in-Err.ensures.octets_read db held own))

@@ -23,7 +23,7 @@ returns-in-Ok-clause-moved g c = λ db held pending.
 pub returns-in-Err-clause-moved : goal.returns-in-Err-clause-moved
 returns-in-Err-clause-moved g c = λ db held pending.
     let before : Reading = record { cursor = c.args.cursor.now; pending = pending } in
-    answered-stop (moved db c.args.actor before (declare c.args.object c.args.columns.now c.args.conditions.now)) c.in-Err.stop c.stopped.result c.args.cursor.now c.stopped.ensures
+    answered-stop (moved db c.args.actor before (declare c.args.object c.args.columns.now c.args.conditions.now)) c.in-Err.stop c.answer.result c.args.cursor.now c.answer.ensures
     (c.in-Err.ensures.refused db held before)
 
 -- what was read of the object is all
@@ -36,4 +36,4 @@ returns-in-Ok-clause-octets_read g c = λ db held. all db c.args.actor c.args.cu
 
 pub returns-in-Err-clause-octets_read : goal.returns-in-Err-clause-octets_read
 returns-in-Err-clause-octets_read g c = λ db held.
-    where-read _ _ c.in-Err.stop c.stopped.result c.stopped.ensures (c.in-Err.ensures.octets_read db held) (all db c.args.actor c.args.cursor.now c.args.object c.args.columns.now c.args.conditions.now _ _)
+    where-read _ _ c.in-Err.stop c.answer.result c.answer.ensures (c.in-Err.ensures.octets_read db held) (all db c.args.actor c.args.cursor.now c.args.object c.args.columns.now c.args.conditions.now _ _)
