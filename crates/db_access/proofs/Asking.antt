@@ -1,9 +1,6 @@
 -- CREATE USER that isn't refused: its edits, and the database with them.
-use Rattle.std.proofs.Common.{◌≡◌, ℕ, Bool, false, List, Some, None, Result, Ok, refl, sym, subst, ◌∙◌, if◌then◌else◌}
+use Rattle.std.proofs.Common.{ap, ◌≡◌, ℕ, Bool, false, List, Some, None, Ok, refl, sym, subst, ◌∙◌, if◌then◌else◌}
 use Rattle.std.proofs.lemmas.Option.{same_Some}
-use Rattle.eeprom.specs.Chip.{Chip}
-use Rattle.record_store.specs.Held.{Held}
-use Rattle.record_store.specs.declared.side.Side.TheVariants.{Working}
 use Rattle.scql_base.specs.declared.records.TheConstants.User.{ALL_TRIES}
 use Rattle.scql_base.specs.declared.records.User.{User}
 use Rattle.scql_base.specs.declared.words.Actor.{Actor}
@@ -17,8 +14,7 @@ use Rattle.scql_model.specs.Edits.{Edit, applied, making}
 use Rattle.scql_model.specs.WellFormed.{HasForm}
 use Rattle.scql_model.proofs.FieldLaws.{chosen_some}
 use Rattle.scql_model.proofs.KeepsValid.{IsValid-edits_of}
-use Rattle.record_table.specs.Making.{Ends, IsHeld, IsValidWith}
-use Rattle.record_table.specs.declared.stop.Stop.{Stop}
+use Rattle.record_table.specs.Making.{IsValidWith}
 
 valid-added : (db : Database) (actor : Actor) (name : List ℕ) (profile : Profile) (secret : List ℕ) (edits : List Edit) → IsValid db → IsActorOf db actor → HasForm (CreateUser name profile secret)
     → user_added db actor name profile secret ≡ Ok edits → IsValidWith db edits
@@ -47,14 +43,9 @@ IsToBeMade-asked db actor name profile secret owner taken valid acts form owns l
 abbrev user_of : ℕ → List ℕ → Profile → ℕ → List ℕ → User
 user_of stamp name profile owner secret = record { stamp = stamp; name = name; profile = profile; owner = owner; secret = secret; tries = ALL_TRIES }
 
--- how making it ends is how the operation ends
-pub Ends-asked : {T : Type 0} (db : Database) (actor : Actor) (name : List ℕ) (profile : Profile) (secret : List ℕ) (owner stamp : ℕ) (copied : List ℕ) (result : Result T Stop) (old new : Held) (before mid after : Chip)
-    → IsToBeMade db actor name profile secret owner → stamp ≡ db.next → copied ≡ secret → mid ≡ before → IsHeld old Working before db
-    → (IsHeld old Working mid db → stamp ≡ db.next → IsValidWith db (making db (of_user (user_of stamp name profile owner copied)))
-    → Ends db (Ok (making db (of_user (user_of stamp name profile owner copied)))) result old new mid after)
-    → Ends db (user_added db actor name profile secret) result old new before after
-Ends-asked db actor name profile secret owner stamp copied result old new before mid after asked next copy same held makes =
+-- so it may be made, and is the user that the operation asks for
+pub of-asked : (db : Database) (actor : Actor) (name : List ℕ) (profile : Profile) (secret : List ℕ) (owner stamp : ℕ) (copied : List ℕ) → IsToBeMade db actor name profile secret owner → stamp ≡ db.next → copied ≡ secret
+    → ((stamp ≡ db.next) × IsValidWith db (making db (of_user (user_of stamp name profile owner copied)))) × (user_added db actor name profile secret ≡ Ok (making db (of_user (user_of stamp name profile owner copied))))
+of-asked db actor name profile secret owner stamp copied asked next copy =
     let is : user_of stamp name profile owner copied ≡ new_user db actor name profile secret = rw (next, copy, asked.owned) refl in
-    let ends = makes (subst (λ chip. IsHeld old Working chip db) (sym same) held) next (subst (λ u. IsValidWith db (making db (of_user u))) (sym is) asked.valid) in
-    let of_model = subst (λ u. Ends db (Ok (making db (of_user u))) result old new mid after) is ends in
-    subst (λ outcome. Ends db outcome result old new before after) (sym asked.added) (subst (λ chip. Ends db (Ok (making db (of_user (new_user db actor name profile secret)))) result old new chip after) same of_model)
+    ((next, subst (λ u. IsValidWith db (making db (of_user u))) (sym is) asked.valid), asked.added ∙ ap (λ u. Ok (making db (of_user u))) (sym is))

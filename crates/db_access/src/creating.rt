@@ -16,47 +16,41 @@ ghost use Rattle.scql_model.specs.Database.{Database};
 ghost use Rattle.scql_model.specs.WellFormed.{HasForm};
 ghost use Rattle.catalog_codec.specs.Catalog.{user_kind};
 ghost use Rattle.record_table.specs.Listed.{slots_of};
-ghost use Rattle.record_table.specs.Making.{IsHeld, Ends, GoesOn, KeepsRows, is_stop_fault};
+ghost use Rattle.record_table.specs.Making.{IsHeld};
 ghost use Rattle.record_table.specs.Tagged.{cells_tagged};
+ghost use Rattle.row_table.specs.Tables.{Ended, Stand};
 
 use eeprom::{Eeprom, EepromFault};
 use record_store::{Side, Store};
-use record_table::{Stop, make, next_stamp};
+use record_table::{Stop, next_stamp};
+use row_table::Tables;
 use scql_base::{Actor, Name, Octets, Profile, StatusWord, User};
 use user_table::find_name;
 
 /// Makes a user for an actor, on the working side. Where it is refused, nothing is done.
 pub fn create_user<B: Eeprom>(
-    store: &mut Store,
+    tables: &mut Tables,
     bench: &mut B,
     actor: Actor,
     name: Name,
     profile: Profile,
     secret: &Octets<8>,
 ) -> Result<(), Stop>
-    requires begun { IsTrue store.old.begun }
-    requires over { IsOver store.old (B.chip bench.old) }
-    ensures ends { (db : Database) → IsHeld store.old Working (B.chip bench.old) db → IsActorOf db actor → HasForm (operation.CreateUser name profile secret.now)
-        → Ends db (user_added db actor name profile secret.now) result store.old store.new (B.chip bench.old) (B.chip bench.new) }
-    ensures goes_on { ¬ IsErrOf result Stop.Fault → GoesOn store.old store.new (B.chip bench.old) (B.chip bench.new) }
-    ensures rows { ¬ IsErrOf result Stop.Fault → KeepsRows (slots_of store.old Working (B.chip bench.old)) (slots_of store.new Working (B.chip bench.new)) }
-    ensures refused { (word : StatusWord) → IsErrOf result (Stop.Refused word) → slots_of store.new Working (B.chip bench.new) ≡ slots_of store.old Working (B.chip bench.old) }
-    ensures committed { ¬ IsErrOf result Stop.Fault → slots_of store.new Committed (B.chip bench.new) ≡ slots_of store.old Committed (B.chip bench.old) }
-    ensures moments { Keeps store_of (B.chip bench.old) (B.chip bench.new) }
-    ensures behind { Keeps (drop (image_size store.old.chains.cells)) (B.chip bench.old) (B.chip bench.new) }
-    ensures cause { CountsFaults is_stop_fault (B.faults bench.old) (B.faults bench.new) result }
+    requires begun { IsTrue tables.old.store.begun }
+    requires stand { Stand tables.old (B.chip bench.old) }
+    ensures { Ended B.chip B.faults (λ db. IsActorOf db actor × HasForm (operation.CreateUser name profile secret.now)) (λ db. user_added db actor name profile secret.now) bench.old bench.new tables.old tables.new result }
 {
     let Some(owner) = owner_for(actor, profile) else {
         return Err(Stop::Refused {
             word: StatusWord::SECURITY_NOT_SATISFIED,
         });
     };
-    if is_taken(store, bench, &name)? {
+    if is_taken(&tables.store, bench, &name)? {
         return Err(Stop::Refused {
             word: StatusWord::ALREADY_EXISTS,
         });
     }
-    let counter = next_stamp(store, bench)?;
+    let counter = next_stamp(&tables.store, bench)?;
     let user = User {
         stamp: counter.value.next,
         name,
@@ -65,8 +59,7 @@ pub fn create_user<B: Eeprom>(
         secret: secret.copy(),
         tries: User::ALL_TRIES,
     };
-    make(store, bench, &counter, &user)?;
-    Ok(())
+    tables.make(bench, &counter, &user)
 }
 
 // The stamp of who acts, where the actor may make a user of this profile.

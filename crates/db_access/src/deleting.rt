@@ -1,5 +1,5 @@
 // DELETE USER.
-ghost use Rattle.std.specs.Prelude.{◌≡◌, ◌<◌, Some, drop, IfOk, IfSome, IsTrue, IsErrOf};
+ghost use Rattle.std.specs.Prelude.{◌≡◌, ◌<◌, Some, drop, option_map, IfOk, IfSome, IsTrue, IsErrOf};
 ghost use Rattle.std.specs.List.{list_any};
 ghost use Rattle.eeprom.specs.Chip.{Keeps};
 ghost use Rattle.eeprom.specs.Fault.{CountsFaults, each_error};
@@ -15,6 +15,7 @@ ghost use Rattle.scql_model.specs.Users.{removing_user, user_deleted};
 ghost use Rattle.catalog_codec.specs.Catalog.{user_kind};
 ghost use Rattle.record_table.specs.Listed.{at_slot, slots_of};
 ghost use Rattle.record_table.specs.Making.{IsHeld, Ends, GoesOn, KeepsRows, is_stop_fault};
+ghost use Rattle.row_table.specs.Tables.{Ended, Stand};
 ghost use Rattle.db_access.specs.Asked.{Answers};
 ghost use Rattle.db_access.specs.Depending.{is_for, is_object_of, is_user_of};
 
@@ -22,32 +23,26 @@ use eeprom::{Eeprom, EepromFault};
 use privilege_table::is_owned_by;
 use record_store::{Found, Side, Store, Tag};
 use record_table::{Stop, Wanted, find_by, refused, remove, remove_each};
+use row_table::Tables;
 use scql_base::{Actor, Grant, Name, Object, Profile, StatusWord, User};
 use user_table::find_name;
 
-/// Deletes a user whom the actor owns and whom nothing needs, on the working side, and the grants to it.
+/// Deletes a user whom the actor owns and whom nothing needs, on the working side, and the grants to it. Answers the stamp that it had.
 pub fn delete_user<B: Eeprom>(
-    store: &mut Store,
+    tables: &mut Tables,
     bench: &mut B,
     actor: Actor,
     name: Name,
-) -> Result<(), Stop>
-    requires begun { IsTrue store.old.begun }
-    requires over { IsOver store.old (B.chip bench.old) }
-    ensures ends { (db : Database) → IsHeld store.old Working (B.chip bench.old) db
-        → Ends db (user_deleted db actor name) result store.old store.new (B.chip bench.old) (B.chip bench.new) }
-    ensures goes_on { ¬ IsErrOf result Stop.Fault → GoesOn store.old store.new (B.chip bench.old) (B.chip bench.new) }
-    ensures rows { ¬ IsErrOf result Stop.Fault → KeepsRows (slots_of store.old Working (B.chip bench.old)) (slots_of store.new Working (B.chip bench.new)) }
-    ensures refused { (word : StatusWord) → IsErrOf result (Stop.Refused word) → slots_of store.new Working (B.chip bench.new) ≡ slots_of store.old Working (B.chip bench.old) }
-    ensures committed { ¬ IsErrOf result Stop.Fault → slots_of store.new Committed (B.chip bench.new) ≡ slots_of store.old Committed (B.chip bench.old) }
-    ensures moments { Keeps store_of (B.chip bench.old) (B.chip bench.new) }
-    ensures behind { Keeps (drop (image_size store.old.chains.cells)) (B.chip bench.old) (B.chip bench.new) }
-    ensures cause { CountsFaults is_stop_fault (B.faults bench.old) (B.faults bench.new) result }
+) -> Result<u32, Stop>
+    requires begun { IsTrue tables.old.store.begun }
+    requires stand { Stand tables.old (B.chip bench.old) }
+    ensures ended { Ended B.chip B.faults (λ _. Unit {0}) (λ db. user_deleted db actor name) bench.old bench.new tables.old tables.new result }
+    ensures gone { (db : Database) → IsHeld tables.old.store Working (B.chip bench.old) db → IfOk result (λ stamp. option_map (λ user. user.stamp) (model.user_named db.users name) ≡ Some stamp) }
 {
-    let user = find_to_delete(store, bench, actor, name)?;
-    remove(store, user.slot);
-    remove_each(store, bench, &GrantedTo(user.value.stamp))?;
-    Ok(())
+    let user = find_to_delete(&tables.store, bench, actor, name)?;
+    remove(&mut tables.store, user.slot);
+    remove_each(&mut tables.store, bench, &GrantedTo(user.value.stamp))?;
+    Ok(user.value.stamp)
 }
 
 // Finds the user who is deleted, or the first refusal.
@@ -60,6 +55,7 @@ fn find_to_delete<B: Eeprom>(
     requires over { IsOver store.now (B.chip bench.old) }
     ensures there { IfOk result (λ user. user.slot < store.now.chains.cells) }
     ensures at { IfOk result (λ user. IfSome (slots_of store.now Working (B.chip bench.old)) (λ slots. Some user.value ≡ at_slot user_kind user.slot slots)) }
+    ensures named { (db : Database) → IsHeld store.now Working (B.chip bench.old) db → IfOk result (λ user. model.user_named db.users name ≡ Some user.value) }
     ensures found { (db : Database) → IsHeld store.now Working (B.chip bench.old) db → Answers (λ user. removing_user db user.value) (user_deleted db actor name) result }
     ensures frame { Reads is_stop_fault B.chip B.faults bench.old bench.new result }
 {

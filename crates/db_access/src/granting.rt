@@ -1,60 +1,51 @@
 // GRANT.
-ghost use Rattle.std.specs.Prelude.{◌≡◌, bit_or, drop, IsTrue, IsErrOf};
-ghost use Rattle.eeprom.specs.Chip.{Keeps};
-ghost use Rattle.eeprom.specs.Fault.{CountsFaults};
-ghost use Rattle.eeprom.specs.StoreOf.{store_of, image_size};
-ghost use Rattle.record_store.specs.Held.{IsOver};
-ghost use Rattle.record_store.specs.declared.side.Side.TheVariants.{Committed, Working};
+ghost use Rattle.std.specs.Prelude.{◌≡◌, bit_or, IsTrue};
 ghost use Rattle.scql_base.specs.declared.operation.Operation.TheVariants as operation;
-ghost use Rattle.scql_base.specs.declared.words.StatusWord.{StatusWord};
-ghost use Rattle.scql_model.specs.Database.{Database};
 ghost use Rattle.scql_model.specs.Granting.{privileges_granted};
 ghost use Rattle.scql_model.specs.WellFormed.{HasForm};
-ghost use Rattle.record_table.specs.Listed.{slots_of};
-ghost use Rattle.record_table.specs.Making.{IsHeld, Ends, GoesOn, KeepsRows, is_stop_fault};
+ghost use Rattle.row_table.specs.Tables.{Ended, Stand};
 
 use crate::pairs::{find_named, with_privileges};
 use eeprom::Eeprom;
 use privilege_table::find_pair;
-use record_store::{Side, Store};
-use record_table::{Stop, change_in_place, make, next_stamp};
+use record_store::Side;
+use record_table::{Stop, next_stamp};
+use row_table::Tables;
 use scql_base::{Actor, Grant, Name, Privileges};
 
 /// Gives a user, or PUBLIC, privileges on an object of the actor's, on the working side: besides those that a grant gives already, or by a new one.
 pub fn grant<B: Eeprom>(
-    store: &mut Store,
+    tables: &mut Tables,
     bench: &mut B,
     actor: Actor,
     privileges: Privileges,
     object: Name,
     grantee: Name,
 ) -> Result<(), Stop>
-    requires begun { IsTrue store.old.begun }
-    requires over { IsOver store.old (B.chip bench.old) }
-    ensures ends { (db : Database) → IsHeld store.old Working (B.chip bench.old) db → HasForm (operation.Grant privileges object grantee)
-        → Ends db (privileges_granted db actor privileges object grantee) result store.old store.new (B.chip bench.old) (B.chip bench.new) }
-    ensures goes_on { ¬ IsErrOf result Stop.Fault → GoesOn store.old store.new (B.chip bench.old) (B.chip bench.new) }
-    ensures rows { ¬ IsErrOf result Stop.Fault → KeepsRows (slots_of store.old Working (B.chip bench.old)) (slots_of store.new Working (B.chip bench.new)) }
-    ensures refused { (word : StatusWord) → IsErrOf result (Stop.Refused word) → slots_of store.new Working (B.chip bench.new) ≡ slots_of store.old Working (B.chip bench.old) }
-    ensures committed { ¬ IsErrOf result Stop.Fault → slots_of store.new Committed (B.chip bench.new) ≡ slots_of store.old Committed (B.chip bench.old) }
-    ensures moments { Keeps store_of (B.chip bench.old) (B.chip bench.new) }
-    ensures behind { Keeps (drop (image_size store.old.chains.cells)) (B.chip bench.old) (B.chip bench.new) }
-    ensures cause { CountsFaults is_stop_fault (B.faults bench.old) (B.faults bench.new) result }
+    requires begun { IsTrue tables.old.store.begun }
+    requires stand { Stand tables.old (B.chip bench.old) }
+    ensures { Ended B.chip B.faults (λ _. HasForm (operation.Grant privileges object grantee)) (λ db. privileges_granted db actor privileges object grantee) bench.old bench.new tables.old tables.new result }
 {
-    let pair = find_named(store, bench, actor, object, grantee)?;
-    if let Some(found) = find_pair(store, bench, Side::Working, pair.object.stamp, pair.grantee)? {
+    let pair = find_named(&tables.store, bench, actor, object, grantee)?;
+    let held = find_pair(
+        &tables.store,
+        bench,
+        Side::Working,
+        pair.object.stamp,
+        pair.grantee,
+    )?;
+    if let Some(found) = held {
         let more = with_privileges(&found.value, both(found.value.privileges, privileges));
-        return change_in_place(store, bench, found.slot, &more);
+        return tables.change_in_place(bench, found.slot, &more);
     }
-    let counter = next_stamp(store, bench)?;
+    let counter = next_stamp(&tables.store, bench)?;
     let new = Grant {
         stamp: counter.value.next,
         object: pair.object.stamp,
         grantee: pair.grantee,
         privileges,
     };
-    make(store, bench, &counter, &new)?;
-    Ok(())
+    tables.make(bench, &counter, &new)
 }
 
 // Privileges and others.

@@ -8,49 +8,47 @@ ghost use Rattle.record_store.specs.declared.side.Side.TheVariants.{Committed, W
 ghost use Rattle.scql_base.specs.declared.words.StatusWord.{StatusWord};
 ghost use Rattle.scql_model.specs.Database.{Database};
 ghost use Rattle.scql_model.specs.Granting.{privileges_left, privileges_revoked};
-ghost use Rattle.record_table.specs.Listed.{slots_of};
-ghost use Rattle.record_table.specs.Making.{IsHeld, Ends, GoesOn, KeepsRows, is_stop_fault};
+ghost use Rattle.row_table.specs.Tables.{Ended, Stand};
 
 use crate::pairs::{find_named, with_privileges};
 use eeprom::Eeprom;
 use privilege_table::find_pair;
-use record_store::{Side, Store};
-use record_table::{Stop, change_in_place, refused, take_out};
+use record_store::Side;
+use record_table::{Stop, refused, take_out};
+use row_table::Tables;
 use scql_base::{Actor, Grant, Name, Privileges, StatusWord};
 
 /// Takes privileges on an object of the actor's from a user, or from PUBLIC, on the working side. A grant without any goes.
 pub fn revoke<B: Eeprom>(
-    store: &mut Store,
+    tables: &mut Tables,
     bench: &mut B,
     actor: Actor,
     privileges: Privileges,
     object: Name,
     grantee: Name,
 ) -> Result<(), Stop>
-    requires begun { IsTrue store.old.begun }
-    requires over { IsOver store.old (B.chip bench.old) }
-    ensures ends { (db : Database) → IsHeld store.old Working (B.chip bench.old) db
-        → Ends db (privileges_revoked db actor privileges object grantee) result store.old store.new (B.chip bench.old) (B.chip bench.new) }
-    ensures goes_on { ¬ IsErrOf result Stop.Fault → GoesOn store.old store.new (B.chip bench.old) (B.chip bench.new) }
-    ensures rows { ¬ IsErrOf result Stop.Fault → KeepsRows (slots_of store.old Working (B.chip bench.old)) (slots_of store.new Working (B.chip bench.new)) }
-    ensures refused { (word : StatusWord) → IsErrOf result (Stop.Refused word) → slots_of store.new Working (B.chip bench.new) ≡ slots_of store.old Working (B.chip bench.old) }
-    ensures committed { ¬ IsErrOf result Stop.Fault → slots_of store.new Committed (B.chip bench.new) ≡ slots_of store.old Committed (B.chip bench.old) }
-    ensures moments { Keeps store_of (B.chip bench.old) (B.chip bench.new) }
-    ensures behind { Keeps (drop (image_size store.old.chains.cells)) (B.chip bench.old) (B.chip bench.new) }
-    ensures cause { CountsFaults is_stop_fault (B.faults bench.old) (B.faults bench.new) result }
+    requires begun { IsTrue tables.old.store.begun }
+    requires stand { Stand tables.old (B.chip bench.old) }
+    ensures { Ended B.chip B.faults (λ _. Unit {0}) (λ db. privileges_revoked db actor privileges object grantee) bench.old bench.new tables.old tables.new result }
 {
-    let pair = find_named(store, bench, actor, object, grantee)?;
-    let Some(found) = find_pair(store, bench, Side::Working, pair.object.stamp, pair.grantee)?
+    let pair = find_named(&tables.store, bench, actor, object, grantee)?;
+    let Some(found) = find_pair(
+        &tables.store,
+        bench,
+        Side::Working,
+        pair.object.stamp,
+        pair.grantee,
+    )?
     else {
         return refused(StatusWord::NOT_FOUND);
     };
     match left_of(&found.value, privileges) {
         Some(left) => {
             let less = with_privileges(&found.value, left);
-            change_in_place(store, bench, found.slot, &less)
+            tables.change_in_place(bench, found.slot, &less)
         }
         None => {
-            take_out::<Grant>(store, found.slot);
+            take_out::<Grant>(&mut tables.store, found.slot);
             Ok(())
         }
     }

@@ -1,5 +1,4 @@
 pub mod FoundThrough
-pub mod IndexFollows
 pub mod RowAssigned
 pub mod RowChanged
 pub mod RowDeleted

@@ -1,9 +1,6 @@
 // INSERT.
-ghost use Rattle.std.specs.Prelude.{◌≡◌, true, Ok, Err, IsTrue, IfOk, IfErr, IsErrOf, drop, length};
-ghost use Rattle.eeprom.specs.Chip.{Keeps};
-ghost use Rattle.eeprom.specs.Fault.{CountsFaults};
+ghost use Rattle.std.specs.Prelude.{◌≡◌, true, Ok, Err, IsTrue, IfOk, IfErr, length};
 ghost use Rattle.eeprom.specs.Frame.{Reads};
-ghost use Rattle.eeprom.specs.StoreOf.{store_of, image_size};
 ghost use Rattle.record_store.specs.Held.{IsOver};
 ghost use Rattle.record_store.specs.declared.side.Side.TheVariants.{Working};
 ghost use Rattle.scql_base.specs.declared.operation.Operation.TheVariants as operation;
@@ -16,49 +13,36 @@ ghost use Rattle.scql_model.specs.WellFormed.{FitsCard, HasForm};
 ghost use Rattle.scql_model.specs.Writing.{row_inserted};
 ghost use Rattle.catalog_codec.specs.Catalog.{row_kind};
 ghost use Rattle.catalog_codec.specs.Kinds.{FitsChain};
-ghost use Rattle.row_index.specs.Index.{Indexes, is_above};
-ghost use Rattle.record_table.specs.Making.{Ends, GoesOn, IsHeld, is_stop_fault};
+ghost use Rattle.row_index.specs.Index.{is_above};
+ghost use Rattle.record_table.specs.Making.{Ends, IsHeld, is_stop_fault};
+ghost use Rattle.row_table.specs.Tables.{Ended, Stand};
 
 use eeprom::Eeprom;
 use object_table::find_name_into;
 use privilege_table::{Privilege, rights_on};
 use record_store::{Side, Store};
-use record_table::{Stop, make, next_stamp, refused};
-use row_index::RowIndex;
+use record_table::{Stop, next_stamp, refused};
+use row_table::Tables;
 use scql_base::{Actor, Name, ObjectKind, Row, RowRecord, StatusWord};
 
 /// INSERT: adds a row behind all others of a table. The index follows.
 pub fn insert<B: Eeprom>(
-    store: &mut Store,
+    tables: &mut Tables,
     bench: &mut B,
     actor: Actor,
     table: Name,
     row: &Row,
-    index: &mut RowIndex,
 ) -> Result<(), Stop>
-    requires begun { IsTrue store.old.begun }
-    requires over { IsOver store.old (B.chip bench.old) }
-    requires index_begun { IsTrue index.old.begun }
-    requires index { Indexes index.old store.old (B.chip bench.old) }
-    requires last { (db : Database) → IsHeld store.old Working (B.chip bench.old) db → is_above db.next index.old.committed ≡ true }
-    ensures ends { (db : Database) → IsHeld store.old Working (B.chip bench.old) db → HasForm (operation.Insert table row.now) → FitsCard db.limit (operation.Insert table row.now)
-        → Ends db (row_inserted db actor table row.now) result store.old store.new (B.chip bench.old) (B.chip bench.new) }
-    ensures goes_on { ¬ IsErrOf result Stop.Fault → GoesOn store.old store.new (B.chip bench.old) (B.chip bench.new) }
-    ensures moments { Keeps store_of (B.chip bench.old) (B.chip bench.new) }
-    ensures behind { Keeps (drop (image_size store.old.chains.cells)) (B.chip bench.old) (B.chip bench.new) }
-    ensures cause { CountsFaults is_stop_fault (B.faults bench.old) (B.faults bench.new) result }
-    ensures index { (db : Database) → IsHeld store.old Working (B.chip bench.old) db → HasForm (operation.Insert table row.now) → FitsCard db.limit (operation.Insert table row.now)
-        → ¬ IsErrOf result Stop.Fault → Indexes index.new store.new (B.chip bench.new) }
-    ensures index_cells { index.new.cells ≡ index.old.cells }
-    ensures index_committed { index.new.committed ≡ index.old.committed }
-    ensures index_begun { IsTrue index.new.begun }
+    requires begun { IsTrue tables.old.store.begun }
+    requires stand { Stand tables.old (B.chip bench.old) }
+    requires last { (db : Database) → IsHeld tables.old.store Working (B.chip bench.old) db → is_above db.next tables.old.index.committed ≡ true }
+    ensures { Ended B.chip B.faults (λ db. HasForm (operation.Insert table row.now) × FitsCard db.limit (operation.Insert table row.now)) (λ db. row_inserted db actor table row.now)
+        bench.old bench.new tables.old tables.new result }
 {
-    let table = find_table(store, bench, actor, table, row)?;
-    let counter = next_stamp(store, bench)?;
+    let table = find_table(&tables.store, bench, actor, table, row)?;
+    let counter = next_stamp(&tables.store, bench)?;
     let record = new_record(counter.value.next, table, row);
-    let slot = make(store, bench, &counter, &record)?;
-    index.added(record.table, record.stamp, slot);
-    Ok(())
+    tables.make_row(bench, &counter, &record)
 }
 
 // The stamp of the table into which the actor may insert the row, or the first refusal.

@@ -1,2 +1,4 @@
+pub mod Endings
 pub mod Followed
 pub mod FoundRows
+pub mod RowsMade

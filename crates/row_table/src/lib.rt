@@ -3,6 +3,8 @@
 
 mod changing;
 mod finding;
+mod tables;
 
 pub use changing::{add, change, remove};
 pub use finding::{find_stamp, next_after};
+pub use tables::Tables;

@@ -32,3 +32,6 @@ returns-clause-found g c = λ db held.
     let still = subst (λ chip. IsHeld c.args.store.now Working chip db) (sym c.in_ok-user.ensures.frame.same) held in
     deletes db c.args.actor c.args.name c.in-Some.user.value (named ∙ ap (option_map (λ found. found.value)) c.in-Some.is) (sym c.is_owned_by.ensures ∙ c.if-not-is_owned_by.false)
     (sym (c.in_ok-is_needed.ensures.needed db still) ∙ c.if-branch.false)
+
+pub returns-clause-named : goal.returns-clause-named
+returns-clause-named g c = λ db held. named-held c.args.store.now Working (g.B.Eeprom.chip c.args.bench.now) db c.args.name _ held c.in_ok-user.ensures.first ∙ ap (option_map (λ found. found.value)) c.in-Some.is

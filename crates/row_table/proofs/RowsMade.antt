@@ -1,35 +1,24 @@
--- INSERT: the index with the new row stands for the store.
-use Rattle.std.proofs.Common.{◌≡◌, ℕ, ◌+◌, ◌<◌, Bool, true, List, [], ◌∷◌, ◌++◌, Some, Result, Ok, Err, refl, sym, subst}
-use Rattle.std.specs.Prelude.{IfSome, IsErr, IsErrOf}
+-- A row is made: the index with it stands for the store.
+use Rattle.std.proofs.Common.{◌≡◌, ℕ, ◌+◌, ◌<◌, Bool, true, List, [], ◌∷◌, ◌++◌, Some, Ok, sym, subst}
+use Rattle.std.specs.Prelude.{IfSome}
 use Rattle.std.specs.List.{list_all, AllByRecursion}
 use Rattle.std.proofs.lemmas.Bool.{and_parts}
 use Rattle.eeprom.specs.Chip.{Becomes, Chip}
 use Rattle.record_store.specs.Held.{Held}
 use Rattle.record_store.specs.declared.side.Side.TheVariants.{Working}
 use Rattle.scql_base.specs.declared.records.RowRecord.{RowRecord}
-use Rattle.scql_base.specs.declared.words.StatusWord.{StatusWord}
 use Rattle.scql_model.specs.Database.{Database, IsValid}
-use Rattle.scql_model.specs.Edits.{Edit, applied, making}
+use Rattle.scql_model.specs.Edits.{applied, making}
 use Rattle.scql_model.specs.Records.{of_row}
 use Rattle.catalog_codec.specs.Catalog.{counter_kind, row_kind}
 use Rattle.record_table.specs.EditableLaws.{IsEditable-row}
 use Rattle.record_table.specs.Listed.{at_slot, slots_of}
 use Rattle.record_table.specs.Making.{Ends, IsHeld, IsMade}
-use Rattle.record_table.specs.declared.stop.Stop.{Stop}
-use Rattle.record_table.specs.declared.stop.Stop.TheVariants.{Refused, Fault}
 use Rattle.row_index.specs.Index.{HasRows, Index, Indexes, is_above}
 use Rattle.row_index.specs.Places.{place_of, place_stamp}
 use Rattle.row_index.proofs.IndexLaws.{Indexes-made, with_added}
 use Rattle.row_index.proofs.Kept.{below-above}
 use Rattle.row_index.proofs.Scans.{places-below}
-
--- a refusal leaves the store and what it has as they were
-pub Indexes-refused : {T : Type 0} (index : Index) (db : Database) (outcome : Result (List Edit) StatusWord) (result : Result T Stop) (old new : Held) (before after : Chip) → Indexes index old before → IsErr result
-    → Ends db outcome result old new before after → (IsErrOf result Fault → ⊥) → Indexes index new after
-Indexes-refused index db outcome (Ok x) old new before after is err ends fine = absurd (cc)
-Indexes-refused index db outcome (Err (Refused word)) old new before after is err ends fine =
-    subst (λ chip. Indexes index new chip) (sym ends.2) (subst (λ store. Indexes index store before) (sym ends.1) is)
-Indexes-refused index db outcome (Err Fault) old new before after is err ends fine = absurd (fine refl)
 
 -- in a valid database the working rows have stamps below the next
 below-next : (index : Index) (store : Held) (chip : Chip) (db : Database) → Indexes index store chip → IsHeld store Working chip db → AllByRecursion (λ place. place_stamp place < db.next) index.working

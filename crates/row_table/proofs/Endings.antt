@@ -1,0 +1,110 @@
+-- How an operation on tables ends that does nothing but read before its part, or reads alone; and how the tables stand then.
+use Rattle.std.proofs.Common.{◌≡◌, ℕ, List, Option, Some, None, Result, Ok, Err, refl, sym, ap, subst, ◌∙◌}
+use Rattle.std.specs.Prelude.{IfSome, IsErrOf, is_some}
+use Rattle.eeprom.specs.Chip.{Chip}
+use Rattle.eeprom.specs.Fault.{CountsFaults}
+use Rattle.eeprom.proofs.Leaves.{Keeps-none}
+use Rattle.record_store.specs.Held.{Held}
+use Rattle.record_store.specs.declared.side.Side.TheVariants.{Committed, Working}
+use Rattle.scql_base.specs.declared.words.StatusWord.{StatusWord}
+use Rattle.scql_model.specs.Database.{Database}
+use Rattle.scql_model.specs.Edits.{Edit}
+use Rattle.record_table.specs.Listed.{slots_of}
+use Rattle.record_table.specs.Making.{Ends, GoesOn, IsHeld, KeepsRows, Makes, is_stop_fault}
+use Rattle.record_table.specs.declared.stop.Stop.{Stop}
+use Rattle.record_table.specs.declared.stop.Stop.TheVariants.{Refused, Fault}
+use Rattle.row_index.specs.Index.{Index, Indexes}
+use Rattle.row_index.proofs.IndexLaws.{Indexes-kept, Indexes-untold}
+use Rattle.row_table.specs.Tables.{Ended, Stand}
+use Rattle.row_table.specs.declared.tables.Tables.{Tables}
+
+-- A part ended so, after nothing but reads: and so did the operation, whose edits are the part's.
+pub Ended-after : {S T : Type 0} {chip : S → Chip} {faults : S → ℕ} {part_may may : Database → Type 0} {part_edits edits : Database → Result (List Edit) StatusWord} {before mid after : S} {old new : Tables} {result : Result T Stop}
+    → Ended chip faults part_may part_edits mid after old new result → chip mid ≡ chip before → faults mid ≡ faults before
+    → ((db : Database) → IsHeld old.store Working (chip before) db → may db → part_may db × (edits db ≡ part_edits db)) → Ended chip faults may edits before after old new result
+Ended-after {S} {T} {chip} {faults} {part_may} {may} {part_edits} {edits} {before} {mid} {after} {old} {new} {result} ended same counts of = record {
+  ends = λ db held may. subst (λ outcome. Ends db outcome result old.store new.store (chip before) (chip after)) (sym (of db held may).1)
+      (subst (λ c. Ends db (part_edits db) result old.store new.store c (chip after)) same (ended.ends db (subst (λ c. IsHeld old.store Working c db) (sym same) held) (of db held may).0));
+  goes_on = λ fine. subst (λ c. GoesOn old.store new.store c (chip after)) same (ended.goes_on fine);
+  index = λ db held may. ended.index db (subst (λ c. IsHeld old.store Working c db) (sym same) held) (of db held may).0;
+  index_cells = ended.index_cells;
+  index_committed = ended.index_committed;
+  index_begun = ended.index_begun;
+  refused = λ word is. ended.refused word is ∙ ap (slots_of old.store Working) same;
+  committed = λ fine. ended.committed fine ∙ ap (slots_of old.store Committed) same;
+  moments = rw same at ended.moments;
+  behind = rw same at ended.behind;
+  cause = subst (λ n. CountsFaults is_stop_fault n (faults after) result) counts ended.cause;
+}
+
+-- Nothing but reads came, and the operation is refused, or the EEPROM failed.
+pub Ended-before : {S T : Type 0} {chip : S → Chip} {faults : S → ℕ} {may : Database → Type 0} {edits : Database → Result (List Edit) StatusWord} {before after : S} {old : Tables} {result : Result T Stop}
+    → Stand old (chip before) → chip after ≡ chip before → CountsFaults is_stop_fault (faults before) (faults after) result
+    → ((db : Database) → IsHeld old.store Working (chip before) db → may db → Ends db (edits db) result old.store old.store (chip before) (chip after)) → Ended chip faults may edits before after old old result
+Ended-before {S} {T} {chip} {faults} {may} {edits} {before} {after} {old} {result} stand same counts ends = record {
+  ends = ends;
+  goes_on = λ fine. record { begun = refl; cells = refl; rows = refl; told = ap (λ (c : Chip). is_some c.image) same; over = rw (sym same) at stand.over };
+  index = λ db held may fine. rw (sym same) at stand.index;
+  index_cells = refl;
+  index_committed = refl;
+  index_begun = refl;
+  refused = λ word is. ap (slots_of old.store Working) same;
+  committed = λ fine. ap (slots_of old.store Committed) same;
+  moments = Keeps-none _ (chip before) (chip after) same;
+  behind = Keeps-none _ (chip before) (chip after) same;
+  cause = counts;
+}
+
+-- An operation that leaves every row in its slot leaves the index standing.
+pub Indexes-ended : {T : Type 0} (index : Index) (db : Database) (outcome : Result (List Edit) StatusWord) (result : Result T Stop) (old new : Held) (before after : Chip) → Indexes index old before
+    → Ends db outcome result old new before after → (¬ IsErrOf result Fault → KeepsRows (slots_of old Working before) (slots_of new Working after)) → (¬ IsErrOf result Fault → GoesOn old new before after)
+    → ¬ IsErrOf result Fault → Indexes index new after
+Indexes-ended index db outcome (Ok x) old new before after is ends rows goes_on fine =
+    let held = ends.2.held in
+    Indexes-kept index old new before after is (goes_on fine).cells ends.2.committed (rw held.told (held.holds.cells ∙ held.cells)) (rows fine)
+Indexes-ended index db outcome (Err (Refused word)) old new before after is ends rows goes_on fine =
+    subst (λ chip. Indexes index new chip) (sym ends.2) (subst (λ store. Indexes index store before) (sym ends.1) is)
+Indexes-ended index db outcome (Err Fault) old new before after is ends rows goes_on fine = absurd (fine refl)
+
+-- Nothing but reads came, and then its edits were made in memory alone, with every row in its slot.
+pub Ended-in_memory : {S T : Type 0} {chip : S → Chip} {faults : S → ℕ} {may : Database → Type 0} {edits : Database → Result (List Edit) StatusWord} {before after : S} {old new : Tables} {x : T}
+    → Stand old (chip before) → chip after ≡ chip before → CountsFaults {T = T} is_stop_fault (faults before) (faults after) (Ok x) → new.index ≡ old.index
+    → ((db : Database) → IsHeld old.store Working (chip before) db → may db → (list : List Edit) × (edits db ≡ Ok list) × Makes db list old.store new.store (chip before) (chip before))
+    → GoesOn old.store new.store (chip before) (chip before) → KeepsRows (slots_of old.store Working (chip before)) (slots_of new.store Working (chip before))
+    → slots_of new.store Committed (chip before) ≡ slots_of old.store Committed (chip before) → Ended chip faults may edits before after old new (let result : Result T Stop = Ok x in result)
+Ended-in_memory {S} {T} {chip} {faults} {may} {edits} {before} {after} {old} {new} {x} stand same counts index makes goes_on rows committed = record {
+  ends = λ db held asked. rw same (makes db held asked);
+  goes_on = λ fine. rw same goes_on;
+  index = λ db held asked fine. rw (same, index) (Indexes-kept old.index old.store new.store (chip before) (chip before) stand.index goes_on.cells committed
+      (let held = (makes db held asked).2.held in rw held.told (held.holds.cells ∙ held.cells)) rows);
+  index_cells = ap (λ (index : Index). index.cells) index;
+  index_committed = ap (λ (index : Index). index.committed) index;
+  index_begun = ap (λ (index : Index). index.begun) index;
+  refused = λ word is. absurd cc;
+  committed = λ fine. rw same committed;
+  moments = Keeps-none _ (chip before) (chip after) same;
+  behind = Keeps-none _ (chip before) (chip after) same;
+  cause = counts;
+}
+
+-- where an image is told, a fact that each database gives; and where none is told
+stands-held : (index : Index) (old new : Held) (may : Database → Type 0) (before after : Chip) → IfSome before.image (λ _. (db : Database) × IsHeld old Working before db × may db) → is_some after.image ≡ is_some before.image → index.cells ≡ new.chains.cells
+    → ((db : Database) → IsHeld old Working before db → may db → Indexes index new after) → Indexes index new after
+stands-held index old new may before after holds told cells each = of before.image after.image refl holds told
+  where
+    of : (was now : Option (List ℕ)) → after.image ≡ now → IfSome was (λ _. (db : Database) × IsHeld old Working before db × may db) → is_some now ≡ is_some was → Indexes index new after
+    of (Some image) now is holds told = each holds.0 holds.1 holds.2
+    of None None is holds told = Indexes-untold index new after cells (ap is_some is)
+    of None (Some image) is holds told = absurd cc
+
+-- Tables that stood, and that held a database of which the operation may ask, if they were told, stand again where the EEPROM didn't fail.
+pub Stand-ended : {S T : Type 0} {chip : S → Chip} {faults : S → ℕ} {may : Database → Type 0} {edits : Database → Result (List Edit) StatusWord} {before after : S} {old new : Tables} {result : Result T Stop}
+    → Ended chip faults may edits before after old new result → Stand old (chip before) → IfSome (chip before).image (λ _. (db : Database) × IsHeld old.store Working (chip before) db × may db) → ¬ IsErrOf result Fault
+    → Stand new (chip after)
+Stand-ended {S} {T} {chip} {faults} {may} {edits} {before} {after} {old} {new} {result} ended stand holds fine =
+    let goes_on = ended.goes_on fine in
+    record {
+      over = goes_on.over;
+      index = stands-held new.index old.store new.store may (chip before) (chip after) holds goes_on.told (ended.index_cells ∙ stand.index.cells ∙ sym goes_on.cells) (λ db held may. ended.index db held may fine);
+      together = ended.index_begun ∙ stand.together ∙ sym goes_on.begun;
+    }

@@ -1,0 +1,120 @@
+// A store with the index of its rows: transactions on both, and records made and changed in them.
+ghost use Rattle.std.specs.Prelude.{◌≡◌, ◌<◌, [], ◌∷◌, Ok, Some, IsTrue, IfSome, false, true};
+ghost use Rattle.record_store.specs.declared.side.Side.TheVariants.{Working};
+ghost use Rattle.scql_model.specs.Database.{Database};
+ghost use Rattle.scql_model.specs.Edits.{changing, making, stamps_end};
+ghost use Rattle.scql_model.specs.Records.{of_row};
+ghost use Rattle.catalog_codec.specs.Catalog.{counter_kind, row_kind};
+ghost use Rattle.catalog_codec.specs.Kinds.{FitsChain, HaveOtherMarks};
+ghost use Rattle.record_table.specs.Listed.{at_slot, slots_of};
+ghost use Rattle.record_table.specs.Making.{IsHeld, IsValidWith};
+ghost use Rattle.row_index.specs.Index.{is_above};
+ghost use Rattle.row_table.specs.Tables.{Begins, Commits, Ended, RollsBack, Stand};
+
+use catalog_codec::Counter;
+use eeprom::{Eeprom, EepromFault};
+use record_store::{Found, Store};
+use record_table::{Editable, Stop};
+use row_index::RowIndex;
+use scql_base::RowRecord;
+
+/// A store, and the index of its rows.
+#[derive(Drop)]
+pub struct Tables {
+    pub store: Store,
+    pub index: RowIndex,
+}
+
+impl Tables {
+    /// Begins a transaction. Its working side is the committed one so far.
+    pub fn begin(&mut self)
+        requires idle { self.old.store.begun ≡ false }
+        requires index_idle { self.old.index.begun ≡ false }
+        ensures { Begins self.old self.new }
+    {
+        self.store.begin();
+        self.index.begin();
+    }
+
+    /// Commits the transaction: what is on the working side is the committed state, at once. After a fault the tables aren't to be used again.
+    pub fn commit<B: Eeprom>(&mut self, bench: &mut B) -> Result<(), EepromFault>
+        requires begun { IsTrue self.old.store.begun }
+        requires stand { Stand self.old (B.chip bench.old) }
+        ensures { Commits B.chip B.faults bench.old bench.new self.old self.new result }
+    {
+        self.store.commit(bench)?;
+        self.index.commit();
+        Ok(())
+    }
+
+    /// Undoes the transaction.
+    pub fn rollback(&mut self)
+        requires begun { IsTrue self.old.store.begun }
+        requires index_begun { IsTrue self.old.index.begun }
+        ensures { RollsBack self.old self.new }
+    {
+        self.store.rollback();
+        self.index.rollback();
+    }
+
+    /// Adds a record, but no row, that takes the counter's stamp, and counts on. Where there is no room for the record nothing is written.
+    pub fn make<R: Editable, B: Eeprom>(
+        &mut self,
+        bench: &mut B,
+        counter: &Found<Counter>,
+        value: &R,
+    ) -> Result<(), Stop>
+        requires begun { IsTrue self.old.store.begun }
+        requires stand { Stand self.old (B.chip bench.old) }
+        requires spelled { R.can_encode value.now }
+        requires there { counter.now.slot < self.old.store.chains.cells }
+        requires left { counter.now.value < stamps_end }
+        requires counter { IfSome (slots_of self.old.store Working (B.chip bench.old)) (λ slots. Some counter.now.value ≡ at_slot counter_kind counter.now.slot slots) }
+        requires no_row { HaveOtherMarks R.kind row_kind }
+        ensures { Ended B.chip B.faults (λ db. (R.kind.key value.now ≡ db.next) × IsValidWith db (making db (R.any value.now))) (λ db. Ok (making db (R.any value.now)))
+            bench.old bench.new self.old self.new result }
+    {
+        record_table::make(&mut self.store, bench, counter, value)?;
+        Ok(())
+    }
+
+    /// Adds a row that takes the counter's stamp, and counts on; the index takes it, too. Where there is no room for the row nothing is written.
+    pub fn make_row<B: Eeprom>(
+        &mut self,
+        bench: &mut B,
+        counter: &Found<Counter>,
+        row: &RowRecord,
+    ) -> Result<(), Stop>
+        requires begun { IsTrue self.old.store.begun }
+        requires stand { Stand self.old (B.chip bench.old) }
+        requires spelled { FitsChain row_kind row.now }
+        requires there { counter.now.slot < self.old.store.chains.cells }
+        requires left { counter.now.value < stamps_end }
+        requires counter { IfSome (slots_of self.old.store Working (B.chip bench.old)) (λ slots. Some counter.now.value ≡ at_slot counter_kind counter.now.slot slots) }
+        requires last { (db : Database) → IsHeld self.old.store Working (B.chip bench.old) db → is_above db.next self.old.index.committed ≡ true }
+        ensures { Ended B.chip B.faults (λ db. (row.now.stamp ≡ db.next) × IsValidWith db (making db (of_row row.now))) (λ db. Ok (making db (of_row row.now)))
+            bench.old bench.new self.old self.new result }
+    {
+        let slot = record_table::make(&mut self.store, bench, counter, row)?;
+        self.index.added(row.table, row.stamp, slot);
+        Ok(())
+    }
+
+    /// Puts a record, but no row, in the place of the one of its stamp. Where there is no room for it nothing is written.
+    pub fn change_in_place<R: Editable, B: Eeprom>(
+        &mut self,
+        bench: &mut B,
+        slot: u16,
+        value: &R,
+    ) -> Result<(), Stop>
+        requires begun { IsTrue self.old.store.begun }
+        requires stand { Stand self.old (B.chip bench.old) }
+        requires spelled { R.can_encode value.now }
+        requires there { slot < self.old.store.chains.cells }
+        requires at { IfSome (slots_of self.old.store Working (B.chip bench.old)) (λ slots. (was : R) × (at_slot R.kind slot slots ≡ Some was) × (R.kind.key was ≡ R.kind.key value.now)) }
+        requires no_row { HaveOtherMarks R.kind row_kind }
+        ensures { Ended B.chip B.faults (λ db. IsValidWith db (changing (R.any value.now) ∷ [])) (λ db. Ok (changing (R.any value.now) ∷ [])) bench.old bench.new self.old self.new result }
+    {
+        record_table::change_in_place(&mut self.store, bench, slot, value)
+    }
+}
