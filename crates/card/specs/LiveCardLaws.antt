@@ -6,7 +6,7 @@ use Rattle.eeprom.proofs.Moments.{throughout-then, throughout-weaker, gives-thro
 use Rattle.scql_model.specs.Machine.{Machine, Transaction}
 use Rattle.scql_model.specs.ValidMachine.{IsValidMachine, IsValidWork}
 use Rattle.scql_model.specs.Database.{IsValid, Database}
-use Rattle.card_link.specs.Link.{Gives as LinkGives, Holds, IsOneOf, IsOver, LeavesOpen}
+use Rattle.card_link.specs.Link.{AfterOutput as LinkGives, Holds, IsOneOf, HasValidData, LeavesOpen}
 use Rattle.card.specs.Behind.{KeepsBehind}
 use Rattle.card.specs.Card.{Kept}
 use Rattle.card.specs.LiveCard.{Lasts, LastsOn, OnBench, IsReadyAt}
@@ -20,7 +20,7 @@ if-working m None work = tt
 if-working m (Some t) work = work.working
 
 -- a card that is at a machine is over valid databases
-pub over-at : (m : Machine) → IsValidMachine m → IsOver m
+pub over-at : (m : Machine) → IsValidMachine m → HasValidData m
 over-at m valid = record { committed = valid.committed; transaction = if-working m m.transaction valid.transaction; basic = valid.basic }
 
 -- the card stays, and the chip

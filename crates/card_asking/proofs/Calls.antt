@@ -4,7 +4,7 @@ use Rattle.eeprom.specs.Chip.{Chip}
 use Rattle.eeprom.specs.Fault.{Rose}
 use Rattle.scql_model.specs.Database.{Database}
 use Rattle.card_link.specs.Link.{Holds, LeavesOpen, Mutes}
-use Rattle.card_asking.specs.Calls.{Answers, HasGoneOn}
+use Rattle.card_asking.specs.Calls.{StillAnswers, HasGoneOn}
 use Rattle.card_asking.proofs.Moments.{leaves-all, leaves-both}
 
 pub rest-same : {L : Type 0} (mark : L → ℕ) (keeps goes_on : L → L → Type 0) (l : L) → keeps l l → goes_on l l → HasGoneOn mark keeps goes_on l l
@@ -21,11 +21,11 @@ pub holds-both : {L : Type 0} (chip : L → Chip) (mark : L → ℕ) (db : Datab
 holds-both chip mark db old mid new marked first second =
     leaves-both chip (Holds (mark old) db) old mid new first (leaves-all chip (Holds (mark mid) db) (Holds (mark old) db) mid new (λ n left is. (is.0 ∙ marked, is.1)) second)
 
-pub answers-both : {L : Type 0} (is_live : L → Bool) (faults : L → ℕ) (old mid new : L) → Answers is_live faults old mid → Answers is_live faults mid new → Answers is_live faults old new
+pub answers-both : {L : Type 0} (is_live : L → Bool) (faults : L → ℕ) (old mid new : L) → StillAnswers is_live faults old mid → StillAnswers is_live faults mid new → StillAnswers is_live faults old new
 answers-both is_live faults old mid new first second = record { live = second.live; same = second.same ∙ first.same }
 
 -- a card failed behind calls that it answered
-pub mutes-then : {L : Type 0} (is_live : L → Bool) (faults : L → ℕ) (old mid new : L) → Answers is_live faults old mid → Mutes is_live faults mid new → Mutes is_live faults old new
+pub mutes-then : {L : Type 0} (is_live : L → Bool) (faults : L → ℕ) (old mid new : L) → StillAnswers is_live faults old mid → Mutes is_live faults mid new → Mutes is_live faults old new
 mutes-then is_live faults old mid new first mutes = record {
   gone = mutes.gone;
   rose = subst (λ n. Rose n (faults new)) first.same mutes.rose;

@@ -4,7 +4,7 @@ use Rattle.std.specs.Prelude.{IfSome}
 use Rattle.scql_model.specs.Database.{IsValid}
 use Rattle.scql_model.specs.Machine.{Machine, Transaction, base, base_of}
 use Rattle.scql_model.specs.Transactions.{own_transaction}
-use Rattle.card_link.specs.Link.{IsOver}
+use Rattle.card_link.specs.Link.{HasValidData}
 use Rattle.script.specs.declared.statement.Statement.{Statement}
 use Rattle.script.specs.Commands.{CanBeSent}
 use Rattle.planner.specs.Meaning.{meaning}
@@ -15,7 +15,7 @@ use Rattle.planner.proofs.Statements.{statement-runs}
 use Rattle.card_asking.specs.Following.{run_of}
 use Rattle.card_asking.proofs.Followed.{whole-step}
 
-pub base-valid : (m : Machine) (channel : ℕ) → IsOver m → IsValid (base m channel)
+pub base-valid : (m : Machine) (channel : ℕ) → HasValidData m → IsValid (base m channel)
 base-valid m channel over = go m.transaction over.transaction
   where
     mine : (t : Transaction) (b : Bool) → IsValid t.working → IsValid (if b then t.working else m.committed)
@@ -26,7 +26,7 @@ base-valid m channel over = go m.transaction over.transaction
     go None valid = over.committed
     go (Some t) valid = mine t (t.channel == channel) valid
 
-pub run-meant : (m : Machine) (channel : ℕ) (s : Statement) (inside : Bool) → IsOver m → CanBeSent channel s → inside ≡ is_some (own_transaction m.transaction channel)
+pub run-meant : (m : Machine) (channel : ℕ) (s : Statement) (inside : Bool) → HasValidData m → CanBeSent channel s → inside ≡ is_some (own_transaction m.transaction channel)
     → run_of m (started s channel inside) ≡ shown (meaning m channel s)
 run-meant m channel s inside over can is =
     let p : Planned = started s channel inside in

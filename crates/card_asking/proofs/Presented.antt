@@ -19,7 +19,7 @@ use Rattle.scql_model.specs.Spelling.{fits}
 use Rattle.scql_model.specs.Step.{Answer, answered, done_with, session_named, user_presented}
 use Rattle.script.specs.Commands.{asking, IsSendable}
 use Rattle.script.proofs.Sendable.{asked-sent}
-use Rattle.card_link.specs.Link.{Answered, Holds, IsOneOf, IsOver, LeavesOpen}
+use Rattle.card_link.specs.Link.{Answered, Holds, IsOneOf, HasValidData, LeavesOpen}
 use Rattle.planner.specs.Meaning.{answer_to}
 use Rattle.planner.proofs.Asking.{answer-whole}
 use Rattle.planner.proofs.StatementsLawful.{last-answer}
@@ -71,7 +71,7 @@ pub record Heard {L : Type 0} (is_at : L → Machine → Type 0) (m : Machine) (
   pub said : word ≡ (presented m user).reply.word
   pub behind : IsBehind is_at m (presented m user) now
 
-pub presented-heard : {L : Type 0} (is_at : L → Machine → Type 0) (m : Machine) (user : List ℕ) (command : Command) (heard : Reply) (word : StatusWord) (now : L) → command ≡ asking 0 (PresentUser user) → IsSendable command → IsOver m
+pub presented-heard : {L : Type 0} (is_at : L → Machine → Type 0) (m : Machine) (user : List ℕ) (command : Command) (heard : Reply) (word : StatusWord) (now : L) → command ≡ asking 0 (PresentUser user) → IsSendable command → HasValidData m
     → word ≡ heard.word → Answered is_at (answer_to m command) heard now → Heard is_at m user word now
 presented-heard is_at m user command heard word now is can over same answer =
     let here : Answered is_at (presented m user) heard now = subst (λ (c : Command). Answered is_at (answer_to m c) heard now) is answer in
@@ -81,7 +81,7 @@ presented-heard is_at m user command heard word now is can over same answer =
     }
 
 -- at each moment of it the database is the one before
-pub presented-moments : {L : Type 0} (chip : L → Chip) (mark : ℕ) (m : Machine) (user : List ℕ) (command : Command) (old new : L) → command ≡ asking 0 (PresentUser user) → IsSendable command → IsOver m
+pub presented-moments : {L : Type 0} (chip : L → Chip) (mark : ℕ) (m : Machine) (user : List ℕ) (command : Command) (old new : L) → command ≡ asking 0 (PresentUser user) → IsSendable command → HasValidData m
     → LeavesOpen (IsOneOf mark (m.committed ∷ (answer_to m command).commits)) (chip old) (chip new) → LeavesOpen (Holds mark m.committed) (chip old) (chip new)
 presented-moments chip mark m user command old new is can over leaves =
     leaves-all chip (IsOneOf mark (m.committed ∷ (answer_to m command).commits)) (Holds mark m.committed) old new

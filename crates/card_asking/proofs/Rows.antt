@@ -12,7 +12,7 @@ use Rattle.scql_model.specs.Sessions.{is_channel_open}
 use Rattle.scql_model.specs.Shown.{shown_on}
 use Rattle.scql_model.proofs.ReadingIsShown.{IsReadable-valid}
 use Rattle.scql_model.specs.Transactions.{own_transaction}
-use Rattle.card_link.specs.Link.{Holds, IsOneOf, IsOver}
+use Rattle.card_link.specs.Link.{Holds, IsOneOf, HasValidData}
 use Rattle.script.specs.declared.statement.Statement.{Statement}
 use Rattle.script.specs.declared.statement.Statement.TheVariants.{Select}
 use Rattle.script.specs.Commands.{CanBeSent}
@@ -28,7 +28,7 @@ use Rattle.planner.proofs.Readings.{started-reads}
 use Rattle.planner.proofs.SelectsShown.{select-reads}
 use Rattle.scql_model.specs.Lives.{after_all}
 use Rattle.card_asking.specs.Following.{Follows, run_from, run_of, given_by}
-use Rattle.card_asking.specs.Giving.{GivesShown, Gives, behind_step, IsNextRow, AreAllGiven, GivesMeaning}
+use Rattle.card_asking.specs.Giving.{GivesShown, GivesRows, behind_step, IsNextRow, AreAllGiven, GivesMeaning}
 use Rattle.card_asking.proofs.Followed.{none-before, none-behind}
 use Rattle.card_asking.proofs.Meant.{base-valid, run-meant}
 use Rattle.card_asking.proofs.Sound.{sound, select-commits}
@@ -50,7 +50,7 @@ rows-behind p (Done closing) rows left is formed = record { same = is; formed = 
 
 -- what is left behind a step that was followed
 pub gives-on : {L : Type 0} (is_at : L → Machine → Type 0) (m : Machine) (closing : Closing) (last : Machine) (rows : List Values) (p q : Planned) (step next : Step) (old new : L)
-    → (gives : Gives is_at m closing last rows p step old) → Follows is_at gives.machine p step (given_by p step) q next new → Gives is_at m closing last (behind_step step rows) q next new
+    → (gives : GivesRows is_at m closing last rows p step old) → Follows is_at gives.machine p step (given_by p step) q next new → GivesRows is_at m closing last (behind_step step rows) q next new
 gives-on is_at m closing last rows p q step next old new gives e =
     let reads = e.reads gives.reads in
     let left = rows-behind p step rows (run_from e.machine q next).rows (sym (ap (λ (ran : Ran). ran.rows) e.left) ∙ gives.rows_left) gives.formed in
@@ -71,7 +71,7 @@ gives-on is_at m closing last rows p q step next old new gives e =
     }
 
 -- a step with a row has the first of those that are left
-pub next-row : {L : Type 0} (is_at : L → Machine → Type 0) (m : Machine) (closing : Closing) (last : Machine) (rows : List Values) (p : Planned) (c : Command) (now : L) → Gives is_at m closing last rows p (Row c) now → IsNextRow rows p.row
+pub next-row : {L : Type 0} (is_at : L → Machine → Type 0) (m : Machine) (closing : Closing) (last : Machine) (rows : List Values) (p : Planned) (c : Command) (now : L) → GivesRows is_at m closing last rows p (Row c) now → IsNextRow rows p.row
 next-row is_at m closing last [] p c now gives = absurd (let none : p.row ∷ (run_from gives.machine p (Send c)).rows ≡ [] = gives.rows_left in cc)
 next-row is_at m closing last (values ∷ rest) p c now gives = record {
   values = values;
@@ -82,7 +82,7 @@ next-row is_at m closing last (values ∷ rest) p c now gives = record {
 }
 
 -- at the last step none are left
-pub all-given : {L : Type 0} (is_at : L → Machine → Type 0) (m : Machine) (closing : Closing) (last : Machine) (rows : List Values) (p : Planned) (closed : Closing) (now : L) → Gives is_at m closing last rows p (Done closed) now
+pub all-given : {L : Type 0} (is_at : L → Machine → Type 0) (m : Machine) (closing : Closing) (last : Machine) (rows : List Values) (p : Planned) (closed : Closing) (now : L) → GivesRows is_at m closing last rows p (Done closed) now
     → AreAllGiven is_at closing last rows closed now
 all-given is_at m closing last [] p closed now gives = record { none = refl; closes = gives.closes; at = subst (is_at now) gives.ends gives.at }
 all-given is_at m closing last (values ∷ rest) p closed now gives = absurd (let none : [] ≡ row_octets values ∷ map row_octets rest = gives.rows_left in cc)
@@ -92,12 +92,12 @@ either-inside : (s : Statement) (channel : ℕ) (one other : Bool) → IsSelect 
 either-inside (Select object columns conditions) channel one other is = refl
 either-inside s channel one other is = absurd is
 
-select-silent : (m : Machine) (channel : ℕ) (s : Statement) → IsOver m → CanBeSent channel s → IsSelect s → (meaning m channel s).commits ≡ []
+select-silent : (m : Machine) (channel : ℕ) (s : Statement) → HasValidData m → CanBeSent channel s → IsSelect s → (meaning m channel s).commits ≡ []
 select-silent m channel (Select object columns conditions) over can is = select-commits m channel object columns conditions
 select-silent m channel s over can is = absurd is
 
 -- at its first step a SELECT is to give the rows of its meaning
-pub gives-first : {L : Type 0} (is_at : L → Machine → Type 0) (m : Machine) (channel : ℕ) (s : Statement) (inside : Bool) (now : L) → IsSelect s → IsOver m → CanBeSent channel s → is_at now m
+pub gives-first : {L : Type 0} (is_at : L → Machine → Type 0) (m : Machine) (channel : ℕ) (s : Statement) (inside : Bool) (now : L) → IsSelect s → HasValidData m → CanBeSent channel s → is_at now m
     → GivesMeaning is_at m channel s (next_of None (started s channel inside)).plan (next_of None (started s channel inside)).step now
 gives-first is_at m channel s inside now is over can at =
     let own : Bool = is_some (own_transaction m.transaction channel) in
@@ -117,18 +117,18 @@ gives-first is_at m channel s inside now is over can at =
 
 -- so, on an open channel, the rows that are shown there
 pub gives-shown : {L : Type 0} (is_at : L → Machine → Type 0) (m : Machine) (channel : ℕ) (object : List ℕ) (columns : Columns) (conditions : List Condition) (inside : Bool) (now : L) → is_channel_open m channel ≡ true
-    → IsOver m → CanBeSent channel (Select object columns conditions) → is_at now m
+    → HasValidData m → CanBeSent channel (Select object columns conditions) → is_at now m
     → GivesShown is_at m channel object columns conditions (next_of None (started (Select object columns conditions) channel inside)).plan (next_of None (started (Select object columns conditions) channel inside)).step now
 gives-shown is_at m channel object columns conditions inside now opened over can at =
     let s : Statement = Select object columns conditions in
     let reads = select-reads m channel object columns conditions opened (IsReadable-valid (base m channel) (base-valid m channel over)) in
     let turn = next_of None (started s channel inside) in
-    subst (λ (rows : List Values). Gives is_at m (closing_given (select_shown (shown_on m channel) object columns conditions)) (meaning m channel s).machine rows turn.plan turn.step now) reads.rows
-    (subst (λ (closing : Closing). Gives is_at m closing (meaning m channel s).machine (meaning m channel s).rows turn.plan turn.step now) reads.closing (gives-first is_at m channel s inside now tt over can at))
+    subst (λ (rows : List Values). GivesRows is_at m (closing_given (select_shown (shown_on m channel) object columns conditions)) (meaning m channel s).machine rows turn.plan turn.step now) reads.rows
+    (subst (λ (closing : Closing). GivesRows is_at m closing (meaning m channel s).machine (meaning m channel s).rows turn.plan turn.step now) reads.closing (gives-first is_at m channel s inside now tt over can at))
 
 -- a moment of a step of such a plan
 pub gives-still : {L : Type 0} (is_at : L → Machine → Type 0) (mark : ℕ) (m : Machine) (closing : Closing) (last : Machine) (rows : List Values) (p : Planned) (step : Step) (old : L) (g : ℕ) (left : Database)
-    → (gives : Gives is_at m closing last rows p step old) → IsOneOf mark (gives.machine.committed ∷ (run_from gives.machine p step).commits) g left → Holds mark m.committed g left
+    → (gives : GivesRows is_at m closing last rows p step old) → IsOneOf mark (gives.machine.committed ∷ (run_from gives.machine p step).commits) g left → Holds mark m.committed g left
 gives-still is_at mark m closing last rows p step old g left gives is = go (subst (λ (commits : List Database). IsOneOf mark (gives.machine.committed ∷ commits) g left) gives.silent is)
   where
     go : IsOneOf mark (gives.machine.committed ∷ []) g left → Holds mark m.committed g left

@@ -11,7 +11,7 @@ use Rattle.scql_model.specs.Sessions.{is_channel_open}
 use Rattle.scql_model.specs.Matching.{Columns, Values}
 use Rattle.scql_model.specs.Records.{is_row}
 use Rattle.scql_model.specs.Transactions.{own_transaction}
-use Rattle.card_link.specs.Link.{IsOver}
+use Rattle.card_link.specs.Link.{HasValidData}
 use Rattle.script.specs.declared.statement.Statement.{Statement}
 use Rattle.script.specs.declared.statement.Statement.TheVariants.{Blank, Single, Select, UpdateRows, DeleteRows, OpenNumber, CloseNumber, UseNumber, Reset}
 use Rattle.script.specs.Commands.{CanBeSent}
@@ -83,7 +83,7 @@ select-or-none m channel (CloseNumber number) = inr refl
 select-or-none m channel (UseNumber number) = inr refl
 select-or-none m channel Reset = inr refl
 
-pub sound : (m : Machine) (channel : ℕ) (s : Statement) → IsOver m → CanBeSent channel s → IsSound (meaning m channel s)
+pub sound : (m : Machine) (channel : ℕ) (s : Statement) → HasValidData m → CanBeSent channel s → IsSound (meaning m channel s)
 sound m channel s over can = go (select-or-none m channel s)
   where
     select : (s : Statement) → IsSelect s → CanBeSent channel s → IsSound (meaning m channel s)

@@ -2,7 +2,7 @@
 use Rattle.std.specs.Prelude.{◌≡◌, ℕ, Bool, IsTrue}
 
 -- a card answers still, and its count is as before
-pub record Answers {L : Type 0} (is_live : L → Bool) (faults : L → ℕ) (old new : L) : Type 0 where
+pub record StillAnswers {L : Type 0} (is_live : L → Bool) (faults : L → ℕ) (old new : L) : Type 0 where
   pub live : IsTrue (is_live new)
   pub same : faults new ≡ faults old
 

@@ -25,7 +25,7 @@ pub record IsLike (m now : Machine) : Type 0 where
   pub transaction : transaction_channel now ≡ transaction_channel m
 
 -- On a link that was at this machine a plan at a step is still going to give these rows, and then closes so and leaves the link at this last machine. It only reads.
-pub record Gives {L : Type 0} (is_at : L → Machine → Type 0) (m : Machine) (closing : Closing) (last : Machine) (rows : List Values) (p : Planned) (step : Step) (now : L) : Type 0 where
+pub record GivesRows {L : Type 0} (is_at : L → Machine → Type 0) (m : Machine) (closing : Closing) (last : Machine) (rows : List Values) (p : Planned) (step : Step) (now : L) : Type 0 where
   pub machine : Machine
   pub at : is_at now machine
   pub like : IsLike m machine
@@ -57,10 +57,10 @@ pub record AreAllGiven {L : Type 0} (is_at : L → Machine → Type 0) (closing 
 
 -- a plan is to give the rows of its statement's meaning, to close as that does, and to leave the link at its machine
 abbrev pub GivesMeaning : {L : Type 0} → (L → Machine → Type 0) → Machine → ℕ → Statement → Planned → Step → L → Type 0
-GivesMeaning is_at m channel s p step now = Gives is_at m (meaning m channel s).closing (meaning m channel s).machine (meaning m channel s).rows p step now
+GivesMeaning is_at m channel s p step now = GivesRows is_at m (meaning m channel s).closing (meaning m channel s).machine (meaning m channel s).rows p step now
 
 -- a plan is to give the rows that are shown to a channel, and to close as follows from that
 abbrev pub GivesShown : {L : Type 0} → (L → Machine → Type 0) → Machine → ℕ → List ℕ → Columns → List Condition → Planned → Step → L → Type 0
 GivesShown is_at m channel object columns conditions p step now =
     let given = select_shown (shown_on m channel) object columns conditions in
-    Gives is_at m (closing_given given) (meaning m channel (Select object columns conditions)).machine (rows_given given) p step now
+    GivesRows is_at m (closing_given given) (meaning m channel (Select object columns conditions)).machine (rows_given given) p step now

@@ -7,7 +7,7 @@ use Rattle.card_link.specs.Link.{Mutes}
 use Rattle.script.specs.Commands.{asking}
 use Rattle.planner.specs.Meaning.{answer_to}
 use Rattle.planner.specs.Words.{is_done}
-use Rattle.card_asking.specs.Calls.{Answers}
+use Rattle.card_asking.specs.Calls.{StillAnswers}
 use Rattle.card_asking.specs.Giving.{IsLike}
 use Rattle.card_asking.specs.declared.presenting.Unpresented.{Unpresented}
 use Rattle.card_asking.specs.declared.presenting.Unpresented.TheVariants.{Refused, Mute}
@@ -30,4 +30,4 @@ PresentsSo is_at m answer (Err Mute) now = Unit {0}
 -- the card is mute only where it failed
 abbrev pub EndsPresenting : {L : Type 0} → (L → Bool) → (L → ℕ) → Result (Unit {0}) Unpresented → L → L → Type 0
 EndsPresenting is_live faults (Err Mute) old new = Mutes is_live faults old new
-EndsPresenting is_live faults r old new = Answers is_live faults old new
+EndsPresenting is_live faults r old new = StillAnswers is_live faults old new

@@ -10,7 +10,7 @@ ghost use Rattle.planner.specs.declared.closing.Closing.{Closing as ModelClosing
 ghost use Rattle.planner.specs.Planned.{IfSent};
 ghost use Rattle.planner.specs.Turns.{IfGoesOn};
 ghost use Rattle.card_asking.specs.Following.{Follows, IsEnded, given_by, heard_at, run_from, run_of, to_go, turn_by};
-ghost use Rattle.card_asking.specs.Giving.{Gives, behind_step};
+ghost use Rattle.card_asking.specs.Giving.{GivesRows, behind_step};
 
 use crate::{Mute, ask};
 use apdu::Reply;
@@ -29,9 +29,9 @@ pub fn follow<L: CardLink>(
     ensures follows { (m : Machine) → L.is_at link.old m → OnOk result (Follows L.is_at m plan.old step.old (given_by plan.old step.old) plan.new step.new link.new) }
     ensures turns { OnOk result (turn_by plan.old step.old reply.new ≡ record { plan = plan.new; step = step.new }) }
     ensures reply { (m : Machine) → L.is_at link.old m → OnOk result (reply.new ≡ heard_at m step.old reply.old) }
-    ensures gives { (m last : Machine) (closing : ModelClosing) (rows : List Values) → Gives L.is_at m closing last rows plan.old step.old link.old
-        → OnOk result (Gives L.is_at m closing last (behind_step step.old rows) plan.new step.new link.new) }
-    ensures still { (m last : Machine) (closing : ModelClosing) (rows : List Values) → Gives L.is_at m closing last rows plan.old step.old link.old
+    ensures gives { (m last : Machine) (closing : ModelClosing) (rows : List Values) → GivesRows L.is_at m closing last rows plan.old step.old link.old
+        → OnOk result (GivesRows L.is_at m closing last (behind_step step.old rows) plan.new step.new link.new) }
+    ensures still { (m last : Machine) (closing : ModelClosing) (rows : List Values) → GivesRows L.is_at m closing last rows plan.old step.old link.old
         → LeavesOpen (Holds (L.mark link.old) m.committed) (L.chip link.old) (L.chip link.new) }
     ensures moments { (m : Machine) → L.is_at link.old m
         → LeavesOpen (IsOneOf (L.mark link.old) (m.committed ∷ (run_from m plan.old step.old).commits)) (L.chip link.old) (L.chip link.new) }

@@ -12,7 +12,7 @@ ghost use Rattle.planner.specs.declared.closing.Closing.{Closing};
 ghost use Rattle.planner.specs.declared.step.Step.TheVariants.{Row, Done};
 ghost use Rattle.planner.specs.Planned.{Planned, next_of, started};
 ghost use Rattle.planner.specs.Readings.{IsSelect};
-ghost use Rattle.card_asking.specs.Giving.{AreAllGiven, Gives, GivesMeaning, GivesShown, IsNextRow};
+ghost use Rattle.card_asking.specs.Giving.{AreAllGiven, GivesRows, GivesMeaning, GivesShown, IsNextRow};
 
 use card_link::CardLink;
 
@@ -31,12 +31,12 @@ pub fn a_select_is_to_give_what_is_shown<L: CardLink>()
 
 /// A step with a row has the first of the rows that are left.
 pub fn a_row_is_the_next<L: CardLink>()
-    ensures { (m : Machine) (closing : Closing) (last : Machine) (rows : List Values) (p : Planned) (c : Command) (now : L) → Gives L.is_at m closing last rows p (Row c) now
+    ensures { (m : Machine) (closing : Closing) (last : Machine) (rows : List Values) (p : Planned) (c : Command) (now : L) → GivesRows L.is_at m closing last rows p (Row c) now
         → IsNextRow rows p.row }
 {}
 
 /// At the last step all rows were given, it closes as it was to, and the link is at the machine that it was to be left at.
 pub fn all_rows_are_given<L: CardLink>()
-    ensures { (m : Machine) (closing : Closing) (last : Machine) (rows : List Values) (p : Planned) (closed : Closing) (now : L) → Gives L.is_at m closing last rows p (Done closed) now
+    ensures { (m : Machine) (closing : Closing) (last : Machine) (rows : List Values) (p : Planned) (closed : Closing) (now : L) → GivesRows L.is_at m closing last rows p (Done closed) now
         → AreAllGiven L.is_at closing last rows closed now }
 {}

@@ -1,7 +1,7 @@
 -- Lemmas, in specs/ since the ghost members of the desk cite them: output leaves the card at its machine, and the image at each moment.
 use Rattle.std.proofs.Common.{Some, length, refl, ap, sym, subst, arith, length-append}
 use Rattle.eeprom.proofs.Moments.{throughout-weaker}
-use Rattle.card_link.specs.Link.{Gives}
+use Rattle.card_link.specs.Link.{AfterOutput}
 use Rattle.card.specs.Card.{Kept}
 use Rattle.card.specs.CardLaws.{IsAt-given, IsReady-given, Opens-at}
 use Rattle.card.specs.LiveCard.{IsReadyAt}
@@ -11,7 +11,7 @@ use Rattle.line_bench.specs.LineBench.{chip_of, text_of}
 use Rattle.line_bench.proofs.Told.{left-text}
 use Rattle.card_c.specs.OnLog.{IsDeskAt, LeavesCard, OnLog, desk_chip, faults_of, is_live, mark_of}
 
-pub gives-kept : (old new : OnLog) → LeavesCard old new → Gives IsDeskAt is_live faults_of mark_of desk_chip old new
+pub gives-kept : (old new : OnLog) → LeavesCard old new → AfterOutput IsDeskAt is_live faults_of mark_of desk_chip old new
 gives-kept old new left =
     let image = ap (λ (log : LogBench). Some (log_image log)) left.1.log in
     let size = ap (λ (log : LogBench). length (log_image log)) left.1.log in

@@ -39,7 +39,7 @@ abbrev pub LeavesOpen : (ℕ → Database → Type 0) → Chip → Chip → Type
 LeavesOpen P old new = Throughout old new (λ g left. (db : Database) × Opens left db × P g db)
 
 -- what a piece of output leaves of a link
-pub record Gives {L : Type 0} (is_at : L → Machine → Type 0) (is_live : L → Bool) (count mark : L → ℕ) (chip : L → Chip) (old new : L) : Type 0 where
+pub record AfterOutput {L : Type 0} (is_at : L → Machine → Type 0) (is_live : L → Bool) (count mark : L → ℕ) (chip : L → Chip) (old new : L) : Type 0 where
   pub machine : (m : Machine) → is_at old m → is_at new m
   pub live : is_live new ≡ is_live old
   pub faults : count new ≡ count old
@@ -47,7 +47,7 @@ pub record Gives {L : Type 0} (is_at : L → Machine → Type 0) (is_live : L �
   pub moments : (m : Machine) → is_at old m → LeavesOpen (HoldsWithin (mark old) (mark new) m.committed) (chip old) (chip new)
 
 -- The committed database is valid, and so is that of a transaction. Channel 0 is open, as it always is.
-pub record IsOver (m : Machine) : Type 0 where
+pub record HasValidData (m : Machine) : Type 0 where
   pub committed : IsValid m.committed
   pub transaction : IfSome m.transaction (λ (t : Transaction). IsValid t.working)
   pub basic : is_channel_open m 0 ≡ true

@@ -7,7 +7,7 @@ ghost use Rattle.scql_model.specs.Machine as machine;
 ghost use Rattle.scql_model.specs.Opens.{Opens};
 ghost use Rattle.scql_model.specs.Replies.{said};
 ghost use Rattle.scql_model.specs.Step as stepping;
-ghost use Rattle.card_link.specs.Link.{Answered, Gives, Holds, IsOneOf, IsOver, LeavesOpen};
+ghost use Rattle.card_link.specs.Link.{Answered, AfterOutput, Holds, IsOneOf, HasValidData, LeavesOpen};
 
 use crate::Outcome;
 use apdu::Reply;
@@ -82,7 +82,7 @@ pub trait CardLink: Drop {
     ghost goes_on_then: { (old mid new : Self) → goes_on old mid → goes_on mid new → goes_on old new };
 
     /// The machine's databases are valid.
-    ghost valid: { (l : Self) (m : machine.Machine) → is_at l m → IsOver m };
+    ghost valid: { (l : Self) (m : machine.Machine) → is_at l m → HasValidData m };
 }
 
 /// A link and the outlet of what is printed, in one object, so that each moment has its mark: the number of octets that had gone out.
@@ -94,7 +94,7 @@ pub trait Desk: CardLink + Outlet {
     ghost marked: { (d : Self) → IsSome (Self.chip d).past → IfSome (Self.given d) (λ given. Self.mark d ≡ length given) };
 
     /// Giving leaves the machine, whether the card answers, and its count. The mark rises, and at each moment meanwhile the database is the committed one.
-    ghost gives: { (old new : Self) → Self.leaves old new → Gives Self.is_at Self.is_live Self.faults Self.mark Self.chip old new };
+    ghost gives: { (old new : Self) → Self.leaves old new → AfterOutput Self.is_at Self.is_live Self.faults Self.mark Self.chip old new };
 
     /// Giving is such a call.
     ghost goes_on_given: { (old new : Self) → Self.leaves old new → Self.goes_on old new };

@@ -16,7 +16,7 @@ use Rattle.reader_rack.specs.Racks.{IsRack, OthersStay, link_at, reader_at}
 use Rattle.reader_rack.specs.Readers.{Holds, IsHeld, lending, with_link}
 use Rattle.reader_rack.specs.Statements.{IsReader}
 use Rattle.table_copy.specs.Copy.{Copy}
-use Rattle.card_asking.specs.Calls.{Answers}
+use Rattle.card_asking.specs.Calls.{StillAnswers}
 use Rattle.table_copy.specs.Copying.{CopiesSo, EndsBy, ReadsSo, StandsAt, StaysAt}
 use Rattle.table_copy.specs.declared.copy_end.CopyEnd.{CopyEnd}
 use Rattle.table_copy.specs.declared.copy_end.CopyEnd.TheVariants.{Copied, SourceRefused, DestRefused, SourceMute, DestMute}
@@ -65,7 +65,7 @@ module _ {L : Type 0} (is_at : L → Machine → Type 0) (is_live : L → Bool) 
   source-held SourceMute s terminal link later dest dest' there reads ends = (mute, refl, ends.0.gone)
   source-held DestMute s terminal link later dest dest' there reads ends = go ends.1
     where
-      go : Answers is_live faults link later ⊎ Mutes is_live faults link later → Source DestMute s terminal later
+      go : StillAnswers is_live faults link later ⊎ Mutes is_live faults link later → Source DestMute s terminal later
       go (inl answers) = let is = sat s s.machine.committed terminal link later there answers.live (as-standing s.machine later (reads answers.live)) in (is.0, inl is.1, is.2)
       go (inr mutes) = (mute, inr refl, mutes.gone)
   source-held (Copied rows) s terminal link later dest dest' there reads ends = sat s s.machine.committed terminal link later there ends.0.live (as-standing s.machine later (reads ends.0.live))

@@ -23,15 +23,15 @@ use Rattle.record_table.specs.Listed.{listed, slots_of}
 use Rattle.record_table.specs.Making.{IsHeld}
 use Rattle.record_table.specs.declared.stop.Stop.{Stop}
 use Rattle.record_table.specs.declared.stop.Stop.TheVariants.{Refused, Fault}
-use Rattle.db_access.specs.Asked.{Answers}
+use Rattle.db_access.specs.Asked.{AnswersNamed}
 use Rattle.db_access.proofs.Apart.{one-apart}
 
 -- what is answered of a whole, a part of which is refused
 pub Answers-stopped : {S T U V : Type 0} (part : T → S) (whole : V → U) (of_part : Result S StatusWord) (of_whole : Result U StatusWord) (result : Result V Stop) (stop : Stop) → IsErrAnd result (λ given. given ≡ stop)
-    → Answers part of_part (Err stop) → ((word : StatusWord) → of_part ≡ Err word → of_whole ≡ Err word) → Answers whole of_whole result
+    → AnswersNamed part of_part (Err stop) → ((word : StatusWord) → of_part ≡ Err word → of_whole ≡ Err word) → AnswersNamed whole of_whole result
 Answers-stopped part whole of_part of_whole (Ok x) stop gives answers refuses = absurd gives
-Answers-stopped part whole of_part of_whole (Err given) (Refused word) gives answers refuses = subst (λ stop. Answers whole of_whole (Err stop)) (sym gives) (refuses word answers)
-Answers-stopped part whole of_part of_whole (Err given) Fault gives answers refuses = subst (λ stop. Answers whole of_whole (Err stop)) (sym gives) tt
+Answers-stopped part whole of_part of_whole (Err given) (Refused word) gives answers refuses = subst (λ stop. AnswersNamed whole of_whole (Err stop)) (sym gives) (refuses word answers)
+Answers-stopped part whole of_part of_whole (Err given) Fault gives answers refuses = subst (λ stop. AnswersNamed whole of_whole (Err stop)) (sym gives) tt
 
 -- a grantee is a user, if it isn't PUBLIC
 pub grantee-found : (db : Database) (name : List ℕ) (u : User) → bytes_eq name public_name ≡ false → user_named db.users name ≡ Some u → or_refused (grantee_named db name) not_found ≡ Ok u.stamp

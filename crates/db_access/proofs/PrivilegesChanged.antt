@@ -23,12 +23,12 @@ use Rattle.scql_model.proofs.KeepsGrants.{granted-keeps, revoked-keeps}
 use Rattle.record_table.specs.Making.{Ends, IsValidWith}
 use Rattle.record_table.specs.declared.stop.Stop.{Stop}
 use Rattle.record_table.specs.declared.stop.Stop.TheVariants.{Refused, Fault}
-use Rattle.db_access.specs.Asked.{Answers}
+use Rattle.db_access.specs.Asked.{AnswersNamed}
 use Rattle.db_access.specs.Pairs.{pair_named}
 
 -- an operation whose search is refused is refused by the same word
 pub Ends-unfound : {S T U : Type 0} (named : T → S) (asked : Result S StatusWord) (db : Database) (outcome : Result (List Edit) StatusWord) (result : Result U Stop) (stop : Stop) (store : Held) (before after : Chip)
-    → IsErrAnd result (λ given. given ≡ stop) → Answers named asked (Err stop) → ((word : StatusWord) → asked ≡ Err word → outcome ≡ Err word) → after ≡ before → Ends db outcome result store store before after
+    → IsErrAnd result (λ given. given ≡ stop) → AnswersNamed named asked (Err stop) → ((word : StatusWord) → asked ≡ Err word → outcome ≡ Err word) → after ≡ before → Ends db outcome result store store before after
 Ends-unfound named asked db outcome (Ok x) stop store before after gives answers refuses same = absurd gives
 Ends-unfound {S} {T} {U} named asked db outcome (Err given) (Refused word) store before after gives answers refuses same =
     subst (λ stop. Ends {T = U} db outcome (Err stop) store store before after) (sym gives) (ap (λ outcome. outcome >>= with_edits db) (refuses word answers), refl, same)

@@ -5,7 +5,7 @@ use Rattle.record_table.specs.declared.stop.Stop.{Stop}
 use Rattle.record_table.specs.declared.stop.Stop.TheVariants.{Refused, Fault}
 
 -- It answers what there is, as `named` says, or is refused with the first word that applies; where the EEPROM fails nothing is said.
-abbrev pub Answers : {S T : Type 0} → (T → S) → Result S StatusWord → Result T Stop → Type 0
-Answers {S} {T} named outcome (Ok found) = outcome ≡ Ok (named found)
-Answers {S} {T} named outcome (Err (Refused word)) = outcome ≡ Err word
-Answers {S} {T} named outcome (Err Fault) = Unit {0}
+abbrev pub AnswersNamed : {S T : Type 0} → (T → S) → Result S StatusWord → Result T Stop → Type 0
+AnswersNamed {S} {T} named outcome (Ok found) = outcome ≡ Ok (named found)
+AnswersNamed {S} {T} named outcome (Err (Refused word)) = outcome ≡ Err word
+AnswersNamed {S} {T} named outcome (Err Fault) = Unit {0}

@@ -16,7 +16,7 @@ ghost use Rattle.catalog_codec.specs.Catalog.{user_kind};
 ghost use Rattle.record_table.specs.Listed.{at_slot, slots_of};
 ghost use Rattle.record_table.specs.Making.{IsHeld, Ends, GoesOn, KeepsRows, is_stop_fault};
 ghost use Rattle.row_table.specs.Tables.{Ended, Stand};
-ghost use Rattle.db_access.specs.Asked.{Answers};
+ghost use Rattle.db_access.specs.Asked.{AnswersNamed};
 ghost use Rattle.db_access.specs.Depending.{is_for, is_object_of, is_user_of};
 
 use eeprom::{Eeprom, EepromFault};
@@ -27,7 +27,7 @@ use row_table::Tables;
 use scql_base::{Actor, Grant, Name, Object, Profile, StatusWord, User};
 use user_table::find_name;
 
-/// Deletes a user whom the actor owns and whom nothing needs, on the working side, and the grants to it. Answers the stamp that it had.
+/// Deletes a user whom the actor owns and whom nothing needs, on the working side, and the grants to it. AnswersNamed the stamp that it had.
 pub fn delete_user<B: Eeprom>(
     tables: &mut Tables,
     bench: &mut B,
@@ -56,7 +56,7 @@ fn find_to_delete<B: Eeprom>(
     ensures there { IfOk result (λ user. user.slot < store.now.chains.cells) }
     ensures at { IfOk result (λ user. IfSome (slots_of store.now Working (B.chip bench.old)) (λ slots. Some user.value ≡ at_slot user_kind user.slot slots)) }
     ensures named { (db : Database) → IsHeld store.now Working (B.chip bench.old) db → IfOk result (λ user. model.user_named db.users name ≡ Some user.value) }
-    ensures found { (db : Database) → IsHeld store.now Working (B.chip bench.old) db → Answers (λ user. removing_user db user.value) (user_deleted db actor name) result }
+    ensures found { (db : Database) → IsHeld store.now Working (B.chip bench.old) db → AnswersNamed (λ user. removing_user db user.value) (user_deleted db actor name) result }
     ensures frame { Reads is_stop_fault B.chip B.faults bench.old bench.new result }
 {
     let Some(user) = find_name(store, bench, Side::Working, name)? else {

@@ -10,7 +10,7 @@ ghost use Rattle.scql_model.specs.Granting.{grantee_named};
 ghost use Rattle.scql_model.specs.Refusals.{or_refused};
 ghost use Rattle.scql_model.specs.Rights.{seen_named};
 ghost use Rattle.record_table.specs.Making.{IsHeld, is_stop_fault};
-ghost use Rattle.db_access.specs.Asked.{Answers};
+ghost use Rattle.db_access.specs.Asked.{AnswersNamed};
 ghost use Rattle.db_access.specs.Pairs.{pair_named};
 
 use eeprom::Eeprom;
@@ -37,7 +37,7 @@ pub(crate) fn find_named<B: Eeprom>(
     grantee: Name,
 ) -> Result<Pair, Stop>
     requires over { IsOver store.now (B.chip bench.old) }
-    ensures pair { (db : Database) → IsHeld store.now Working (B.chip bench.old) db → Answers (λ pair. (pair.object, pair.grantee)) (pair_named db actor object grantee) result }
+    ensures pair { (db : Database) → IsHeld store.now Working (B.chip bench.old) db → AnswersNamed (λ pair. (pair.object, pair.grantee)) (pair_named db actor object grantee) result }
     ensures frame { Reads is_stop_fault B.chip B.faults bench.old bench.new result }
 {
     let object = find_owned(store, bench, actor, object)?;
@@ -53,7 +53,7 @@ fn find_owned<B: Eeprom>(
     name: Name,
 ) -> Result<Object, Stop>
     requires over { IsOver store.now (B.chip bench.old) }
-    ensures owned { (db : Database) → IsHeld store.now Working (B.chip bench.old) db → Answers (λ object. object) (owned_by actor (seen_named db actor name)) result }
+    ensures owned { (db : Database) → IsHeld store.now Working (B.chip bench.old) db → AnswersNamed (λ object. object) (owned_by actor (seen_named db actor name)) result }
     ensures frame { Reads is_stop_fault B.chip B.faults bench.old bench.new result }
 {
     let Some(found) = find_seen(store, bench, Side::Working, actor, name)? else {
@@ -68,7 +68,7 @@ fn find_owned<B: Eeprom>(
 // Finds the grantee of a name: the stamp of a user, or 0 for PUBLIC.
 fn find_grantee<B: Eeprom>(store: &Store, bench: &mut B, name: Name) -> Result<u32, Stop>
     requires over { IsOver store.now (B.chip bench.old) }
-    ensures grantee { (db : Database) → IsHeld store.now Working (B.chip bench.old) db → Answers (λ grantee. grantee) (or_refused (grantee_named db name) not_found) result }
+    ensures grantee { (db : Database) → IsHeld store.now Working (B.chip bench.old) db → AnswersNamed (λ grantee. grantee) (or_refused (grantee_named db name) not_found) result }
     ensures frame { Reads is_stop_fault B.chip B.faults bench.old bench.new result }
 {
     if name.octets() == Name::PUBLIC {

@@ -98,12 +98,12 @@ NextIs told store side chip k next values =
     (db : Database) (subject : Subject) → IsHeld store side chip db → told.dictionary.now.kind ≡ Dictionary subject → IsNext (rows_told db told.dictionary.now.owner subject) k next values
 
 -- What is still to be found behind the rows that were passed.
-abbrev pub IsLeft : Told → Held → Side → Chip → ℕ → ℕ → Type 0
-IsLeft told store side chip stamp passed = (rows : List StampedRow) → TellsRows told store side chip rows → row_behind (At stamp) rows ≡ row_behind (At passed) rows
+abbrev pub IsRowAhead : Told → Held → Side → Chip → ℕ → ℕ → Type 0
+IsRowAhead told store side chip stamp passed = (rows : List StampedRow) → TellsRows told store side chip rows → row_behind (At stamp) rows ≡ row_behind (At passed) rows
 
 module _ (told : Told) (store : Held) (side : Side) (chip : Chip) where
-  pub left-next : (stamp passed next : ℕ) (values : Values) → IsLeft told store side chip stamp passed → NextIs told store side chip passed (Some next) values → passes values told.conditions.now ≡ false
-      → IsLeft told store side chip stamp next
+  pub left-next : (stamp passed next : ℕ) (values : Values) → IsRowAhead told store side chip stamp passed → NextIs told store side chip passed (Some next) values → passes values told.conditions.now ≡ false
+      → IsRowAhead told store side chip stamp next
   left-next stamp passed next values left is other = λ rows t.
       let all = rows_told t.db told.dictionary.now.owner t.subject in
       let r : StampedRow = record { stamp = next; values = values } in
@@ -111,7 +111,7 @@ module _ (told : Told) (store : Held) (side : Side) (chip : Chip) where
       left rows t ∙ subst (λ (x : List StampedRow). row_behind (At passed) x ≡ row_behind (At next) x) (sym t.are)
       (behind-chosen told passed all ∙ (ap (option_map (as_shown told)) skipped ∙ sym (behind-chosen told next all)))
 
-  pub left-found : (stamp passed next : ℕ) (values : Values) → IsLeft told store side chip stamp passed → NextIs told store side chip passed (Some next) values → passes values told.conditions.now ≡ true
+  pub left-found : (stamp passed next : ℕ) (values : Values) → IsRowAhead told store side chip stamp passed → NextIs told store side chip passed (Some next) values → passes values told.conditions.now ≡ true
       → (rows : List StampedRow) → TellsRows told store side chip rows → shown_told told (Some next) values ≡ row_behind (At stamp) rows
   left-found stamp passed next values left is own rows t =
       let all = rows_told t.db told.dictionary.now.owner t.subject in
@@ -121,7 +121,7 @@ module _ (told : Told) (store : Held) (side : Side) (chip : Chip) where
       subst (λ (x : List StampedRow). row_behind (At passed) x ≡ Some (as_shown told r)) (sym t.are) (behind-chosen told passed all ∙ ap (option_map (as_shown told)) found) in
       sym (left rows t ∙ behind)
 
-  pub left-none : (stamp passed : ℕ) (values : Values) → IsLeft told store side chip stamp passed → NextIs told store side chip passed None values
+  pub left-none : (stamp passed : ℕ) (values : Values) → IsRowAhead told store side chip stamp passed → NextIs told store side chip passed None values
       → (rows : List StampedRow) → TellsRows told store side chip rows → None ≡ row_behind (At stamp) rows
   left-none stamp passed values left is rows t =
       let all = rows_told t.db told.dictionary.now.owner t.subject in

@@ -164,24 +164,24 @@ reads-nothing None most a = tt
 reads-nothing (Some list) most a = λ after told. (after, told, (omega (arith), omega (arith)))
 
 -- What is still to be found behind the rows that were passed.
-abbrev pub IsLeft : Chosen → ℕ → ℕ → Slots → Type 0
-IsLeft chosen stamp passed slots = Rises row_kind.key (listed row_kind slots) → find (is_wanted chosen stamp) (listed row_kind slots) ≡ find (is_wanted chosen passed) (listed row_kind slots)
+abbrev pub IsStillAhead : Chosen → ℕ → ℕ → Slots → Type 0
+IsStillAhead chosen stamp passed slots = Rises row_kind.key (listed row_kind slots) → find (is_wanted chosen stamp) (listed row_kind slots) ≡ find (is_wanted chosen passed) (listed row_kind slots)
 
-pub left-before : (chosen : Chosen) (stamp : ℕ) (slots : Option Slots) → IfSome slots (IsLeft chosen stamp stamp)
+pub left-before : (chosen : Chosen) (stamp : ℕ) (slots : Option Slots) → IfSome slots (IsStillAhead chosen stamp stamp)
 left-before chosen stamp None = tt
 left-before chosen stamp (Some slots) = λ rises. refl
 
-pub left-next : (chosen : Chosen) (stamp passed : ℕ) (slots : Option Slots) (r : RowRecord) → IfSome slots (IsLeft chosen stamp passed) → IfSome slots (λ slots. Some r ≡ find (is_row_after chosen.table passed) (listed row_kind slots))
-    → is_shown chosen r.row ≡ false → IfSome slots (IsLeft chosen stamp r.stamp)
+pub left-next : (chosen : Chosen) (stamp passed : ℕ) (slots : Option Slots) (r : RowRecord) → IfSome slots (IsStillAhead chosen stamp passed) → IfSome slots (λ slots. Some r ≡ find (is_row_after chosen.table passed) (listed row_kind slots))
+    → is_shown chosen r.row ≡ false → IfSome slots (IsStillAhead chosen stamp r.stamp)
 left-next chosen stamp passed None r left found hidden = tt
 left-next chosen stamp passed (Some slots) r left found hidden = λ rises. left rises ∙ next-skipped chosen passed (listed row_kind slots) r rises (sym found) hidden
 
-pub left-found : (chosen : Chosen) (stamp passed : ℕ) (slots : Option Slots) (r : RowRecord) → IfSome slots (IsLeft chosen stamp passed) → IfSome slots (λ slots. Some r ≡ find (is_row_after chosen.table passed) (listed row_kind slots))
+pub left-found : (chosen : Chosen) (stamp passed : ℕ) (slots : Option Slots) (r : RowRecord) → IfSome slots (IsStillAhead chosen stamp passed) → IfSome slots (λ slots. Some r ≡ find (is_row_after chosen.table passed) (listed row_kind slots))
     → is_shown chosen r.row ≡ true → IfSome slots (IsNextShown chosen stamp (Some r))
 left-found chosen stamp passed None r left found shown = tt
 left-found chosen stamp passed (Some slots) r left found shown = λ rises. sym (left rises ∙ next-found chosen passed (listed row_kind slots) r (sym found) shown)
 
-pub left-none : (chosen : Chosen) (stamp passed : ℕ) (slots : Option Slots) → IfSome slots (IsLeft chosen stamp passed) → IfSome slots (λ slots. None ≡ find (is_row_after chosen.table passed) (listed row_kind slots))
+pub left-none : (chosen : Chosen) (stamp passed : ℕ) (slots : Option Slots) → IfSome slots (IsStillAhead chosen stamp passed) → IfSome slots (λ slots. None ≡ find (is_row_after chosen.table passed) (listed row_kind slots))
     → IfSome slots (IsNextShown chosen stamp None)
 left-none chosen stamp passed None left none = tt
 left-none chosen stamp passed (Some slots) left none = λ rises. sym (left rises ∙ next-none chosen passed (listed row_kind slots) (sym none))

@@ -16,14 +16,14 @@ use Rattle.scql_model.specs.Writing.{Assignment, all_assigned, assigned}
 use Rattle.db_write.specs.Assigned.{value_given}
 
 -- what is left of a row: octets that split into the values of the columns that are left
-pub record IsLeft (assignments : List Assignment) (columns : Columns) (whole : Values) (row : Values) (after : Values) (rest : List ℕ) : Type 0 where
+pub record IsUnassigned (assignments : List Assignment) (columns : Columns) (whole : Values) (row : Values) (after : Values) (rest : List ℕ) : Type 0 where
   pub values : Values
   pub split : params_of rest ≡ Some values
   pub goes_on : after ++ all_assigned assignments columns values ≡ whole
   pub narrow : list_all is_narrow values ≡ true
   pub many : length after + length values ≡ length row
 
-pub IsLeft-first : (assignments : List Assignment) (columns : Columns) (row : Values) (octets : List ℕ) → params_of octets ≡ Some row → list_all is_narrow row ≡ true → IsLeft assignments columns (all_assigned assignments columns row) row [] octets
+pub IsLeft-first : (assignments : List Assignment) (columns : Columns) (row : Values) (octets : List ℕ) → params_of octets ≡ Some row → list_all is_narrow row ≡ true → IsUnassigned assignments columns (all_assigned assignments columns row) row [] octets
 IsLeft-first assignments columns row octets split narrow = record { values = row; split = split; goes_on = refl; narrow = narrow; many = omega arith }
 
 -- the first value of what is left
@@ -48,8 +48,8 @@ value-assigned assignments column value = of (find (λ (a : Assignment). bytes_e
     of (Some a) = refl
 
 -- the row goes on with the value of the next column
-pub IsLeft-next : (assignments : List Assignment) (column : List ℕ) (columns : Columns) (whole row after next : Values) (rest value behind given : List ℕ) → IsLeft assignments (column ∷ columns) whole row after rest
-    → params_of rest ≡ with_string value (params_of behind) → given ≡ assigned assignments column value → next ≡ after ++ given ∷ [] → IsLeft assignments columns whole row next behind
+pub IsLeft-next : (assignments : List Assignment) (column : List ℕ) (columns : Columns) (whole row after next : Values) (rest value behind given : List ℕ) → IsUnassigned assignments (column ∷ columns) whole row after rest
+    → params_of rest ≡ with_string value (params_of behind) → given ≡ assigned assignments column value → next ≡ after ++ given ∷ [] → IsUnassigned assignments columns whole row next behind
 IsLeft-next assignments column columns whole row after next rest value behind given left is gives pushed =
     let n = next-value rest value behind left.values left.split is in
     let own : after ++ (given ∷ all_assigned assignments columns n.more) ≡ whole =
@@ -66,7 +66,7 @@ IsLeft-next assignments column columns whole row after next rest value behind gi
     }
 
 -- where as many values are left as columns there is a next one
-pub some-left : (assignments : List Assignment) (column : List ℕ) (columns : Columns) (whole row after : Values) (rest : List ℕ) → IsLeft assignments (column ∷ columns) whole row after rest
+pub some-left : (assignments : List Assignment) (column : List ℕ) (columns : Columns) (whole row after : Values) (rest : List ℕ) → IsUnassigned assignments (column ∷ columns) whole row after rest
     → params_of rest ≡ (if length rest == 0 then Some [] else None) → length after + length (column ∷ columns) ≡ length row → ⊥
 some-left assignments column columns whole row after rest left none many =
     elim (cases_Bool (length rest == 0)) [
@@ -75,7 +75,7 @@ some-left assignments column columns whole row after rest left none many =
     ]
 
 -- at the end the row is whole
-pub whole-left : (assignments : List Assignment) (whole row after : Values) (rest : List ℕ) → IsLeft assignments [] whole row after rest → length after ≡ length row → after ≡ whole
+pub whole-left : (assignments : List Assignment) (whole row after : Values) (rest : List ℕ) → IsUnassigned assignments [] whole row after rest → length after ≡ length row → after ≡ whole
 whole-left assignments whole row after rest left many =
     none left.values left.goes_on (omega (arith, left.many))
   where
@@ -92,7 +92,7 @@ refused-long after given refusal few short is =
     ]
 
 -- and then the whole row is too long
-pub too_long : (assignments : List Assignment) (column : List ℕ) (columns : Columns) (whole row after : Values) (rest value behind given : List ℕ) (refusal : RowRefusal) → IsLeft assignments (column ∷ columns) whole row after rest
+pub too_long : (assignments : List Assignment) (column : List ℕ) (columns : Columns) (whole row after : Values) (rest value behind given : List ℕ) (refusal : RowRefusal) → IsUnassigned assignments (column ∷ columns) whole row after rest
     → params_of rest ≡ with_string value (params_of behind) → given ≡ assigned assignments column value → length after < 15 → length given ≤ 200 → with_value after given ≡ Err refusal → 1020 < row_size whole
 too_long assignments column columns whole row after rest value behind given refusal left is gives few short refuses =
     let n = next-value rest value behind left.values left.split is in
@@ -122,7 +122,7 @@ unwrap-mapped f None default = refl
 unwrap-mapped f (Some x) default = refl
 
 -- no value of a row is too long
-pub narrow-next : (assignments : List Assignment) (columns : Columns) (whole row after : Values) (rest value behind : List ℕ) → IsLeft assignments columns whole row after rest → params_of rest ≡ with_string value (params_of behind) → length value ≤ 200
+pub narrow-next : (assignments : List Assignment) (columns : Columns) (whole row after : Values) (rest value behind : List ℕ) → IsUnassigned assignments columns whole row after rest → params_of rest ≡ with_string value (params_of behind) → length value ≤ 200
 narrow-next assignments columns whole row after rest value behind left is =
     let n = next-value rest value behind left.values left.split is in
     let narrow = subst (λ (values : Values). list_all is_narrow values ≡ true) n.is left.narrow in

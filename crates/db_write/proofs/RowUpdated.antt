@@ -38,7 +38,7 @@ use Rattle.record_table.specs.Making.{Ends, IsValidWith}
 use Rattle.record_table.specs.declared.stop.Stop.{Stop}
 use Rattle.record_table.specs.declared.stop.Stop.TheVariants.{Refused, Fault}
 use Rattle.db_write.specs.Assigned.{within_limit}
-use Rattle.db_write.specs.Reached.{Answers, HasObject, IsStopOf}
+use Rattle.db_write.specs.Reached.{AnswersEdits, HasObject, IsStopOf}
 
 pub updates-closed : (db : Database) (actor : Actor) (cursor : Option Cursor) (assignments : List Assignment) → opened cursor ≡ Err conditions_not_satisfied → row_updated db actor cursor assignments ≡ Err conditions_not_satisfied
 unfolding row_updated
@@ -144,7 +144,7 @@ after-long db assignments r columns limit same is many none =
     ∙ (ap (λ (n : ℕ). within_limit n (all_assigned assignments columns r.row)) is ∙ ap (λ (all : Columns). within_limit db.limit (all_assigned assignments all r.row)) (sym same)))
 
 -- a part of the operation hands on a stop
-pub Answers-stopped : {X : Type 0} (edits : X → List Edit) (outcome : Result (List Edit) StatusWord) (result : Result X Stop) (stop : Stop) → IsErrAnd result (λ given. given ≡ stop) → IsStopOf outcome stop → Answers edits outcome result
+pub Answers-stopped : {X : Type 0} (edits : X → List Edit) (outcome : Result (List Edit) StatusWord) (result : Result X Stop) (stop : Stop) → IsErrAnd result (λ given. given ≡ stop) → IsStopOf outcome stop → AnswersEdits edits outcome result
 Answers-stopped edits outcome (Ok x) stop gives stopped = absurd gives
 Answers-stopped edits outcome (Err given) stop gives stopped = subst (IsStopOf outcome) (sym gives) stopped
 

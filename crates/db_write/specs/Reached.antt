@@ -26,9 +26,9 @@ IsStopOf {T} outcome (Refused word) = outcome ≡ Err word
 IsStopOf {T} outcome Fault = Unit {0}
 
 -- what is answered stands for the edits of an outcome, or it is stopped by the outcome's refusal
-abbrev pub Answers : {X : Type 0} → (X → List Edit) → Result (List Edit) StatusWord → Result X Stop → Type 0
-Answers {X} edits outcome (Ok x) = outcome ≡ Ok (edits x)
-Answers {X} edits outcome (Err stop) = IsStopOf outcome stop
+abbrev pub AnswersEdits : {X : Type 0} → (X → List Edit) → Result (List Edit) StatusWord → Result X Stop → Type 0
+AnswersEdits {X} edits outcome (Ok x) = outcome ≡ Ok (edits x)
+AnswersEdits {X} edits outcome (Err stop) = IsStopOf outcome stop
 
 -- the stamp of the row at which a cursor stands
 abbrev pub stamp_at : Place → Option ℕ

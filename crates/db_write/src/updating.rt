@@ -28,7 +28,7 @@ ghost use Rattle.row_index.specs.Index.{Indexes};
 ghost use Rattle.db_read.specs.Scan.{IsRightFor};
 ghost use Rattle.row_table.specs.Found.{HasRowLike};
 ghost use Rattle.db_write.specs.Assigned.{within_limit};
-ghost use Rattle.db_write.specs.Reached.{Answers};
+ghost use Rattle.db_write.specs.Reached.{AnswersEdits};
 
 use crate::assigning::row_after;
 use crate::reaching::{find_row, find_written, opened};
@@ -110,9 +110,9 @@ fn find_updated<B: Eeprom>(
     ensures short { IfOk result (λ _. FitsChain row_kind updated.new) }
     ensures fits { (db : Database) → IsHeld store.now Working (B.chip bench.old) db → IfOk result (λ _. row_kind.form.fits updated.new ≡ true) }
     ensures updated { (db : Database) → IsHeld store.now Working (B.chip bench.old) db → IfSome cursor.now (IsCursorOf db)
-        → Answers (λ _. changing (of_row updated.new) ∷ []) (row_updated db actor cursor.now changes.now) result }
+        → AnswersEdits (λ _. changing (of_row updated.new) ∷ []) (row_updated db actor cursor.now changes.now) result }
     ensures through { (db : Database) → IsHeld store.now Working (B.chip bench.old) db
-        → (through : Option model.Cursor) × Answers (λ _. changing (of_row updated.new) ∷ []) (row_updated db actor through changes.now) result }
+        → (through : Option model.Cursor) × AnswersEdits (λ _. changing (of_row updated.new) ∷ []) (row_updated db actor through changes.now) result }
     ensures scan_same { scan.new ≡ scan.old }
     ensures frame { Reads is_stop_fault B.chip B.faults bench.old bench.new result }
 {

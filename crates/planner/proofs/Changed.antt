@@ -32,7 +32,7 @@ use Rattle.planner.specs.Running.{Ran}
 use Rattle.planner.proofs.Above.{stamp_of, above, behind-first, above-next, above-opened, listed}
 use Rattle.planner.proofs.Asking.{reads_so, moved_answer}
 use Rattle.planner.proofs.Changing.{Follows, changed-follows, refusal-of}
-use Rattle.planner.proofs.Selecting.{Ends, sends-ends, at, open-move}
+use Rattle.planner.proofs.Selecting.{SelectEnds, sends-ends, at, open-move}
 use Rattle.planner.proofs.Stepping.{ChangesRow, who_in, machine_with, answer-reads, change_answer, resting, answer-changed}
 use Rattle.scql_model.proofs.RefusalWords.{Gives}
 
@@ -66,9 +66,9 @@ module _ (m : Machine) (channel : ℕ) (s : Session) (near : channel ≤ 3) (the
   -- the rows under the cursor are changed in turn: what comes of it is the same in the channel's transaction and in one of its own, but for the end
   module _ (c : Cursor) (a : Actor) (most : ℕ) (few : most ≤ 2048) (final : Changed → Ran)
       (at_end : (t : Transaction) (last : Stage) → IsOwn t → next_of (Some (said end_reached)) (plan_at last most) ≡ finishes (plan_at last most)
-      → Ends (machine_at t (at c End [])) (Some (said end_reached)) (plan_at last most) (final (record { transaction = t; place = End; refusal = None })))
+      → SelectEnds (machine_at t (at c End [])) (Some (said end_reached)) (plan_at last most) (final (record { transaction = t; place = End; refusal = None })))
       (refused : (t : Transaction) (stamp count : ℕ) (word : StatusWord) → IsOwn t → is_refusal word ≡ true
-      → Ends (machine_at t (at c (At stamp) [])) (Some (said word)) (plan_at Changing count) (final (record { transaction = t; place = At stamp; refusal = Some word }))) where
+      → SelectEnds (machine_at t (at c (At stamp) [])) (Some (said word)) (plan_at Changing count) (final (record { transaction = t; place = At stamp; refusal = Some word }))) where
     abbrev changed : List StampedRow → Transaction → Changed
     changed rows t = all_changed m.committed a operation c rows t
 
@@ -94,8 +94,8 @@ module _ (m : Machine) (channel : ℕ) (s : Session) (near : channel ≤ 3) (the
     row-run : (r : StampedRow) (rest rows : List StampedRow) (t : Transaction) (last : Stage) (count : ℕ)
         → next_of (Some (said done)) (plan_at last count) ≡ planned.reaches statement (plan_at last count) → Stands t rows → above stamp_of r.stamp rows ≡ rest → count < 2048
         → ((next : Transaction) (after : List StampedRow) → Stands next after → above stamp_of r.stamp after ≡ rest
-        → Ends (machine_at next (went_to c (first_row rest)).after) (Some (went_to c (first_row rest)).reply) (plan_at Moving (count + 1)) (final (changed rest next)))
-        → Ends (machine_at t (at c (At r.stamp) [])) (Some (said done)) (plan_at last count) (final (changed (r ∷ rest) t))
+        → SelectEnds (machine_at next (went_to c (first_row rest)).after) (Some (went_to c (first_row rest)).reply) (plan_at Moving (count + 1)) (final (changed rest next)))
+        → SelectEnds (machine_at t (at c (At r.stamp) [])) (Some (said done)) (plan_at last count) (final (changed (r ∷ rest) t))
     row-run r rest rows t last count reaching stands is_above room after =
         go (row_changed m.committed a operation (at_stamp r.stamp c) t) refl (changed-follows m.committed a operation c r.stamp t by.changes)
       where
@@ -122,7 +122,7 @@ module _ (m : Machine) (channel : ℕ) (s : Session) (near : channel ≤ 3) (the
             ∙ ap (went_to c) (behind-first r.stamp rows ∙ ap first_row is_above)))
 
         go : (result : Result Transaction StatusWord) → row_changed m.committed a operation (at_stamp r.stamp c) t ≡ result → Gives (Follows r.stamp t) result
-            → Ends (machine_at t (at c (At r.stamp) [])) (Some (said done)) (plan_at last count) (final (once_changed r.stamp t (λ next. changed rest next) result))
+            → SelectEnds (machine_at t (at c (At r.stamp) [])) (Some (said done)) (plan_at last count) (final (once_changed r.stamp t (λ next. changed rest next) result))
         go (Err word) is refuses =
             sends-ends (machine_at t (at c (At r.stamp) [])) (machine_at t (at c (At r.stamp) [])) (Some (said done)) (said word) (plan_at last count) (plan_at Changing (count + 1)) (asking channel operation)
             (final (record { transaction = t; place = At r.stamp; refusal = Some word })) asks-change (is-answer (Err word) is)
@@ -138,11 +138,11 @@ module _ (m : Machine) (channel : ℕ) (s : Session) (near : channel ≤ 3) (the
     rows-run : (rest : List StampedRow) (r : StampedRow) (rows : List StampedRow) (t : Transaction) (last : Stage) (count : ℕ)
         → next_of (Some (said done)) (plan_at last count) ≡ planned.reaches statement (plan_at last count) → Stands t rows → above stamp_of r.stamp rows ≡ rest → Rises stamp_of (r ∷ rest)
         → count + length (r ∷ rest) ≡ most
-        → Ends (machine_at t (at c (At r.stamp) [])) (Some (said done)) (plan_at last count) (final (changed (r ∷ rest) t))
+        → SelectEnds (machine_at t (at c (At r.stamp) [])) (Some (said done)) (plan_at last count) (final (changed (r ∷ rest) t))
     rows-run [] r rows t last count reaching stands is_above rises counts =
         row-run r [] rows t last count reaching stands is_above (omega (arith, counts, few)) (λ next after stands over.
         let all : count + 1 ≡ most = omega (arith, counts) in
-        subst (λ n. Ends (machine_at next (at c End [])) (Some (said end_reached)) (plan_at Moving n) (final (record { transaction = next; place = End; refusal = None }))) (sym all)
+        subst (λ n. SelectEnds (machine_at next (at c End [])) (Some (said end_reached)) (plan_at Moving n) (final (record { transaction = next; place = End; refusal = None }))) (sym all)
         (at_end next Moving stands.mine refl))
     rows-run (x ∷ rest) r rows t last count reaching stands is_above rises counts =
         row-run r (x ∷ rest) rows t last count reaching stands is_above (omega (arith, counts, few)) (λ next after stands over.
@@ -150,7 +150,7 @@ module _ (m : Machine) (channel : ℕ) (s : Session) (near : channel ≤ 3) (the
 
     -- from the answer to DECLARE on
     pub opened-run : (t : Transaction) (rows : List StampedRow) → IsOwn t → who_in t.working s ≡ a → rows_under t.working a c ≡ Ok rows → Rises stamp_of rows → length rows ≡ most
-        → Ends (machine_at t (at c NotOpen [])) (Some (said done)) (plan_at Declaring 0) (final (changed rows t))
+        → SelectEnds (machine_at t (at c NotOpen [])) (Some (said done)) (plan_at Declaring 0) (final (changed rows t))
     opened-run t rows own_t acts listed rises counts = go rows refl counts
       where
         answer : answer_to (machine_at t (at c NotOpen [])) (asking channel OpenCursor)
@@ -161,15 +161,15 @@ module _ (m : Machine) (channel : ℕ) (s : Session) (near : channel ≤ 3) (the
             (ap (λ (a : Actor). move_of t.working a (at c NotOpen []) open_cursor) acts ∙ open-move t.working a c rows listed [])
 
         opens : (found : Option StampedRow) → first_row rows ≡ found → (ran : Ran)
-            → Ends (machine_at t (went_to c found).after) (Some (went_to c found).reply) (plan_at Opening 0) ran → Ends (machine_at t (at c NotOpen [])) (Some (said done)) (plan_at Declaring 0) ran
+            → SelectEnds (machine_at t (went_to c found).after) (Some (went_to c found).reply) (plan_at Opening 0) ran → SelectEnds (machine_at t (at c NotOpen [])) (Some (said done)) (plan_at Declaring 0) ran
         opens found is ran ends =
             sends-ends (machine_at t (at c NotOpen [])) (machine_at t (went_to c found).after) (Some (said done)) (went_to c found).reply (plan_at Declaring 0) (plan_at Opening 0) (asking channel OpenCursor) ran refl
             (answer ∙ ap (λ (found : Option StampedRow). let a : Answer = record { reply = (went_to c found).reply; machine = machine_at t (went_to c found).after; commits = [] } in a) is) ends
 
-        go : (all : List StampedRow) → rows ≡ all → length all ≡ most → Ends (machine_at t (at c NotOpen [])) (Some (said done)) (plan_at Declaring 0) (final (changed all t))
+        go : (all : List StampedRow) → rows ≡ all → length all ≡ most → SelectEnds (machine_at t (at c NotOpen [])) (Some (said done)) (plan_at Declaring 0) (final (changed all t))
         go [] is counts =
             opens None (ap first_row is) (final (changed [] t))
-            (subst (λ n. Ends (machine_at t (at c End [])) (Some (said end_reached)) (plan_at Opening n) (final (changed [] t))) (sym counts) (at_end t Opening own_t refl))
+            (subst (λ n. SelectEnds (machine_at t (at c End [])) (Some (said end_reached)) (plan_at Opening n) (final (changed [] t))) (sym counts) (at_end t Opening own_t refl))
         go (r ∷ rest) is counts =
             opens (Some r) (ap first_row is) (final (changed (r ∷ rest) t))
             (rows-run rest r rows t Opening 0 refl (record { mine = own_t; acts = acts; listed = listed }) (above-opened r rest rows rises is) (subst (Rises stamp_of) is rises) (omega (arith, counts)))

@@ -50,7 +50,7 @@ use Rattle.planner.specs.Planned.{Planned, is_row, row_before, started, refuses,
 use Rattle.planner.specs.Running.{Ran, giving, shown, AreRows, RunsTo}
 use Rattle.planner.proofs.Asking.{who, in_session, reads_so, moved_answer, answer-read}
 use Rattle.planner.proofs.Settled.{runs-to}
-use Rattle.planner.proofs.Selecting.{Ends, sends-ends, row-ends, done-ends, more-accepted, more-not_end, find-behind, row_at-first, stamp_of, at, open-move, fetch-move, next-move, more-move, takes-row, takes-piece, fetching-next}
+use Rattle.planner.proofs.Selecting.{SelectEnds, sends-ends, row-ends, done-ends, more-accepted, more-not_end, find-behind, row_at-first, stamp_of, at, open-move, fetch-move, next-move, more-move, takes-row, takes-piece, fetching-next}
 
 -- the octets of a row
 record IsGiven (octets : List ℕ) : Type 0 where
@@ -88,18 +88,18 @@ module _ (m : Machine) (channel : ℕ) (s : Session) (few : channel ≤ 3) (ther
       reply : Reply
       next : Machine
       answer : answer_to (machine_at (at c place [])) (wanting channel FetchNext) ≡ record { reply = reply; machine = next; commits = [] }
-      ends : Ends next (Some reply) (plan_at Fetching (count + 1) 0 whole) ran
+      ends : SelectEnds next (Some reply) (plan_at Fetching (count + 1) 0 whole) ran
 
     -- a piece of a row, and what comes of what is left behind it
     piece : (octets pre whole acc : List ℕ) (k count : ℕ) (place : Place) (ran : Ran)
         → (if k == 0 then [] else acc) ≡ pre → pre ++ octets ≡ whole → IsGiven whole → count < 2048 → After place count whole ran
         → ((x : ℕ) (xs : List ℕ) → drop 256 octets ≡ x ∷ xs
-        → Ends (machine_at (at c place (x ∷ xs))) (Some (record { body = take 256 octets; word = more_left (length (x ∷ xs)) })) (plan_at Fetching count k acc) (giving whole ran))
-        → Ends (machine_at (at c place (drop 256 octets))) (Some (record { body = take 256 octets; word = rest_word (drop 256 octets) })) (plan_at Fetching count k acc) (giving whole ran)
+        → SelectEnds (machine_at (at c place (x ∷ xs))) (Some (record { body = take 256 octets; word = more_left (length (x ∷ xs)) })) (plan_at Fetching count k acc) (giving whole ran))
+        → SelectEnds (machine_at (at c place (drop 256 octets))) (Some (record { body = take 256 octets; word = rest_word (drop 256 octets) })) (plan_at Fetching count k acc) (giving whole ran)
     piece octets pre whole acc k count place ran before joined given room after again = go (drop 256 octets) refl
       where
         go : (rest : List ℕ) → drop 256 octets ≡ rest
-            → Ends (machine_at (at c place rest)) (Some (record { body = take 256 octets; word = rest_word rest })) (plan_at Fetching count k acc) (giving whole ran)
+            → SelectEnds (machine_at (at c place rest)) (Some (record { body = take 256 octets; word = rest_word rest })) (plan_at Fetching count k acc) (giving whole ran)
         go [] is =
             let all : take 256 octets ≡ octets = sym (append-nil (take 256 octets)) ∙ (ap (λ back. take 256 octets ++ back) (sym is) ∙ take-append-drop 256 octets) in
             let body : row_before (plan_at Fetching count k acc) ++ take 256 octets ≡ whole = ap (λ front. front ++ take 256 octets) before ∙ (ap (λ back. pre ++ back) all ∙ joined) in
@@ -117,7 +117,7 @@ module _ (m : Machine) (channel : ℕ) (s : Session) (few : channel ≤ 3) (ther
     gather : (j : ℕ) (octets pre whole acc : List ℕ) (k count : ℕ) (place : Place) (ran : Ran)
         → length octets ≤ 256 * (j + 1) → k + j ≤ 3 → (if k == 0 then [] else acc) ≡ pre → pre ++ octets ≡ whole → IsGiven whole → count < 2048
         → After place count whole ran
-        → Ends (machine_at (at c place (drop 256 octets))) (Some (record { body = take 256 octets; word = rest_word (drop 256 octets) })) (plan_at Fetching count k acc) (giving whole ran)
+        → SelectEnds (machine_at (at c place (drop 256 octets))) (Some (record { body = take 256 octets; word = rest_word (drop 256 octets) })) (plan_at Fetching count k acc) (giving whole ran)
     gather zero octets pre whole acc k count place ran size fuel before joined given room after =
         piece octets pre whole acc k count place ran before joined given room after
         (λ x xs is.
@@ -149,7 +149,7 @@ module _ (m : Machine) (channel : ℕ) (s : Session) (few : channel ≤ 3) (ther
 
     rows-run : (before : List StampedRow) (r : StampedRow) (rest : List StampedRow) (count all : ℕ) (acc : List ℕ)
         → rows ≡ before ++ r ∷ rest → Rises stamp_of rows → AreGiven (r ∷ rest) → count + length (r ∷ rest) ≡ all → all ≤ 2048
-        → Ends (machine_at (at c (At r.stamp) (drop 256 (row_octets r.values)))) (Some (cut (row_octets r.values) 256).reply) (plan_at Fetching count 0 acc) (all_given (r ∷ rest) all)
+        → SelectEnds (machine_at (at c (At r.stamp) (drop 256 (row_octets r.values)))) (Some (cut (row_octets r.values) 256).reply) (plan_at Fetching count 0 acc) (all_given (r ∷ rest) all)
     rows-run before r [] count all acc split rises given counts most =
         gather 3 (row_octets r.values) [] (row_octets r.values) acc 0 count (At r.stamp) (all_given [] all) (omega (arith, given.0.short)) (lit≤ tt) refl refl given.0 (omega (arith, counts, most))
         (record {
@@ -159,7 +159,7 @@ module _ (m : Machine) (channel : ℕ) (s : Session) (few : channel ≤ 3) (ther
               answer-read m (wanting channel FetchNext) s (reads_so s (at c (At r.stamp) [])) (fetch_next 256) (wanted-sent channel FetchNext few refl tt refl) refl there
               ∙ ap (moved_answer m channel (reads_so s (at c (At r.stamp) [])))
               (next-move db me c rows listed r.stamp None [] (ap (row_behind (At r.stamp)) split ∙ find-behind before r [] (subst (Rises stamp_of) split rises)));
-          ends = subst (λ n. Ends (machine_at (at c End [])) (Some (said end_reached)) (plan_at Fetching (count + 1) 0 (row_octets r.values)) (all_given [] n)) counts
+          ends = subst (λ n. SelectEnds (machine_at (at c End [])) (Some (said end_reached)) (plan_at Fetching (count + 1) 0 (row_octets r.values)) (all_given [] n)) counts
               (done-ends (machine_at (at c End [])) (Some (said end_reached)) (plan_at Fetching (count + 1) 0 (row_octets r.values)) (plan_at (Ended (Rows (count + 1))) (count + 1) 0 (row_octets r.values)) (Rows (count + 1)) refl);
         })
     rows-run before r (x ∷ rest) count all acc split rises given counts most =
@@ -175,7 +175,7 @@ module _ (m : Machine) (channel : ℕ) (s : Session) (few : channel ≤ 3) (ther
         })
 
     opened-run : Rises stamp_of rows → AreGiven rows → length rows ≤ 2048
-        → Ends (machine_at (at c NotOpen [])) (Some (said done)) (plan_at Declaring 0 0 []) (all_given rows (length rows))
+        → SelectEnds (machine_at (at c NotOpen [])) (Some (said done)) (plan_at Declaring 0 0 []) (all_given rows (length rows))
     opened-run rises given most = go rows refl given most
       where
         answer : answer_to (machine_at (at c NotOpen [])) (asking channel OpenCursor) ≡ moved_answer m channel (reads_so s (at c NotOpen [])) (went_to c (first_row rows))
@@ -183,7 +183,7 @@ module _ (m : Machine) (channel : ℕ) (s : Session) (few : channel ≤ 3) (ther
             answer-read m (asking channel OpenCursor) s (reads_so s (at c NotOpen [])) open_cursor (asked-sent channel OpenCursor few refl refl tt refl) refl there
             ∙ ap (moved_answer m channel (reads_so s (at c NotOpen []))) (open-move db me c rows listed [])
 
-        go : (all : List StampedRow) → rows ≡ all → AreGiven all → length all ≤ 2048 → Ends (machine_at (at c NotOpen [])) (Some (said done)) (plan_at Declaring 0 0 []) (all_given all (length all))
+        go : (all : List StampedRow) → rows ≡ all → AreGiven all → length all ≤ 2048 → SelectEnds (machine_at (at c NotOpen [])) (Some (said done)) (plan_at Declaring 0 0 []) (all_given all (length all))
         go [] is given most =
             sends-ends (machine_at (at c NotOpen [])) (machine_at (at c End [])) (Some (said done)) (said end_reached) (plan_at Declaring 0 0 []) (plan_at Opening 0 0 []) (asking channel OpenCursor) (all_given [] 0) refl
             (answer ∙ ap (λ all. moved_answer m channel (reads_so s (at c NotOpen [])) (went_to c (first_row all))) is)
@@ -301,9 +301,9 @@ module _ (m : Machine) (channel : ℕ) (s : Session) (there : session_of m chann
   changed-session change = sym (ap (λ (session : Option Session). with_session m channel (option_map change session)) there)
 
   declared-run : (d : Result Declared StatusWord) → Declares (base m channel) (who m channel s) s.reading object columns conditions d → AreRows (selects_all m channel d).rows
-      → Ends m None (started (Select object columns conditions) channel inside) (shown (selects_all m channel d))
+      → SelectEnds m None (started (Select object columns conditions) channel inside) (shown (selects_all m channel d))
   declared-run (Err word) declares rows =
-      let P : Machine → Type 0 = λ n. Ends m None (started (Select object columns conditions) channel inside) (record { rows = []; closing = Refused word; machine = n; commits = [] }) in
+      let P : Machine → Type 0 = λ n. SelectEnds m None (started (Select object columns conditions) channel inside) (record { rows = []; closing = Refused word; machine = n; commits = [] }) in
       subst P (changed-session without_chain)
       (sends-ends m (in_session m channel (without_chain s)) None (said word) (started (Select object columns conditions) channel inside) (plan_in Declaring) asked
       (record { rows = []; closing = Refused word; machine = in_session m channel (without_chain s); commits = [] }) refl (asked-answer (Err word) declares)
@@ -311,9 +311,9 @@ module _ (m : Machine) (channel : ℕ) (s : Session) (there : session_of m chann
       (ap (λ refused. if refused then refuses Declaring word (plan_in Declaring) else accepts Declaring word [] (plan_in Declaring)) declares.is)))
   declared-run (Ok d) declares rows =
       let P : Machine → Type 0 =
-      λ n. Ends m None (started (Select object columns conditions) channel inside) (record { rows = map (λ (r : StampedRow). row_octets r.values) d.rows; closing = Rows (length d.rows); machine = n; commits = [] }) in
+      λ n. SelectEnds m None (started (Select object columns conditions) channel inside) (record { rows = map (λ (r : StampedRow). row_octets r.values) d.rows; closing = Rows (length d.rows); machine = n; commits = [] }) in
       let Q : List (List ℕ) → Type 0 =
-      λ given. Ends m None (started (Select object columns conditions) channel inside)
+      λ given. SelectEnds m None (started (Select object columns conditions) channel inside)
       (record { rows = given; closing = Rows (length d.rows); machine = changing_session (standing End d.cursor) m channel; commits = [] }) in
       let few : length d.rows ≤ 2048 = subst (λ n. n ≤ 2048) (length-map d.rows (λ (r : StampedRow). r.values)) rows.few in
       subst Q (sym (map-map row_octets (λ (r : StampedRow). r.values) d.rows)) (subst P (changed-session (standing End d.cursor))
@@ -323,12 +323,12 @@ module _ (m : Machine) (channel : ℕ) (s : Session) (there : session_of m chann
       (opened-run m channel s can.within there object columns conditions d.cursor d.rows declares.is.0 declares.is.1 (given-all d.rows rows.formed) few)))
 
   select-runs : AreRows (meaning m channel (Select object columns conditions)).rows
-      → Ends m None (started (Select object columns conditions) channel inside) (shown (meaning m channel (Select object columns conditions)))
+      → SelectEnds m None (started (Select object columns conditions) channel inside) (shown (meaning m channel (Select object columns conditions)))
   unfolding meaning declared
   select-runs rows =
       let f : Actor → Result Declared StatusWord = λ a. declared_from (base m channel) a s.reading object columns conditions readable (seen_named (base m channel) a object) in
       let acts : actor m channel ≡ who m channel s = ap (λ (session : Option Session). option_map_or (actor_of (base m channel)) (option_and_then (λ (x : Session). x.user) session) Public) there in
-      let P : Meaning → Type 0 = λ x. AreRows x.rows → Ends m None (started (Select object columns conditions) channel inside) (shown x) in
+      let P : Meaning → Type 0 = λ x. AreRows x.rows → SelectEnds m None (started (Select object columns conditions) channel inside) (shown x) in
       let is : meaning m channel (Select object columns conditions) ≡ selects_all m channel (f (who m channel s)) =
       ap (λ (session : Option Session). if is_some session then selects_all m channel (f (actor m channel)) else ended (Refused channel_not_supported) m channel) there
       ∙ ap (λ (a : Actor). selects_all m channel (f a)) acts in

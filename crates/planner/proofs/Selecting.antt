@@ -34,12 +34,12 @@ more zero n = n
 more (suc k) n = suc (more k n)
 
 -- a run ends so within some number of steps
-pub record Ends (m : Machine) (last : Option Reply) (p : Planned) (ran : Ran) : Type 0 where
+pub record SelectEnds (m : Machine) (last : Option Reply) (p : Planned) (ran : Ran) : Type 0 where
   pub steps : ℕ
   pub runs : (n : ℕ) → run (more steps n) m last p ≡ ran
 
 pub sends-ends : (m next : Machine) (last : Option Reply) (reply : Reply) (p q : Planned) (c : Command) (ran : Ran) → next_of last p ≡ record { plan = q; step = Send c }
-    → answer_to m c ≡ record { reply = reply; machine = next; commits = [] } → Ends next (Some reply) q ran → Ends m last p ran
+    → answer_to m c ≡ record { reply = reply; machine = next; commits = [] } → SelectEnds next (Some reply) q ran → SelectEnds m last p ran
 sends-ends m next last reply p q c ran is-turn is-answer e = record {
   steps = suc e.steps;
   runs = λ n.
@@ -48,7 +48,7 @@ sends-ends m next last reply p q c ran is-turn is-answer e = record {
 }
 
 pub row-ends : (m next : Machine) (last : Option Reply) (reply : Reply) (p q : Planned) (c : Command) (ran : Ran) → next_of last p ≡ record { plan = q; step = Row c }
-    → answer_to m c ≡ record { reply = reply; machine = next; commits = [] } → Ends next (Some reply) q ran → Ends m last p (running.giving q.row ran)
+    → answer_to m c ≡ record { reply = reply; machine = next; commits = [] } → SelectEnds next (Some reply) q ran → SelectEnds m last p (running.giving q.row ran)
 row-ends m next last reply p q c ran is-turn is-answer e = record {
   steps = suc e.steps;
   runs = λ n.
@@ -57,7 +57,7 @@ row-ends m next last reply p q c ran is-turn is-answer e = record {
 }
 
 pub done-ends : (m : Machine) (last : Option Reply) (p q : Planned) (closing : Closing) → next_of last p ≡ record { plan = q; step = Done closing }
-    → Ends m last p (record { rows = []; closing = closing; machine = m; commits = [] })
+    → SelectEnds m last p (record { rows = []; closing = closing; machine = m; commits = [] })
 done-ends m last p q closing is-turn = record {
   steps = 1;
   runs = λ n. ap (λ (turn : Turn). taken (λ x r y. run n x r y) m turn.plan turn.step) is-turn;

@@ -8,7 +8,7 @@ use Rattle.planner.specs.Meaning.{answer_to}
 use Rattle.planner.specs.Planned.{Planned, next_of}
 use Rattle.planner.specs.Turns.{turns_left, IfGoesOn}
 use Rattle.planner.specs.Running.{Ran, run, taken, giving, committing, RunsTo}
-use Rattle.planner.proofs.Selecting.{more, Ends}
+use Rattle.planner.proofs.Selecting.{more, SelectEnds}
 use Rattle.planner.proofs.Turning.{next_of-below}
 
 step-settled : (k n bound : ℕ) (m : Machine) (q : Planned) (step : Step) → IfGoesOn step (turns_left q < bound)
@@ -31,7 +31,7 @@ pub more-is : (k n : ℕ) → more k n ≡ k + n
 more-is zero n = omega arith
 more-is (suc k) n = ap suc (more-is k n) ∙ omega arith
 
-pub runs-to : (m : Machine) (p : Planned) (ran : Ran) → Ends m None p ran → RunsTo m p ran
+pub runs-to : (m : Machine) (p : Planned) (ran : Ran) → SelectEnds m None p ran → RunsTo m p ran
 runs-to m p ran e = record {
   runs = λ turns enough.
       settled turns e.steps m None p enough

@@ -26,7 +26,7 @@ use Rattle.planner.proofs.Brief.{brief-runs}
 use Rattle.planner.proofs.Closed.{closed-run}
 use Rattle.planner.proofs.Changed.{ChangesBy}
 use Rattle.planner.proofs.Selected.{select-open}
-use Rattle.planner.proofs.Selecting.{Ends}
+use Rattle.planner.proofs.Selecting.{SelectEnds}
 use Rattle.planner.proofs.Settled.{runs-to}
 use Rattle.planner.proofs.ShownRows.{AreDeclared, declared-formed}
 use Rattle.planner.proofs.Transacted.{CountsFew, runs-inside, runs-outside, runs-against}
@@ -49,7 +49,7 @@ module _ (m : Machine) (channel : ℕ) (s : Session) (near : channel ≤ 3) (the
       go (Ok d) are = are.few
 
   abbrev Runs : Bool → Meaning → Type 0
-  Runs inside x = Ends m None (plan_for inside) (shown x)
+  Runs inside x = SelectEnds m None (plan_for inside) (shown x)
 
   abbrev is_inside : Bool
   is_inside = is_some (own_transaction m.transaction channel)

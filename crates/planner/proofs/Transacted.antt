@@ -31,13 +31,13 @@ use Rattle.planner.specs.Planned.{Planned, Turn, next_of, asks, finishes, refuse
 use Rattle.planner.specs.Running.{Ran, run, taken, answered_by, committing, shown}
 use Rattle.planner.proofs.Asking.{in_session, reads_so, moved_answer}
 use Rattle.planner.proofs.Changed.{ChangesBy, plan_at, machine_at, opened-run}
-use Rattle.planner.proofs.Selecting.{more, Ends, sends-ends, done-ends, at}
+use Rattle.planner.proofs.Selecting.{more, SelectEnds, sends-ends, done-ends, at}
 use Rattle.planner.proofs.Selected.{Declares, declares_so, IsDeclared, declares, in_session-same}
 use Rattle.planner.proofs.Stepping.{who_in, machine_with, answer-begun, answer-waits, answer-committed, answer-rolled_back, answer-reads}
 
 -- a command that commits
 commits-ends : (m next : Machine) (last : Option Reply) (reply : Reply) (commits : List Database) (p q : Planned) (c : Command) (ran : Ran) → next_of last p ≡ record { plan = q; step = Send c }
-    → answer_to m c ≡ record { reply = reply; machine = next; commits = commits } → Ends next (Some reply) q ran → Ends m last p (committing commits ran)
+    → answer_to m c ≡ record { reply = reply; machine = next; commits = commits } → SelectEnds next (Some reply) q ran → SelectEnds m last p (committing commits ran)
 commits-ends m next last reply commits p q c ran is-turn is-answer e = record {
   steps = suc e.steps;
   runs = λ n.
@@ -102,35 +102,35 @@ module _ (m : Machine) (channel : ℕ) (s : Session) (near : channel ≤ 3) (the
       ran_of c = record { rows = []; closing = closing_after (length d.rows) c.refusal; machine = machine c.transaction (at d.cursor c.place []); commits = [] }
 
       ended-inside : (t : Transaction) (last : Stage) → (t.channel == channel) ≡ true → next_of (Some (said end_reached)) (plan last (length d.rows)) ≡ finishes (plan last (length d.rows))
-          → Ends (machine t (at d.cursor End [])) (Some (said end_reached)) (plan last (length d.rows)) (ran_of (record { transaction = t; place = End; refusal = None }))
+          → SelectEnds (machine t (at d.cursor End [])) (Some (said end_reached)) (plan last (length d.rows)) (ran_of (record { transaction = t; place = End; refusal = None }))
       ended-inside t last own finishing =
           done-ends (machine t (at d.cursor End [])) (Some (said end_reached)) (plan last (length d.rows)) (plan (Ended (Rows (length d.rows))) (length d.rows)) (Rows (length d.rows)) finishing
 
       refused-inside : (t : Transaction) (stamp count : ℕ) (word : StatusWord) → (t.channel == channel) ≡ true → is_refusal word ≡ true
-          → Ends (machine t (at d.cursor (At stamp) [])) (Some (said word)) (plan Changing count) (ran_of (record { transaction = t; place = At stamp; refusal = Some word }))
+          → SelectEnds (machine t (at d.cursor (At stamp) [])) (Some (said word)) (plan Changing count) (ran_of (record { transaction = t; place = At stamp; refusal = Some word }))
       refused-inside t stamp count word own refuses' =
           done-ends (machine t (at d.cursor (At stamp) [])) (Some (said word)) (plan Changing count) (plan (Ended (Refused word)) count) (Refused word)
           (ap (λ refused. if refused then refuses Changing word (plan Changing count) else accepts Changing word [] (plan Changing count)) refuses')
 
     declared-inside : (result : Result Declared StatusWord) → IsDeclared (base m channel) me result → CountsFew result
-        → Ends (machine t (declares_so s.reading result).after) (Some (declares_so s.reading result).reply) (plan Declaring 0) (shown (changed_inside m channel operation t result))
+        → SelectEnds (machine t (declares_so s.reading result).after) (Some (declares_so s.reading result).reply) (plan Declaring 0) (shown (changed_inside m channel operation t result))
     declared-inside (Err word) refuses' few =
-        let P : Machine → Type 0 = λ n. Ends (machine t s.reading) (Some (said word)) (plan Declaring 0) (record { rows = []; closing = Refused word; machine = n; commits = [] }) in
+        let P : Machine → Type 0 = λ n. SelectEnds (machine t s.reading) (Some (said word)) (plan Declaring 0) (record { rows = []; closing = Refused word; machine = n; commits = [] }) in
         subst P (changed-session (Some t) m.committed without_chain ∙ ap (λ (t : Option Transaction). changing_session without_chain (record m { transaction = t }) channel) (sym is))
         (done-ends (machine t s.reading) (Some (said word)) (plan Declaring 0) (plan (Ended (Refused word)) 0) (Refused word)
         (ap (λ refused. if refused then refuses Declaring word (plan Declaring 0) else accepts Declaring word [] (plan Declaring 0)) refuses'))
     declared-inside (Ok d) of_rows few =
         let c : Changed = changed_in m channel operation d t in
-        let P : Machine → Type 0 = λ n. Ends (machine t (at d.cursor NotOpen [])) (Some (said done)) (plan Declaring 0) (record { rows = []; closing = closing_after (length d.rows) c.refusal; machine = n; commits = [] }) in
+        let P : Machine → Type 0 = λ n. SelectEnds (machine t (at d.cursor NotOpen [])) (Some (said done)) (plan Declaring 0) (record { rows = []; closing = closing_after (length d.rows) c.refusal; machine = n; commits = [] }) in
         subst P (changed-session (Some c.transaction) m.committed (standing c.place d.cursor))
         (opened-run m channel s near there statement object conditions operation by can false d.cursor me (length d.rows) few (ran_of d) (ended-inside d) (refused-inside d) t d.rows own
         (ap (λ (db : Database). who_in db s) works ∙ acts-in) (ap (λ (db : Database). rows_under db me d.cursor) works ∙ of_rows.0) of_rows.1 refl)
 
     pub runs-inside : IsReadable (base m channel) → CountsFew outcome
-        → Ends m None (record { statement = statement; channel = channel; own = false; stage = Start; rows = 0; responses = 0; row = [] }) (shown (changed_inside m channel operation t outcome))
+        → SelectEnds m None (record { statement = statement; channel = channel; own = false; stage = Start; rows = 0; responses = 0; row = [] }) (shown (changed_inside m channel operation t outcome))
     runs-inside readable few =
         let d = declares-here readable s.reading in
-        subst (λ (n : Machine). Ends n None (plan Start 0) (shown (changed_inside m channel operation t outcome))) (machine-is (Some t) is)
+        subst (λ (n : Machine). SelectEnds n None (plan Start 0) (shown (changed_inside m channel operation t outcome))) (machine-is (Some t) is)
         (sends-ends (machine_with m channel s near there (Some t) s) (machine t (declares_so s.reading outcome).after) None (declares_so s.reading outcome).reply
         (plan Start 0) (plan Declaring 0) (asking channel (DeclareCursor object [] conditions)) (shown (changed_inside m channel operation t outcome))
         (by.begins (plan Start 0) ∙ by.declares (plan Start 0)) (asked-answer t s.reading s.chain outcome own works d) (declared-inside outcome d.is few))
@@ -155,7 +155,7 @@ module _ (m : Machine) (channel : ℕ) (s : Session) (near : channel ≤ 3) (the
 
     rolls-back : (t : Transaction) (reading : Reading) (last : Stage) (count : ℕ) (word : StatusWord) → (t.channel == channel) ≡ true
         → next_of (Some (said word)) (plan_outside last count) ≡ asks (RollingBack word) Rollback (plan_outside last count)
-        → Ends (machine_outside t reading) (Some (said word)) (plan_outside last count) (rolled word)
+        → SelectEnds (machine_outside t reading) (Some (said word)) (plan_outside last count) (rolled word)
     rolls-back t reading last count word own rolling =
         sends-ends (machine_outside t reading) (machine_with m channel s near there None (without_cursor (without_chain s))) (Some (said word)) (said done)
         (plan_outside last count) (plan_outside (RollingBack word) count) (asking channel Rollback) (rolled word) rolling (answer-rolled_back m channel s near there t (reads_so s reading) own)
@@ -184,7 +184,7 @@ module _ (m : Machine) (channel : ℕ) (s : Session) (near : channel ≤ 3) (the
       ran_outside c = ran_so c.transaction c.refusal
 
       ended-outside : (t : Transaction) (last : Stage) → (t.channel == channel) ≡ true → next_of (Some (said end_reached)) (plan_outside last (length d.rows)) ≡ finishes (plan_outside last (length d.rows))
-          → Ends (machine_outside t (at d.cursor End [])) (Some (said end_reached)) (plan_outside last (length d.rows)) (ran_outside (record { transaction = t; place = End; refusal = None }))
+          → SelectEnds (machine_outside t (at d.cursor End [])) (Some (said end_reached)) (plan_outside last (length d.rows)) (ran_outside (record { transaction = t; place = End; refusal = None }))
       ended-outside t last own finishing =
           let after : Machine = in_session (record m { committed = t.working; transaction = None }) channel (reads_so s (at d.cursor End [])) in
           commits-ends (machine_outside t (at d.cursor End [])) after (Some (said end_reached)) (said done) (t.working ∷ []) (plan_outside last (length d.rows)) (plan_outside Committing (length d.rows))
@@ -192,7 +192,7 @@ module _ (m : Machine) (channel : ℕ) (s : Session) (near : channel ≤ 3) (the
           (done-ends after (Some (said done)) (plan_outside Committing (length d.rows)) (plan_outside (Ended (Rows (length d.rows))) (length d.rows)) (Rows (length d.rows)) refl)
 
       refused-outside : (t : Transaction) (stamp count : ℕ) (word : StatusWord) → (t.channel == channel) ≡ true → is_refusal word ≡ true
-          → Ends (machine_outside t (at d.cursor (At stamp) [])) (Some (said word)) (plan_outside Changing count) (ran_outside (record { transaction = t; place = At stamp; refusal = Some word }))
+          → SelectEnds (machine_outside t (at d.cursor (At stamp) [])) (Some (said word)) (plan_outside Changing count) (ran_outside (record { transaction = t; place = At stamp; refusal = Some word }))
       refused-outside t stamp count word own refuses' =
           rolls-back t (at d.cursor (At stamp) []) Changing count word own
           (ap (λ refused. if refused then refuses Changing word (plan_outside Changing count) else accepts Changing word [] (plan_outside Changing count)) refuses')
@@ -208,22 +208,22 @@ module _ (m : Machine) (channel : ℕ) (s : Session) (near : channel ≤ 3) (the
           go (Some word) = rolled-is word
 
     declared-outside : (reading : Reading) (result : Result Declared StatusWord) → IsDeclared (base m channel) me result → CountsFew result
-        → Ends (machine_outside (begun m channel) (declares_so reading result).after) (Some (declares_so reading result).reply) (plan_outside Declaring 0) (shown (changed_at_once m channel operation result))
+        → SelectEnds (machine_outside (begun m channel) (declares_so reading result).after) (Some (declares_so reading result).reply) (plan_outside Declaring 0) (shown (changed_at_once m channel operation result))
     declared-outside reading (Err word) refuses' few =
-        subst (Ends (machine_outside (begun m channel) reading) (Some (said word)) (plan_outside Declaring 0)) (rolled-is word)
+        subst (SelectEnds (machine_outside (begun m channel) reading) (Some (said word)) (plan_outside Declaring 0)) (rolled-is word)
         (rolls-back (begun m channel) reading Declaring 0 word own-begun
         (ap (λ refused. if refused then refuses Declaring word (plan_outside Declaring 0) else accepts Declaring word [] (plan_outside Declaring 0)) refuses'))
     declared-outside reading (Ok d) of_rows few =
-        subst (Ends (machine_outside (begun m channel) (at d.cursor NotOpen [])) (Some (said done)) (plan_outside Declaring 0)) (ran-is d (changed_in m channel operation d (begun m channel)))
+        subst (SelectEnds (machine_outside (begun m channel) (at d.cursor NotOpen [])) (Some (said done)) (plan_outside Declaring 0)) (ran-is d (changed_in m channel operation d (begun m channel)))
         (opened-run m channel s near there statement object conditions operation by can true d.cursor me (length d.rows) few (ran_outside d) (ended-outside d) (refused-outside d) (begun m channel) d.rows own-begun
         (ap (λ (db : Database). who_in db s) works-committed ∙ acts-in) (ap (λ (db : Database). rows_under db me d.cursor) works-committed ∙ of_rows.0) of_rows.1 refl)
 
     pub runs-outside : IsReadable (base m channel) → CountsFew outcome
-        → Ends m None (record { statement = statement; channel = channel; own = true; stage = Start; rows = 0; responses = 0; row = [] }) (shown (changed_at_once m channel operation outcome))
+        → SelectEnds m None (record { statement = statement; channel = channel; own = true; stage = Start; rows = 0; responses = 0; row = [] }) (shown (changed_at_once m channel operation outcome))
     runs-outside readable few =
         let reading : Reading = record { cursor = s.reading.cursor; pending = [] } in
         let d = declares-here readable reading in
-        subst (λ (n : Machine). Ends n None (plan_outside Start 0) (shown (changed_at_once m channel operation outcome))) (machine-is None none)
+        subst (λ (n : Machine). SelectEnds n None (plan_outside Start 0) (shown (changed_at_once m channel operation outcome))) (machine-is None none)
         (sends-ends (machine_with m channel s near there None s) (machine_outside (begun m channel) reading) None (said done)
         (plan_outside Start 0) (plan_outside Beginning 0) (asking channel Begin) (shown (changed_at_once m channel operation outcome))
         (by.begins (plan_outside Start 0)) (answer-begun m channel s near there s)
@@ -233,14 +233,14 @@ module _ (m : Machine) (channel : ℕ) (s : Session) (near : channel ≤ 3) (the
 
   -- another channel's transaction stands against it
   pub runs-against : (t : Transaction) → m.transaction ≡ Some t → (t.channel == channel) ≡ false
-      → Ends m None (record { statement = statement; channel = channel; own = true; stage = Start; rows = 0; responses = 0; row = [] }) (shown (refused_on m channel conditions_not_satisfied))
+      → SelectEnds m None (record { statement = statement; channel = channel; own = true; stage = Start; rows = 0; responses = 0; row = [] }) (shown (refused_on m channel conditions_not_satisfied))
   runs-against t is other =
       let before : Planned = plan_at m channel s near there statement object conditions operation by can true Start 0 in
       let waiting : Planned = plan_at m channel s near there statement object conditions operation by can true Beginning 0 in
       let after : Machine = machine_with m channel s near there (Some t) (without_chain s) in
       let ran : Machine → Ran = λ n. record { rows = []; closing = Refused conditions_not_satisfied; machine = n; commits = [] } in
-      subst (λ (n : Machine). Ends n None before (shown (refused_on m channel conditions_not_satisfied))) (machine-is (Some t) is)
-      (subst (λ (n : Machine). Ends (machine_with m channel s near there (Some t) s) None before (ran n))
+      subst (λ (n : Machine). SelectEnds n None before (shown (refused_on m channel conditions_not_satisfied))) (machine-is (Some t) is)
+      (subst (λ (n : Machine). SelectEnds (machine_with m channel s near there (Some t) s) None before (ran n))
       (changed-session (Some t) m.committed without_chain ∙ ap (λ (t : Option Transaction). changing_session without_chain (record m { transaction = t }) channel) (sym is))
       (sends-ends (machine_with m channel s near there (Some t) s) after None (said conditions_not_satisfied) before waiting (asking channel Begin) (ran after)
       (by.begins before) (answer-waits m channel s near there t s other)

@@ -16,14 +16,14 @@ abbrev pub IsReading : Command → Type 0
 IsReading c = IsSome (reading_command c.operation c.le)
 
 -- a step sends a reading command, or it is the last
-abbrev pub Reads : Step → Type 0
-Reads (Send command) = IsReading command
-Reads (Row command) = IsReading command
-Reads ResetCard = ⊥
-Reads (Done closing) = Unit {0}
+abbrev pub IsReadingStep : Step → Type 0
+IsReadingStep (Send command) = IsReading command
+IsReadingStep (Row command) = IsReading command
+IsReadingStep ResetCard = ⊥
+IsReadingStep (Done closing) = Unit {0}
 
 -- a plan of a SELECT, which is in no transaction of its own, at such a step
 pub record IsReadingAt (p : Planned) (step : Step) : Type 0 where
   pub select : IsSelect p.statement
   pub own : p.own ≡ false
-  pub reads : Reads step
+  pub reads : IsReadingStep step

@@ -12,7 +12,7 @@ use Rattle.scql_model.specs.Opens.{Opens}
 use Rattle.scql_model.specs.Refusals.{◌>>=◌}
 use Rattle.scql_model.specs.Shown.{Shown, shown_on}
 use Rattle.scql_model.proofs.ReadingIsShown.{IsReadable-valid}
-use Rattle.card_link.specs.Link.{Holds, IsOver, LeavesOpen}
+use Rattle.card_link.specs.Link.{Holds, HasValidData, LeavesOpen}
 use Rattle.script.specs.declared.statement.Statement.{Statement}
 use Rattle.script.specs.declared.statement.Statement.TheVariants.{Select}
 use Rattle.planner.specs.declared.closing.Closing.{Closing}
@@ -23,8 +23,8 @@ use Rattle.planner.specs.Meaning.{meaning}
 use Rattle.planner.specs.Planned.{Planned, Turn, next_of, started}
 use Rattle.planner.specs.Selecting.{ShownRows, closing_given, rows_given, select_next, select_shown, shown_behind}
 use Rattle.planner.proofs.SelectsShown.{select-reads}
-use Rattle.card_asking.specs.Calls.{Answers}
-use Rattle.card_asking.specs.Giving.{Gives, GivesShown, IsNextRow, behind_step}
+use Rattle.card_asking.specs.Calls.{StillAnswers}
+use Rattle.card_asking.specs.Giving.{GivesRows, GivesShown, IsNextRow, behind_step}
 use Rattle.card_asking.proofs.Calls.{answers-both, holds-both, mutes-then}
 use Rattle.card_asking.proofs.Meant.{base-valid}
 use Rattle.card_asking.proofs.Moments.{leaves-none}
@@ -43,7 +43,7 @@ row-first c rows octets is =
     rw (read, is.split) refl
 
 -- the row of a step, and what is left behind it
-row-left : {L : Type 0} (is_at : L → Machine → Type 0) (m : Machine) (closing : Closing) (last : Machine) (rows : List Values) (p : Planned) (step : Step) (now : L) → Gives is_at m closing last rows p step now
+row-left : {L : Type 0} (is_at : L → Machine → Type 0) (m : Machine) (closing : Closing) (last : Machine) (rows : List Values) (p : Planned) (step : Step) (now : L) → GivesRows is_at m closing last rows p step now
     → row_at step p.row ++ behind_step step rows ≡ rows
 row-left is_at m closing last rows p (Send c) now gives = refl
 row-left is_at m closing last rows p (Row c) now gives = row-first c rows p.row (next-row is_at m closing last rows p c now gives)
@@ -51,7 +51,7 @@ row-left is_at m closing last rows p ResetCard now gives = refl
 row-left is_at m closing last rows p (Done closed) now gives = refl
 
 pub fetching-on : {L : Type 0} (is_at : L → Machine → Type 0) (m : Machine) (closing : Closing) (last : Machine) (all before after : List Values) (p q : Planned) (step next : Step) (old new : L)
-    → (f : IsFetching is_at m closing last all before p step old) → after ≡ before ++ row_at step p.row → Gives is_at m closing last (behind_step step f.left) q next new → IsFetching is_at m closing last all after q next new
+    → (f : IsFetching is_at m closing last all before p step old) → after ≡ before ++ row_at step p.row → GivesRows is_at m closing last (behind_step step f.left) q next new → IsFetching is_at m closing last all after q next new
 fetching-on is_at m closing last all before after p q step next old new f added gives = record {
   left = behind_step step f.left;
   split = ap (λ (rows : List Values). rows ++ behind_step step f.left) added
@@ -60,7 +60,7 @@ fetching-on is_at m closing last all before after p q step next old new f added 
 }
 
 -- none are fetched yet
-pub fetching-none : {L : Type 0} (is_at : L → Machine → Type 0) (m : Machine) (closing : Closing) (last : Machine) (all fetched : List Values) (p : Planned) (step : Step) (now : L) → fetched ≡ [] → Gives is_at m closing last all p step now
+pub fetching-none : {L : Type 0} (is_at : L → Machine → Type 0) (m : Machine) (closing : Closing) (last : Machine) (all fetched : List Values) (p : Planned) (step : Step) (now : L) → fetched ≡ [] → GivesRows is_at m closing last all p step now
     → IsFetching is_at m closing last all fetched p step now
 fetching-none is_at m closing last all fetched p step now none gives = record { left = all; split = ap (λ (rows : List Values). rows ++ all) none; gives = gives }
 
@@ -100,13 +100,13 @@ reads-moments is_at chip mark m old mid new r marked first second =
 pub holds-same : {L : Type 0} (chip : L → Chip) (mark : L → ℕ) (db now : Database) (l : L) → mark l ≡ (chip l).still.mark → IfSome (chip l).image (λ image. Opens image now) → now ≡ db → LeavesOpen (Holds (mark l) db) (chip l) (chip l)
 holds-same chip mark db now l marks opens same = leaves-none chip mark (Holds (mark l) db) l now marks opens (refl, same)
 
-pub ends-then : {L : Type 0} (A B : Type 0) (is_live : L → Bool) (faults : L → ℕ) (old mid new : L) (end : Unfetched) → Answers is_live faults old mid → EndsFetching {A = A} is_live faults (Err end) mid new → EndsFetching {A = B} is_live faults (Err end) old new
+pub ends-then : {L : Type 0} (A B : Type 0) (is_live : L → Bool) (faults : L → ℕ) (old mid new : L) (end : Unfetched) → StillAnswers is_live faults old mid → EndsFetching {A = A} is_live faults (Err end) mid new → EndsFetching {A = B} is_live faults (Err end) old new
 ends-then A B is_live faults old mid new (unfetched.Refused word) first second = answers-both is_live faults old mid new first second
 ends-then A B is_live faults old mid new unfetched.Mute first second = mutes-then is_live faults old mid new first second
 ends-then A B is_live faults old mid new unfetched.NoMemory first second = answers-both is_live faults old mid new first second
 
 -- however a plan closed the card answers
-pub ends-closed : {L : Type 0} (is_live : L → Bool) (faults : L → ℕ) (old new : L) (closed : Closing) (r : Result (Unit {0}) Unfetched) → r ≡ fetched_by closed → Answers is_live faults old new → EndsFetching is_live faults r old new
+pub ends-closed : {L : Type 0} (is_live : L → Bool) (faults : L → ℕ) (old new : L) (closed : Closing) (r : Result (Unit {0}) Unfetched) → r ≡ fetched_by closed → StillAnswers is_live faults old new → EndsFetching is_live faults r old new
 ends-closed {L} is_live faults old new closed r is answers = subst (λ (r : Result (Unit {0}) Unfetched). EndsFetching is_live faults r old new) (sym is) (go closed)
   where
     go : (closed : Closing) → EndsFetching is_live faults (fetched_by closed) old new
@@ -123,7 +123,7 @@ behind-objects s (Ok rows) = refl
 behind-objects s (Err word) = refl
 
 -- after a SELECT queries read as before it
-reads-behind : {L : Type 0} (is_at : L → Machine → Type 0) (m : Machine) (object : List ℕ) (columns : Columns) (now : L) → IsOver m → is_at now (meaning m 0 (Select object columns [])).machine → ReadsAs is_at m now
+reads-behind : {L : Type 0} (is_at : L → Machine → Type 0) (m : Machine) (object : List ℕ) (columns : Columns) (now : L) → HasValidData m → is_at now (meaning m 0 (Select object columns [])).machine → ReadsAs is_at m now
 unfolding select_next
 reads-behind is_at m object columns now over at =
     let reads = select-reads m 0 object columns [] over.basic (IsReadable-valid (base m 0) (base-valid m 0 over)) in
@@ -142,7 +142,7 @@ word-given : (given : Result ShownRows StatusWord) (word : StatusWord) → Err (
 word-given (Ok g) word ends = absurd cc
 word-given (Err other) word ends = cc
 
-module _ {L : Type 0} (is_at : L → Machine → Type 0) (m : Machine) (asked : AskedObject) (rows : List Values) (now : L) (over : IsOver m) where
+module _ {L : Type 0} (is_at : L → Machine → Type 0) (m : Machine) (asked : AskedObject) (rows : List Values) (now : L) (over : HasValidData m) where
   abbrev given : Result ShownRows StatusWord
   given = select_shown (shown_on m 0) asked.object asked.columns []
 
@@ -158,7 +158,7 @@ module _ {L : Type 0} (is_at : L → Machine → Type 0) (m : Machine) (asked : 
   object-unfetched unfetched.NoMemory f = tt
 
 -- a plan of a SELECT is at its first step
-pub gives-started : {L : Type 0} (is_at : L → Machine → Type 0) (m : Machine) (asked : AskedObject) (now : L) → IsOver m → CanBeAsked asked → is_at now m → (s : Statement) (start plan : Planned) (step : Step) → s ≡ Select asked.object asked.columns []
+pub gives-started : {L : Type 0} (is_at : L → Machine → Type 0) (m : Machine) (asked : AskedObject) (now : L) → HasValidData m → CanBeAsked asked → is_at now m → (s : Statement) (start plan : Planned) (step : Step) → s ≡ Select asked.object asked.columns []
     → start ≡ started s 0 false → next_of None start ≡ record { plan = plan; step = step } → GivesShown is_at m 0 asked.object asked.columns [] plan step now
 gives-started is_at m asked now over can at s start plan step is starts next =
     let turn : Turn = record { plan = plan; step = step } in

@@ -14,8 +14,8 @@ use Rattle.planner.specs.declared.closing.Closing.TheVariants.{Refused}
 use Rattle.planner.specs.declared.step.Step.{Step}
 use Rattle.planner.specs.declared.step.Step.TheVariants.{Row}
 use Rattle.planner.specs.Planned.{Planned}
-use Rattle.card_asking.specs.Calls.{Answers}
-use Rattle.card_asking.specs.Giving.{Gives}
+use Rattle.card_asking.specs.Calls.{StillAnswers}
+use Rattle.card_asking.specs.Giving.{GivesRows}
 use Rattle.query.specs.declared.query.AskedObject.{AskedObject}
 use Rattle.query_run.specs.declared.unfetched.Unfetched.{Unfetched}
 use Rattle.query_run.specs.declared.unfetched.Unfetched.TheVariants as unfetched
@@ -40,7 +40,7 @@ FetchesSo is_at m view shown (Err end) now = Unit {0}
 -- Fetching ends because the card is mute only where that failed.
 abbrev pub EndsFetching : {L A : Type 0} → (L → Bool) → (L → ℕ) → Result A Unfetched → L → L → Type 0
 EndsFetching is_live faults (Err unfetched.Mute) old new = Mutes is_live faults old new
-EndsFetching is_live faults result old new = Answers is_live faults old new
+EndsFetching is_live faults result old new = StillAnswers is_live faults old new
 
 -- how a plan ended: with all rows, or by a refusal
 abbrev pub fetched_by : Closing → Result (Unit {0}) Unfetched
@@ -65,7 +65,7 @@ GrowsByOne before now = (now ≡ before) ⊎ (now ≡ suc before)
 pub record IsFetching {L : Type 0} (is_at : L → Machine → Type 0) (m : Machine) (closing : Closing) (last : Machine) (all fetched : List Values) (p : Planned) (step : Step) (now : L) : Type 0 where
   pub left : List Values
   pub split : fetched ++ left ≡ all
-  pub gives : Gives is_at m closing last left p step now
+  pub gives : GivesRows is_at m closing last left p step now
 
 -- All rows were fetched, it ended as it was to, and the link is at that machine.
 pub record IsFetched {L : Type 0} (is_at : L → Machine → Type 0) (closing : Closing) (last : Machine) (all fetched : List Values) (r : Result (Unit {0}) Unfetched) (now : L) : Type 0 where

@@ -4,12 +4,12 @@ use Rattle.eeprom.specs.Chip.{Chip}
 use Rattle.eeprom.specs.Fault.{Rose}
 use Rattle.eeprom.specs.Output.{Prints}
 use Rattle.scql_model.specs.Machine.{Machine}
-use Rattle.card_link.specs.Link.{Gives}
+use Rattle.card_link.specs.Link.{AfterOutput}
 use Rattle.terminal.specs.Failing.{IsStart}
 
 -- output leads from one state of a desk to another
 pub record Leads {L : Type 0} (is_at : L → Machine → Type 0) (is_live : L → Bool) (faults mark : L → ℕ) (chip : L → Chip) (goes_on : L → L → Type 0) (old new : L) : Type 0 where
-  pub gives : Gives is_at is_live faults mark chip old new
+  pub gives : AfterOutput is_at is_live faults mark chip old new
   pub goes : goes_on old new
 
 -- a text was printed

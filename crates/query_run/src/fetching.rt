@@ -11,7 +11,7 @@ ghost use Rattle.planner.specs.declared.closing.Closing.{Closing as ModelClosing
 ghost use Rattle.planner.specs.Planned.{IfSent};
 ghost use Rattle.planner.specs.Turns.{IfGoesOn};
 ghost use Rattle.card_asking.specs.Following.{to_go};
-ghost use Rattle.card_asking.specs.Giving.{Gives};
+ghost use Rattle.card_asking.specs.Giving.{GivesRows};
 ghost use Rattle.query_run.specs.Fetching as model;
 ghost use Rattle.card_asking.specs.Calls.{HasGoneOn};
 ghost use Rattle.query_run.specs.Fetching.{CanBeAsked, EndsFetching, FetchesSo, GrowsByOne, IsFetched, IsFetching, IsStopped, UnlessStopped};
@@ -117,9 +117,9 @@ fn fetch_rows<L: CardLink, P: Person>(
     requires live { IsTrue (L.is_live link.old) }
     requires sendable { IfSent step.old IsSendable }
     requires none { rows.old.items ≡ [] }
-    ensures fetches { (m last : Machine) (closing : ModelClosing) (all : List Values) → Gives L.is_at m closing last all plan.old step.old link.old
+    ensures fetches { (m last : Machine) (closing : ModelClosing) (all : List Values) → GivesRows L.is_at m closing last all plan.old step.old link.old
         → UnlessStopped result (IsFetched L.is_at closing last all rows.new.items result link.new) }
-    ensures still { (m last : Machine) (closing : ModelClosing) (all : List Values) → Gives L.is_at m closing last all plan.old step.old link.old
+    ensures still { (m last : Machine) (closing : ModelClosing) (all : List Values) → GivesRows L.is_at m closing last all plan.old step.old link.old
         → LeavesOpen (Holds (L.mark link.old) m.committed) (L.chip link.old) (L.chip link.new) }
     ensures ends { EndsFetching L.is_live L.faults result link.old link.new }
     ensures rest { HasGoneOn L.mark L.keeps L.goes_on link.old link.new }

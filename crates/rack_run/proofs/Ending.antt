@@ -82,8 +82,8 @@ abbrev pub seen : {A R L : Type 0} → (A → R) → (A → Tally) → (R → Li
 seen rack tally readers current given sink a = record { readers = readers (rack a); current = current (rack a); given = given (rack a); sink = sink (rack a); tally = tally a }
 
 -- what answering lines tells, of the rack and of the person who is shown a prompt
-abbrev pub Answers : {A R L B P : Type 0} → (A → R) → (A → Tally) → (R → List (Reader L)) → (R → ℕ) → (R → Option (List ℕ)) → (R → ℕ) → (L → Machine → Type 0) → (L → Bool) → (L → ℕ) → (A → B) → (B → P) → (P → Bool) → (P → Option (List ℕ)) → (A → ℕ) → (A → ℕ) → A → List (Option (List ℕ)) → A → Type 0
-Answers rack tally readers current given sink is_at is_live faults lent person lost shown name name' a lines b =
+abbrev pub AnswersInRack : {A R L B P : Type 0} → (A → R) → (A → Tally) → (R → List (Reader L)) → (R → ℕ) → (R → Option (List ℕ)) → (R → ℕ) → (L → Machine → Type 0) → (L → Bool) → (L → ℕ) → (A → B) → (B → P) → (P → Bool) → (P → Option (List ℕ)) → (A → ℕ) → (A → ℕ) → A → List (Option (List ℕ)) → A → Type 0
+AnswersInRack rack tally readers current given sink is_at is_live faults lent person lost shown name name' a lines b =
     CarriesOut is_at is_live faults (seen rack tally readers current given sink a) lines (seen rack tally readers current given sink b)
     × Shows lost shown (prompts_behind (current (rack a)) lines) (person (lent a)) (person (lent b)) × (name b ≡ name a) × (name' b ≡ name' a)
 
@@ -151,12 +151,12 @@ cut-runs is_at is_live faults state octets a b c rack carries breaks =
 
 lines-runs : {A R L B P : Type 0} (rack : A → R) (tally : A → Tally) (readers : R → List (Reader L)) (current : R → ℕ) (given : R → Option (List ℕ)) (sink : R → ℕ) (is_at : L → Machine → Type 0) (is_live : L → Bool) (faults : L → ℕ)
     (lent : A → B) (person : B → P) (lost : P → Bool) (shown : P → Option (List ℕ)) (name name' : A → ℕ) (end' : InputEnd SinkFault) (old new : A) (first last : R) (start now : Option (List ℕ)) (status : RackStatus)
-    → tally old ≡ nothing_yet → rack old ≡ first → last ≡ rack new → status ≡ status_at end' (tally new) → IsRead (Answers rack tally readers current given sink is_at is_live faults lent person lost shown name name') (Stops rack tally readers current given sink is_at is_live faults lent name) end' old new start now
+    → tally old ≡ nothing_yet → rack old ≡ first → last ≡ rack new → status ≡ status_at end' (tally new) → IsRead (AnswersInRack rack tally readers current given sink is_at is_live faults lent person lost shown name name') (Stops rack tally readers current given sink is_at is_live faults lent name) end' old new start now
     → Runs is_at is_live faults status start now (readers first) (current first) (readers last) (current last) (given first) (given last)
 lines-runs {A} {R} {L} rack tally readers current given sink is_at is_live faults lent person lost shown name name' end' old new first last start now status fresh from to is read =
     subst (λ (r : R). Runs is_at is_live faults status start now (readers r) (current r) (readers last) (current last) (given r) (given last)) from
     (subst (λ (r : R). Runs is_at is_live faults status start now (readers (rack old)) (current (rack old)) (readers r) (current r) (given (rack old)) (given r)) (sym to) (go end' is read)) where
-      go : (e : InputEnd SinkFault) → status ≡ status_at e (tally new) → IsRead (Answers rack tally readers current given sink is_at is_live faults lent person lost shown name name') (Stops rack tally readers current given sink is_at is_live faults lent name) e old new start now
+      go : (e : InputEnd SinkFault) → status ≡ status_at e (tally new) → IsRead (AnswersInRack rack tally readers current given sink is_at is_live faults lent person lost shown name name') (Stops rack tally readers current given sink is_at is_live faults lent name) e old new start now
           → Runs is_at is_live faults status start now (readers (rack old)) (current (rack old)) (readers (rack new)) (current (rack new)) (given (rack old)) (given (rack new))
       go input_ends.Ended is read =
           ended-runs is_at is_live faults status read.0 start now (seen rack tally readers current given sink old) (seen rack tally readers current given sink new) (subst IsEnded (sym is) (is-ended (tally new).muted (tally new).refused)) read.2 read.3 fresh is read.1.0
@@ -180,14 +180,14 @@ lines-runs {A} {R} {L} rack tally readers current given sink is_at is_live fault
 -- What a person was shown of the prompts.
 lines-prompts : {A R L B P : Type 0} (rack : A → R) (tally : A → Tally) (readers : R → List (Reader L)) (current : R → ℕ) (given : R → Option (List ℕ)) (sink : R → ℕ) (is_at : L → Machine → Type 0) (is_live : L → Bool) (faults : L → ℕ)
     (lent : A → B) (person : B → P) (lost : P → Bool) (shown : P → Option (List ℕ)) (name name' : A → ℕ) (end' : InputEnd SinkFault) (old new : A) (before after : P) (number : ℕ) (start now : Option (List ℕ)) (status : RackStatus)
-    → current (rack old) ≡ number → Shows lost shown (prompt number) before (person (lent old)) → after ≡ person (lent new) → status ≡ status_at end' (tally new) → IsRead (Answers rack tally readers current given sink is_at is_live faults lent person lost shown name name') (Stops rack tally readers current given sink is_at is_live faults lent name) end' old new start now
+    → current (rack old) ≡ number → Shows lost shown (prompt number) before (person (lent old)) → after ≡ person (lent new) → status ≡ status_at end' (tally new) → IsRead (AnswersInRack rack tally readers current given sink is_at is_live faults lent person lost shown name name') (Stops rack tally readers current given sink is_at is_live faults lent name) end' old new start now
     → ShowsPrompts lost shown status start now number before after
 lines-prompts {A} {R} {L} {B} {P} rack tally readers current given sink is_at is_live faults lent person lost shown name name' end' old new before after number start now status from prompted to is read =
     subst (λ (p : P). ShowsPrompts lost shown status start now number before p) (sym to) (go end' is read) where
       all : (lines : List (Option (List ℕ))) (last : P) → Shows lost shown (prompts_behind (current (rack old)) lines) (person (lent old)) last → Shows lost shown (prompts number lines) before last
       all lines last behind = shows-then lost shown (prompt number) (prompts_behind number lines) before (person (lent old)) last prompted (subst (λ (n : ℕ). Shows lost shown (prompts_behind n lines) (person (lent old)) last) from behind)
 
-      go : (e : InputEnd SinkFault) → status ≡ status_at e (tally new) → IsRead (Answers rack tally readers current given sink is_at is_live faults lent person lost shown name name') (Stops rack tally readers current given sink is_at is_live faults lent name) e old new start now → ShowsPrompts lost shown status start now number before (person (lent new))
+      go : (e : InputEnd SinkFault) → status ≡ status_at e (tally new) → IsRead (AnswersInRack rack tally readers current given sink is_at is_live faults lent person lost shown name name') (Stops rack tally readers current given sink is_at is_live faults lent name) e old new start now → ShowsPrompts lost shown status start now number before (person (lent new))
       go input_ends.Ended is read =
           let ended : IsEnded status = subst IsEnded (sym is) (is-ended (tally new).muted (tally new).refused) in
           record {
@@ -211,12 +211,12 @@ module _ {A R L B P : Type 0} (rack : A → R) (tally : A → Tally) (readers : 
     (lent : A → B) (person : B → P) (lost : P → Bool) (shown : P → Option (List ℕ)) (name name' : A → ℕ) (told : A → A → Type 0) where
   abbrev pub Reads : InputEnd SinkFault → A → A → Option (List ℕ) → Option (List ℕ) → Type 0
   Reads =
-      IsRead (λ (a : A) (lines : List (Option (List ℕ))) (b : A). Answers rack tally readers current given sink is_at is_live faults lent person lost shown name name' a lines b × told a b)
+      IsRead (λ (a : A) (lines : List (Option (List ℕ))) (b : A). AnswersInRack rack tally readers current given sink is_at is_live faults lent person lost shown name name' a lines b × told a b)
       (λ (a : A) (line : Option (List ℕ)) (stop : SinkFault) (b : A). Stops rack tally readers current given sink is_at is_live faults lent name a line stop b × told a b)
 
   weaker : (end' : InputEnd SinkFault) (old new : A) (start now : Option (List ℕ)) → Reads end' old new start now
-      → IsRead (Answers rack tally readers current given sink is_at is_live faults lent person lost shown name name') (Stops rack tally readers current given sink is_at is_live faults lent name) end' old new start now
-  weaker end' old new start now read = read-weaker (λ (a : A) (lines : List (Option (List ℕ))) (b : A). Answers rack tally readers current given sink is_at is_live faults lent person lost shown name name' a lines b × told a b) (Answers rack tally readers current given sink is_at is_live faults lent person lost shown name name')
+      → IsRead (AnswersInRack rack tally readers current given sink is_at is_live faults lent person lost shown name name') (Stops rack tally readers current given sink is_at is_live faults lent name) end' old new start now
+  weaker end' old new start now read = read-weaker (λ (a : A) (lines : List (Option (List ℕ))) (b : A). AnswersInRack rack tally readers current given sink is_at is_live faults lent person lost shown name name' a lines b × told a b) (AnswersInRack rack tally readers current given sink is_at is_live faults lent person lost shown name name')
       (λ (a : A) (line : Option (List ℕ)) (stop : SinkFault) (b : A). Stops rack tally readers current given sink is_at is_live faults lent name a line stop b × told a b) (Stops rack tally readers current given sink is_at is_live faults lent name)
       (λ a lines b both. both.0) (λ a line stop b both. both.0) end' old new start now read
 

@@ -33,12 +33,12 @@ pub record IsOwn (number : ℕ) (rack : RackState) (state : TerminalState) (turn
   pub text : turn.fails ≡ None → (turn_effect rack turn).text ≡ (statement_effect state turn.line).text
   pub held : turn.fails ≡ None → (turn_effect rack turn).next.reader number ≡ sits (statement_effect state turn.line).next
 
-abbrev pub Goes : ℕ → RackState → TerminalState → Turn → Type 0
-Goes number rack state turn = (ejects number turn.line ≡ true) ⊎ Passes number rack state turn ⊎ IsOwn number rack state turn
+abbrev pub GoesForReader : ℕ → RackState → TerminalState → Turn → Type 0
+GoesForReader number rack state turn = (ejects number turn.line ≡ true) ⊎ Passes number rack state turn ⊎ IsOwn number rack state turn
 
-pub goes : (number : ℕ) (rack : RackState) (state : TerminalState) (turn : Turn) → rack.reader number ≡ sits state → Goes number rack state turn
+pub goes : (number : ℕ) (rack : RackState) (state : TerminalState) (turn : Turn) → rack.reader number ≡ sits state → GoesForReader number rack state turn
 goes number rack state turn holds = at-line turn.line turn.fails where
-  at-eject : (line : List ℕ) (fails : Option ℕ) (m : ℕ) → rack_statement line ≡ Some (Eject m) → (b : Bool) → (m == number) ≡ b → Goes number rack state (record { line = Some line; fails = fails })
+  at-eject : (line : List ℕ) (fails : Option ℕ) (m : ℕ) → rack_statement line ≡ Some (Eject m) → (b : Bool) → (m == number) ≡ b → GoesForReader number rack state (record { line = Some line; fails = fails })
   at-eject line fails m is true e = inl (ap (is_eject_of number) is ∙ e)
   at-eject line fails m is false e = inr (inl (record {
     stays = ap (is_eject_of number) is ∙ e;
@@ -46,7 +46,7 @@ goes number rack state turn holds = at-line turn.line turn.fails where
     held = ap (λ (s : Option RackStatement). (taken rack s line fails).next.reader number) is ∙ (kept rack number m (ejected (rack.reader m)).next e ∙ holds);
   }))
 
-  at-other : (line : List ℕ) (fails : Option ℕ) → rack_statement line ≡ None → (b : Bool) → (rack.current == number) ≡ b → Goes number rack state (record { line = Some line; fails = fails })
+  at-other : (line : List ℕ) (fails : Option ℕ) → rack_statement line ≡ None → (b : Bool) → (rack.current == number) ≡ b → GoesForReader number rack state (record { line = Some line; fails = fails })
   at-other line fails is true e =
       let here : rack.current ≡ number = eqb-true rack.current number e in
       let at : rack.reader rack.current ≡ sits state = ap rack.reader here ∙ holds in
@@ -66,7 +66,7 @@ goes number rack state turn holds = at-line turn.line turn.fails where
     held = ap (λ (s : Option RackStatement). (taken rack s line fails).next.reader number) is ∙ (kept rack number rack.current (asked (rack.reader rack.current) line fails).next e ∙ holds);
   }))
 
-  at-statement : (line : List ℕ) (fails : Option ℕ) (s : Option RackStatement) → rack_statement line ≡ s → Goes number rack state (record { line = Some line; fails = fails })
+  at-statement : (line : List ℕ) (fails : Option ℕ) (s : Option RackStatement) → rack_statement line ≡ s → GoesForReader number rack state (record { line = Some line; fails = fails })
   at-statement line fails (Some (Select m)) is = inr (inl (record {
     stays = ap (is_eject_of number) is;
     others = ap (λ (s : Option RackStatement). is_none s && rack.current == number) is;
@@ -75,7 +75,7 @@ goes number rack state turn holds = at-line turn.line turn.fails where
   at-statement line fails (Some (Eject m)) is = at-eject line fails m is (m == number) refl
   at-statement line fails None is = at-other line fails is (rack.current == number) refl
 
-  at-line : (line : Option (List ℕ)) (fails : Option ℕ) → Goes number rack state (record { line = line; fails = fails })
+  at-line : (line : Option (List ℕ)) (fails : Option ℕ) → GoesForReader number rack state (record { line = line; fails = fails })
   at-line None fails = inr (inl (record { stays = refl; others = refl; held = holds }))
   at-line (Some line) fails = at-statement line fails (rack_statement line) refl
 
@@ -85,7 +85,7 @@ IsTerminals state own = concat (map (λ (o : OwnTurn). o.text) own) ≡ statemen
 
 with-turn : (number : ℕ) (rack : RackState) (state : TerminalState) (turn : Turn) (turns : List Turn)
     → ((rack' : RackState) (state' : TerminalState) → rack'.reader number ≡ sits state' → AreSound (own_turns number rack' turns) → IsTerminals state' (own_turns number rack' turns))
-    → Goes number rack state turn → AreSound (own_turns number rack (turn ∷ turns)) → IsTerminals state (own_turns number rack (turn ∷ turns))
+    → GoesForReader number rack state turn → AreSound (own_turns number rack (turn ∷ turns)) → IsTerminals state (own_turns number rack (turn ∷ turns))
 with-turn number rack state turn turns rest (inl ends) sound =
     let own : OwnTurn = record { turn = turn; text = (turn_effect rack turn).text } in
     let same : own_turns number rack (turn ∷ turns) ≡ [] = ap (λ (b : Bool). if b then [] else with_own (is_for number rack turn.line) own (own_turns number (turn_effect rack turn).next turns)) ends in

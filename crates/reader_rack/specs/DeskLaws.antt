@@ -3,7 +3,7 @@ use Rattle.std.proofs.Common.{◌≡◌, ℕ, Bool, sym, ap, subst, arith}
 use Rattle.std.proofs.lemmas.Option.{none-some}
 use Rattle.eeprom.specs.Chip.{LeftSince, MayBeLeftSince}
 use Rattle.scql_model.specs.Machine.{Machine}
-use Rattle.card_link.specs.Link.{Gives, LeavesOpen}
+use Rattle.card_link.specs.Link.{AfterOutput, LeavesOpen}
 use Rattle.scql_model.specs.Database.{Database}
 use Rattle.reader_rack.specs.Desks.{untold}
 
@@ -14,7 +14,7 @@ leaves-untold P = record { later = omega arith; only = λ t g left early there. 
 
 -- what leaves the link is a piece of output that leaves the card
 pub gives-untold : {D L : Type 0} (link : D → L) (is_at : L → Machine → Type 0) (is_live : L → Bool) (faults : L → ℕ) (old new : D) → link new ≡ link old
-    → Gives (λ d. is_at (link d)) (λ d. is_live (link d)) (λ d. faults (link d)) (λ d. 0) (λ d. untold) old new
+    → AfterOutput (λ d. is_at (link d)) (λ d. is_live (link d)) (λ d. faults (link d)) (λ d. 0) (λ d. untold) old new
 gives-untold link is_at is_live faults old new same = record {
   machine = λ m at. subst (λ l. is_at l m) (sym same) at;
   live = ap is_live same;

@@ -13,30 +13,30 @@ use Rattle.script.specs.Reading.{octets_of, behind, Rule, gives, fault, continue
 use Rattle.script.specs.Meanings.{is_among, new_name_of}
 
 -- a rule reads only what has a property
-pub record Reads {A : Type 0} (P : A → Type 0) (r : Rule A) : Type 0 where
+pub record RuleGives {A : Type 0} (P : A → Type 0) (r : Rule A) : Type 0 where
   pub found : (tokens : List Token) → IfSome (r tokens).0 P
 
-pub gives-reads : {A : Type 0} (P : A → Type 0) (x : A) → P x → Reads P (gives x)
+pub gives-reads : {A : Type 0} (P : A → Type 0) (x : A) → P x → RuleGives P (gives x)
 gives-reads P x is = record { found = λ tokens. is }
 
-pub fault-reads : {A : Type 0} (P : A → Type 0) → Reads P fault
+pub fault-reads : {A : Type 0} (P : A → Type 0) → RuleGives P fault
 fault-reads P = record { found = λ tokens. tt }
 
-pub after-reads : {A : Type 0} (P : A → Type 0) (text : List ℕ) (r s : Rule A) → Reads P r → Reads P s → Reads P (after text r s)
+pub after-reads : {A : Type 0} (P : A → Type 0) (text : List ℕ) (r s : Rule A) → RuleGives P r → RuleGives P s → RuleGives P (after text r s)
 after-reads {A} P text r s r-reads s-reads = record { found = λ tokens. go tokens (is_next text tokens) }
   where
     go : (tokens : List Token) (next : Bool) → IfSome (if next then r (behind tokens) else s tokens).0 P
     go tokens true = r-reads.found (behind tokens)
     go tokens false = s-reads.found tokens
 
-pub bind-reads : {A B : Type 0} (Q : A → Type 0) (P : B → Type 0) (r : Rule A) (f : A → Rule B) → Reads Q r → ((x : A) → Q x → Reads P (f x)) → Reads P (r >>= f)
+pub bind-reads : {A B : Type 0} (Q : A → Type 0) (P : B → Type 0) (r : Rule A) (f : A → Rule B) → RuleGives Q r → ((x : A) → Q x → RuleGives P (f x)) → RuleGives P (r >>= f)
 bind-reads {A} {B} Q P r f r-reads f-reads = record { found = λ tokens. go (r tokens).0 (r tokens).1 (r-reads.found tokens) }
   where
     go : (x : Option A) (rest : List Token) → IfSome x Q → IfSome (continued f x rest).0 P
     go None rest is = tt
     go (Some x) rest is = (f-reads x is).found rest
 
-pub one-reads : {A : Type 0} (P : A → Type 0) (meaning : List ℕ → Option A) → ((octets : List ℕ) → IfSome (meaning octets) P) → Reads P (one meaning)
+pub one-reads : {A : Type 0} (P : A → Type 0) (meaning : List ℕ → Option A) → ((octets : List ℕ) → IfSome (meaning octets) P) → RuleGives P (one meaning)
 unfolding one
 one-reads {A} P meaning all = record { found = λ tokens. go tokens (meaning (octets_of tokens)) (all (octets_of tokens)) }
   where
@@ -45,7 +45,7 @@ one-reads {A} P meaning all = record { found = λ tokens. go tokens (meaning (oc
     go tokens (Some x) is = is
 
 pub optional-reads : {A : Type 0} (P : A → Type 0) (meaning : List ℕ → Option A) (otherwise : A) → ((octets : List ℕ) → IfSome (meaning octets) P) → P otherwise
-    → Reads P (optional meaning otherwise)
+    → RuleGives P (optional meaning otherwise)
 unfolding optional
 optional-reads {A} P meaning otherwise all is-otherwise = record { found = λ tokens. go tokens (meaning (octets_of tokens)) (all (octets_of tokens)) }
   where
@@ -56,14 +56,14 @@ optional-reads {A} P meaning otherwise all is-otherwise = record { found = λ to
 abbrev pub Anything : (A : Type 0) → A → Type 0
 Anything A x = Unit {0}
 
-pub the-reads : (text : List ℕ) → Reads (Anything (Unit {0})) (the text)
+pub the-reads : (text : List ℕ) → RuleGives (Anything (Unit {0})) (the text)
 unfolding the
 the-reads text = after-reads (Anything (Unit {0})) text (gives tt) fault (gives-reads (Anything (Unit {0})) tt tt) (fault-reads (Anything (Unit {0})))
 
 -- a list has so many items and a form; with each item it has one more and the form still
 pub more-reads : {A : Type 0} (P : ℕ → A → Type 0) (Q : A → Type 0) (n most k : ℕ) (separator : List ℕ) (item : A → Rule A) (items : A)
-    → ((k : ℕ) (items : A) → P k items → Reads (P (k + 1)) (item items)) → ((k : ℕ) (items : A) → k ≤ most → P k items → Q items)
-    → k + n ≤ most → P k items → Reads Q (more n separator item items)
+    → ((k : ℕ) (items : A) → P k items → RuleGives (P (k + 1)) (item items)) → ((k : ℕ) (items : A) → k ≤ most → P k items → Q items)
+    → k + n ≤ most → P k items → RuleGives Q (more n separator item items)
 unfolding more
 more-reads P Q zero most k separator item items grows ends fits is = gives-reads Q items (ends k items (omega (arith, fits)) is)
 more-reads P Q (suc n) most k separator item items grows ends fits is =
@@ -71,7 +71,7 @@ more-reads P Q (suc n) most k separator item items grows ends fits is =
     (bind-reads (P (k + 1)) Q (item items) (more n separator item) (grows k items is) (λ longer has. more-reads P Q n most (k + 1) separator item longer grows ends (omega (arith, fits)) has))
     (gives-reads Q items (ends k items (omega (arith, fits)) is))
 
-pub weaker-reads : {A : Type 0} (P Q : A → Type 0) (r : Rule A) → ((x : A) → P x → Q x) → Reads P r → Reads Q r
+pub weaker-reads : {A : Type 0} (P Q : A → Type 0) (r : Rule A) → ((x : A) → P x → Q x) → RuleGives P r → RuleGives Q r
 weaker-reads {A} P Q r gives-it reads = record { found = λ tokens. go (r tokens).0 (reads.found tokens) }
   where
     go : (x : Option A) → IfSome x P → IfSome x Q
@@ -79,8 +79,8 @@ weaker-reads {A} P Q r gives-it reads = record { found = λ tokens. go (r tokens
     go (Some x) is = gives-it x is
 
 pub listed-reads : {A : Type 0} (P : ℕ → A → Type 0) (Q : A → Type 0) (most : ℕ) (separator : List ℕ) (item : A → Rule A) (none : A)
-    → ((k : ℕ) (items : A) → P k items → Reads (P (k + 1)) (item items)) → ((k : ℕ) (items : A) → 1 ≤ k → k ≤ most → P k items → Q items)
-    → 1 ≤ most → P 0 none → Reads Q (listed most separator item none)
+    → ((k : ℕ) (items : A) → P k items → RuleGives (P (k + 1)) (item items)) → ((k : ℕ) (items : A) → 1 ≤ k → k ≤ most → P k items → Q items)
+    → 1 ≤ most → P 0 none → RuleGives Q (listed most separator item none)
 unfolding listed
 listed-reads {A} P Q most separator item none grows ends some is =
     bind-reads (P 1) Q (item none) (more (most - 1) separator item) (grows 0 none is)
@@ -90,7 +90,7 @@ listed-reads {A} P Q most separator item none grows ends some is =
     Some-of : ℕ → A → Type 0
     Some-of k items = (1 ≤ k) × P k items
 
-    grows-of : (k : ℕ) (items : A) → Some-of k items → Reads (Some-of (k + 1)) (item items)
+    grows-of : (k : ℕ) (items : A) → Some-of k items → RuleGives (Some-of (k + 1)) (item items)
     grows-of k items of = weaker-reads (P (k + 1)) (Some-of (k + 1)) (item items) (λ x is. (omega arith, is)) (grows k items of.1)
 
 -- Names.

@@ -27,13 +27,13 @@ use Rattle.script.specs.Reading.{is_end, Rule, gives, fault, ◌>>=◌, one, opt
 use Rattle.script.specs.Meanings.{literal_of, text_of, hexadecimal_of, undoubled, presented, given, presented_secret_of, given_secret_of, comparison_of, privilege_of, profile_of, subject_of, further_channel_of, channel_of, new_name_of}
 use Rattle.script.specs.Grammar as grammar
 use Rattle.script.specs.Grammar.{name, literal, with_name, names, columns, with_condition, conditions, where_conditions, with_literal, literals, with_change, changes, with_privilege, privileges, create_table, create_view, create_dictionary, create_user, create, drop_table, drop_view, dropping, grant, revoke, insert, select, update, delete_rows, delete_user, delete, present, verify, open_channel, close_channel, use_channel, about_channels, about_transactions, about_users, about_objects, about_rows, statement, at_end, whole}
-use Rattle.script.proofs.Formed.{Reads, gives-reads, fault-reads, after-reads, bind-reads, one-reads, optional-reads, Anything, the-reads, listed-reads, weaker-reads, name_of-is, IsNew, new_name_of-is, AreNames, no_names, name-added}
+use Rattle.script.proofs.Formed.{RuleGives, gives-reads, fault-reads, after-reads, bind-reads, one-reads, optional-reads, Anything, the-reads, listed-reads, weaker-reads, name_of-is, IsNew, new_name_of-is, AreNames, no_names, name-added}
 
 pub either : {A : Type 0} (P : A → Type 0) (b : Bool) (x y : Option A) → IfSome x P → IfSome y P → IfSome (if b then x else y) P
 either P true x y is-x is-y = is-x
 either P false x y is-x is-y = is-y
 
-pub any-reads : {A : Type 0} (meaning : List ℕ → Option A) → Reads (Anything A) (one meaning)
+pub any-reads : {A : Type 0} (meaning : List ℕ → Option A) → RuleGives (Anything A) (one meaning)
 any-reads {A} meaning = one-reads (Anything A) meaning (λ octets. go (meaning octets))
   where
     go : (x : Option A) → IfSome x (Anything A)
@@ -41,11 +41,11 @@ any-reads {A} meaning = one-reads (Anything A) meaning (λ octets. go (meaning o
     go (Some x) = tt
 
 -- names
-pub name-reads : Reads IsName grammar.name
+pub name-reads : RuleGives IsName grammar.name
 unfolding name
 name-reads = one-reads IsName name_of name_of-is
 
-with_name-reads : (count : ℕ) (names : List (List ℕ)) → AreNames count names → Reads (AreNames (count + 1)) (grammar.with_name names)
+with_name-reads : (count : ℕ) (names : List (List ℕ)) → AreNames count names → RuleGives (AreNames (count + 1)) (grammar.with_name names)
 unfolding with_name
 with_name-reads count names are =
     bind-reads (IsNew names) (AreNames (count + 1)) (one (new_name_of names)) (λ name. gives (names ++ name ∷ [])) (one-reads (IsNew names) (new_name_of names) (new_name_of-is names))
@@ -58,7 +58,7 @@ AreColumns-of : (count : ℕ) (names : List (List ℕ)) → 1 ≤ count → coun
 AreColumns-of count names some few are =
     rw (are.named, are.different, le-leb 1 (length names) (rw are.counted some), le-leb (length names) 15 (rw are.counted few)) refl
 
-pub names-reads : Reads AreColumns grammar.names
+pub names-reads : RuleGives AreColumns grammar.names
 unfolding names
 names-reads = listed-reads AreNames AreColumns 15 (codes ",") grammar.with_name [] with_name-reads AreColumns-of (lit≤ tt) no_names
 
@@ -70,7 +70,7 @@ chosen-of columns are =
     let parts = and_parts (is_count_of_columns (length columns)) _ are in
     rw ((and_parts (nat_le 1 (length columns)) _ parts.0).1, parts.1) refl
 
-pub columns-reads : Reads AreChosen grammar.columns
+pub columns-reads : RuleGives AreChosen grammar.columns
 unfolding columns
 columns-reads = after-reads AreChosen (codes "*") (gives []) grammar.names (gives-reads AreChosen [] refl) (weaker-reads AreColumns AreChosen grammar.names chosen-of names-reads)
 
@@ -109,7 +109,7 @@ literal_of-narrow octets =
     (either IsNarrow (starts_with nat_eq octets (codes "X'") && nat_lt 2 (length octets)) (hexadecimal_of (slice_range octets 2 (length octets - 1))) None
     (hexadecimal_of-narrow (slice_range octets 2 (length octets - 1))) tt))
 
-pub literal-reads : Reads IsNarrow grammar.literal
+pub literal-reads : RuleGives IsNarrow grammar.literal
 unfolding literal
 literal-reads = one-reads IsNarrow literal_of literal_of-narrow
 
@@ -118,7 +118,7 @@ pub record AreValues (count : ℕ) (values : List (List ℕ)) : Type 0 where
   pub counted : length values ≡ count
   pub narrow : list_all is_narrow values ≡ true
 
-with_literal-reads : (count : ℕ) (values : List (List ℕ)) → AreValues count values → Reads (AreValues (count + 1)) (grammar.with_literal values)
+with_literal-reads : (count : ℕ) (values : List (List ℕ)) → AreValues count values → RuleGives (AreValues (count + 1)) (grammar.with_literal values)
 unfolding with_literal
 with_literal-reads count values are =
     bind-reads IsNarrow (AreValues (count + 1)) grammar.literal (λ value. gives (values ++ value ∷ [])) literal-reads
@@ -131,7 +131,7 @@ pub record AreRowValues (values : List (List ℕ)) : Type 0 where
   pub count : is_count_of_columns (length values) ≡ true
   pub narrow : list_all is_narrow values ≡ true
 
-pub literals-reads : Reads AreRowValues grammar.literals
+pub literals-reads : RuleGives AreRowValues grammar.literals
 unfolding literals
 literals-reads =
     listed-reads AreValues AreRowValues 15 (codes ",") grammar.with_literal [] with_literal-reads
@@ -146,7 +146,7 @@ pub record AreSome (count : ℕ) (conditions : List Condition) : Type 0 where
   pub counted : length conditions ≡ count
   pub formed : list_all is_condition conditions ≡ true
 
-with_condition-reads : (count : ℕ) (conditions : List Condition) → AreSome count conditions → Reads (AreSome (count + 1)) (grammar.with_condition conditions)
+with_condition-reads : (count : ℕ) (conditions : List Condition) → AreSome count conditions → RuleGives (AreSome (count + 1)) (grammar.with_condition conditions)
 unfolding with_condition
 with_condition-reads count conditions are =
     bind-reads IsName (AreSome (count + 1)) grammar.name _ name-reads
@@ -161,14 +161,14 @@ with_condition-reads count conditions are =
 abbrev pub AreConditions : List Condition → Type 0
 AreConditions conditions = are_conditions conditions ≡ true
 
-conditions-reads : Reads AreConditions grammar.conditions
+conditions-reads : RuleGives AreConditions grammar.conditions
 unfolding conditions
 conditions-reads =
     listed-reads AreSome AreConditions 8 (codes "AND") grammar.with_condition [] with_condition-reads
     (λ count conditions some few are. rw (le-leb (length conditions) 8 (rw are.counted few)) are.formed)
     (lit≤ tt) (record { counted = refl; formed = refl })
 
-pub where_conditions-reads : Reads AreConditions grammar.where_conditions
+pub where_conditions-reads : RuleGives AreConditions grammar.where_conditions
 unfolding where_conditions
 where_conditions-reads = after-reads AreConditions (codes "WHERE") grammar.conditions (gives []) conditions-reads (gives-reads AreConditions [] refl)
 
@@ -190,7 +190,7 @@ map-added : (changes : List Change) (change : Change) → map column_of (changes
 map-added [] change = refl
 map-added (first ∷ changes) change = ap (λ rest. column_of first ∷ rest) (map-added changes change)
 
-with_change-reads : (count : ℕ) (changes : List Change) → AreSomeChanges count changes → Reads (AreSomeChanges (count + 1)) (grammar.with_change changes)
+with_change-reads : (count : ℕ) (changes : List Change) → AreSomeChanges count changes → RuleGives (AreSomeChanges (count + 1)) (grammar.with_change changes)
 unfolding with_change
 with_change-reads count changes are =
     let others = map column_of changes in
@@ -205,7 +205,7 @@ with_change-reads count changes are =
 abbrev pub AreChanges : List Change → Type 0
 AreChanges changes = are_changes changes ≡ true
 
-pub changes-reads : Reads AreChanges grammar.changes
+pub changes-reads : RuleGives AreChanges grammar.changes
 unfolding changes
 changes-reads =
     listed-reads AreSomeChanges AreChanges 15 (codes ",") grammar.with_change [] with_change-reads
@@ -227,7 +227,7 @@ privilege_of-is octets = go (bytes_eq octets (codes "SELECT")) (bytes_eq octets 
     go false false false true = (lit≤ tt, lit< tt)
     go false false false false = tt
 
-with_privilege-reads : (count bits : ℕ) → AreBits count bits → Reads (AreBits (count + 1)) (grammar.with_privilege bits)
+with_privilege-reads : (count bits : ℕ) → AreBits count bits → RuleGives (AreBits (count + 1)) (grammar.with_privilege bits)
 unfolding with_privilege
 with_privilege-reads count bits are =
     bind-reads (λ bit. (1 ≤ bit) × (bit < 16)) (AreBits (count + 1)) (one privilege_of) _ (one-reads _ privilege_of privilege_of-is)
@@ -239,7 +239,7 @@ with_privilege-reads count bits are =
 abbrev pub ArePrivileges : ℕ → Type 0
 ArePrivileges bits = is_privileges bits ≡ true
 
-pub privileges-reads : Reads ArePrivileges grammar.privileges
+pub privileges-reads : RuleGives ArePrivileges grammar.privileges
 unfolding privileges
 privileges-reads =
     listed-reads AreBits ArePrivileges 500 (codes ",") grammar.with_privilege 0 with_privilege-reads
@@ -347,162 +347,162 @@ IsFormed Blank = Unit {0}
 IsFormed Reset = Unit {0}
 
 -- a rule goes on behind a name, or behind a word
-named : (f : List ℕ → Rule Statement) → ((x : List ℕ) → IsName x → Reads IsFormed (f x)) → Reads IsFormed (grammar.name >>= f)
+named : (f : List ℕ → Rule Statement) → ((x : List ℕ) → IsName x → RuleGives IsFormed (f x)) → RuleGives IsFormed (grammar.name >>= f)
 named f so = bind-reads IsName IsFormed grammar.name f name-reads so
 
-worded : (text : List ℕ) (f : Unit {0} → Rule Statement) → Reads IsFormed (f tt) → Reads IsFormed (the text >>= f)
+worded : (text : List ℕ) (f : Unit {0} → Rule Statement) → RuleGives IsFormed (f tt) → RuleGives IsFormed (the text >>= f)
 worded text f so = bind-reads (Anything (Unit {0})) IsFormed (the text) f (the-reads text) (λ sign any. so)
 
-choice : (text : List ℕ) (r s : Rule Statement) → Reads IsFormed r → Reads IsFormed s → Reads IsFormed (after text r s)
+choice : (text : List ℕ) (r s : Rule Statement) → RuleGives IsFormed r → RuleGives IsFormed s → RuleGives IsFormed (after text r s)
 choice text r s r-reads s-reads = after-reads IsFormed text r s r-reads s-reads
 
-done : (s : Statement) → IsFormed s → Reads IsFormed (gives s)
+done : (s : Statement) → IsFormed s → RuleGives IsFormed (gives s)
 done s is = gives-reads IsFormed s is
 
-no_statement : Reads IsFormed fault
+no_statement : RuleGives IsFormed fault
 no_statement = fault-reads IsFormed
 
-create_table-reads : Reads IsFormed grammar.create_table
+create_table-reads : RuleGives IsFormed grammar.create_table
 unfolding create_table
 create_table-reads =
     named _ (λ table is-table. worded (codes "(") _ (bind-reads AreColumns IsFormed grammar.names _ names-reads (λ columns are. worded (codes ")") _ (done (Single (CreateTable table columns)) (is-table, are)))))
 
-create_view-reads : Reads IsFormed grammar.create_view
+create_view-reads : RuleGives IsFormed grammar.create_view
 unfolding create_view
 create_view-reads =
     named _ (λ view is-view. worded (codes "AS") _ (worded (codes "SELECT") _ (bind-reads AreChosen IsFormed grammar.columns _ columns-reads
     (λ columns are. worded (codes "FROM") _ (named _ (λ base is-base. bind-reads AreConditions IsFormed grammar.where_conditions _ where_conditions-reads
     (λ conditions of. done (Single (CreateView view base columns conditions)) (is-view, is-base, are, of))))))))
 
-create_dictionary-reads : Reads IsFormed grammar.create_dictionary
+create_dictionary-reads : RuleGives IsFormed grammar.create_dictionary
 unfolding create_dictionary
 create_dictionary-reads =
     named _ (λ dictionary is. worded (codes "ON") _ (bind-reads (Anything _) IsFormed (one subject_of) _ (any-reads subject_of)
     (λ subject any. done (Single (CreateDictionary dictionary subject)) is)))
 
-create_user-reads : Reads IsFormed grammar.create_user
+create_user-reads : RuleGives IsFormed grammar.create_user
 unfolding create_user
 create_user-reads =
     named _ (λ user is. bind-reads IsMade IsFormed (one profile_of) _ (one-reads IsMade profile_of profile_of-is)
     (λ profile made. bind-reads IsGiven IsFormed (optional given_secret_of []) _ (optional-reads IsGiven given_secret_of [] given_secret_of-is refl)
     (λ secret given. done (Single (CreateUser user profile secret)) (is, given, made))))
 
-create-reads : Reads IsFormed grammar.create
+create-reads : RuleGives IsFormed grammar.create
 unfolding create
 create-reads =
     choice (codes "TABLE") grammar.create_table _ create_table-reads (choice (codes "VIEW") grammar.create_view _ create_view-reads
     (choice (codes "DICTIONARY") grammar.create_dictionary _ create_dictionary-reads (choice (codes "USER") grammar.create_user fault create_user-reads no_statement)))
 
-drop_table-reads : Reads IsFormed grammar.drop_table
+drop_table-reads : RuleGives IsFormed grammar.drop_table
 unfolding drop_table
 drop_table-reads = named _ (λ table is. done (Single (DropTable table)) is)
 
-drop_view-reads : Reads IsFormed grammar.drop_view
+drop_view-reads : RuleGives IsFormed grammar.drop_view
 unfolding drop_view
 drop_view-reads = named _ (λ view is. done (Single (DropView view)) is)
 
-dropping-reads : Reads IsFormed grammar.dropping
+dropping-reads : RuleGives IsFormed grammar.dropping
 unfolding dropping
 dropping-reads = choice (codes "TABLE") grammar.drop_table _ drop_table-reads (choice (codes "VIEW") grammar.drop_view fault drop_view-reads no_statement)
 
-grant-reads : Reads IsFormed grammar.grant
+grant-reads : RuleGives IsFormed grammar.grant
 unfolding grant
 grant-reads =
     bind-reads ArePrivileges IsFormed grammar.privileges _ privileges-reads (λ privileges are. worded (codes "ON") _ (named _ (λ object is-object. worded (codes "TO") _
     (named _ (λ grantee is. done (Single (Grant privileges object grantee)) (are, is-object, is))))))
 
-revoke-reads : Reads IsFormed grammar.revoke
+revoke-reads : RuleGives IsFormed grammar.revoke
 unfolding revoke
 revoke-reads =
     bind-reads ArePrivileges IsFormed grammar.privileges _ privileges-reads (λ privileges are. worded (codes "ON") _ (named _ (λ object is-object. worded (codes "FROM") _
     (named _ (λ grantee is. done (Single (Revoke privileges object grantee)) (are, is-object, is))))))
 
-insert-reads : Reads IsFormed grammar.insert
+insert-reads : RuleGives IsFormed grammar.insert
 unfolding insert
 insert-reads =
     worded (codes "INTO") _ (named _ (λ table is. worded (codes "VALUES") _ (worded (codes "(") _ (bind-reads AreRowValues IsFormed grammar.literals _ literals-reads
     (λ row are. worded (codes ")") _ (done (Single (Insert table row)) (is, are)))))))
 
-select-reads : Reads IsFormed grammar.select
+select-reads : RuleGives IsFormed grammar.select
 unfolding select
 select-reads =
     bind-reads AreChosen IsFormed grammar.columns _ columns-reads (λ columns are. worded (codes "FROM") _ (named _ (λ object is.
     bind-reads AreConditions IsFormed grammar.where_conditions _ where_conditions-reads (λ conditions of. done (Select object columns conditions) (is, are, of)))))
 
-update-reads : Reads IsFormed grammar.update
+update-reads : RuleGives IsFormed grammar.update
 unfolding update
 update-reads =
     named _ (λ object is. worded (codes "SET") _ (bind-reads AreChanges IsFormed grammar.changes _ changes-reads
     (λ changes are. bind-reads AreConditions IsFormed grammar.where_conditions _ where_conditions-reads (λ conditions of. done (UpdateRows object changes conditions) (is, are, of)))))
 
-delete_rows-reads : Reads IsFormed grammar.delete_rows
+delete_rows-reads : RuleGives IsFormed grammar.delete_rows
 unfolding delete_rows
 delete_rows-reads =
     named _ (λ object is. bind-reads AreConditions IsFormed grammar.where_conditions _ where_conditions-reads (λ conditions of. done (DeleteRows object conditions) (is, of)))
 
-delete_user-reads : Reads IsFormed grammar.delete_user
+delete_user-reads : RuleGives IsFormed grammar.delete_user
 unfolding delete_user
 delete_user-reads = named _ (λ user is. done (Single (DeleteUser user)) is)
 
-delete-reads : Reads IsFormed grammar.delete
+delete-reads : RuleGives IsFormed grammar.delete
 unfolding delete
 delete-reads = choice (codes "FROM") grammar.delete_rows _ delete_rows-reads (choice (codes "USER") grammar.delete_user fault delete_user-reads no_statement)
 
-present-reads : Reads IsFormed grammar.present
+present-reads : RuleGives IsFormed grammar.present
 unfolding present
 present-reads = named _ (λ user is. done (Single (PresentUser user)) is)
 
-verify-reads : Reads IsFormed grammar.verify
+verify-reads : RuleGives IsFormed grammar.verify
 unfolding verify
 verify-reads = bind-reads IsPresented IsFormed (one presented_secret_of) _ (one-reads IsPresented presented_secret_of presented_secret_of-is) (λ secret is. done (Single (Verify secret)) is)
 
-open_channel-reads : Reads IsFormed grammar.open_channel
+open_channel-reads : RuleGives IsFormed grammar.open_channel
 unfolding open_channel
 open_channel-reads =
     worded (codes "CHANNEL") _ (bind-reads (λ number. (1 ≤ number) × (number ≤ 3)) IsFormed (one further_channel_of) _ (one-reads _ further_channel_of further_channel_of-is)
     (λ number is. done (OpenNumber number) is))
 
-close_channel-reads : Reads IsFormed grammar.close_channel
+close_channel-reads : RuleGives IsFormed grammar.close_channel
 unfolding close_channel
 close_channel-reads =
     worded (codes "CHANNEL") _ (bind-reads (λ number. (1 ≤ number) × (number ≤ 3)) IsFormed (one further_channel_of) _ (one-reads _ further_channel_of further_channel_of-is)
     (λ number is. done (CloseNumber number) is))
 
-use_channel-reads : Reads IsFormed grammar.use_channel
+use_channel-reads : RuleGives IsFormed grammar.use_channel
 unfolding use_channel
 use_channel-reads = bind-reads (λ number. number ≤ 3) IsFormed (one channel_of) _ (one-reads _ channel_of channel_of-is) (λ number is. done (UseNumber number) is)
 
-about_channels-reads : Reads IsFormed grammar.about_channels
+about_channels-reads : RuleGives IsFormed grammar.about_channels
 unfolding about_channels
 about_channels-reads =
     choice (codes "OPEN") grammar.open_channel _ open_channel-reads (choice (codes "CLOSE") grammar.close_channel _ close_channel-reads (choice (codes "CHANNEL") grammar.use_channel fault use_channel-reads no_statement))
 
-about_transactions-reads : Reads IsFormed grammar.about_transactions
+about_transactions-reads : RuleGives IsFormed grammar.about_transactions
 unfolding about_transactions
 about_transactions-reads =
     choice (codes "BEGIN") _ _ (done (Single Begin) tt) (choice (codes "COMMIT") _ _ (done (Single Commit) tt)
     (choice (codes "ROLLBACK") _ _ (done (Single Rollback) tt) (choice (codes "RESET") _ grammar.about_channels (done Reset tt) about_channels-reads)))
 
-about_users-reads : Reads IsFormed grammar.about_users
+about_users-reads : RuleGives IsFormed grammar.about_users
 unfolding about_users
 about_users-reads = choice (codes "PRESENT") grammar.present _ present-reads (choice (codes "VERIFY") grammar.verify grammar.about_transactions verify-reads about_transactions-reads)
 
-about_objects-reads : Reads IsFormed grammar.about_objects
+about_objects-reads : RuleGives IsFormed grammar.about_objects
 unfolding about_objects
 about_objects-reads =
     choice (codes "CREATE") grammar.create _ create-reads (choice (codes "DROP") grammar.dropping _ dropping-reads
     (choice (codes "GRANT") grammar.grant _ grant-reads (choice (codes "REVOKE") grammar.revoke grammar.about_users revoke-reads about_users-reads)))
 
-about_rows-reads : Reads IsFormed grammar.about_rows
+about_rows-reads : RuleGives IsFormed grammar.about_rows
 unfolding about_rows
 about_rows-reads =
     choice (codes "SELECT") grammar.select _ select-reads (choice (codes "UPDATE") grammar.update _ update-reads (choice (codes "DELETE") grammar.delete grammar.about_objects delete-reads about_objects-reads))
 
-statement-reads : Reads IsFormed grammar.statement
+statement-reads : RuleGives IsFormed grammar.statement
 unfolding statement
 statement-reads = choice (codes "INSERT") grammar.insert grammar.about_rows insert-reads about_rows-reads
 
-at_end-reads : (s : Statement) → IsFormed s → Reads IsFormed (grammar.at_end s)
+at_end-reads : (s : Statement) → IsFormed s → RuleGives IsFormed (grammar.at_end s)
 unfolding at_end
 at_end-reads s is = record { found = λ tokens. go tokens (is_end tokens) }
   where
@@ -510,6 +510,6 @@ at_end-reads s is = record { found = λ tokens. go tokens (is_end tokens) }
     go tokens true = is
     go tokens false = tt
 
-pub whole-reads : Reads IsFormed grammar.whole
+pub whole-reads : RuleGives IsFormed grammar.whole
 unfolding whole
 whole-reads = bind-reads IsFormed IsFormed grammar.statement _ statement-reads (λ s is. choice (codes ";") (grammar.at_end s) (grammar.at_end s) (at_end-reads s is) (at_end-reads s is))

@@ -19,7 +19,7 @@ use Rattle.scql_model.specs.Rights.{seen_named}
 use Rattle.scql_model.specs.Shown.{shown_on}
 use Rattle.scql_model.specs.Step.{Answer}
 use Rattle.scql_model.proofs.ReadingIsShown.{IsReadable-valid}
-use Rattle.card_link.specs.Link.{IsOver}
+use Rattle.card_link.specs.Link.{HasValidData}
 use Rattle.script.specs.declared.statement.Statement.TheVariants.{Select}
 use Rattle.script.specs.Commands.{asking, CanBeSent}
 use Rattle.planner.specs.declared.closing.Closing.{Closing}
@@ -35,7 +35,7 @@ use Rattle.planner.proofs.Asking.{who, moved_answer, answer-read}
 use Rattle.planner.proofs.Selected.{declared_from, declares, in_session-same}
 use Rattle.planner.proofs.SelectsShown.{select-reads}
 use Rattle.card_asking.specs.Following.{heard_at, turn_by}
-use Rattle.card_asking.specs.Giving.{Gives, behind_step}
+use Rattle.card_asking.specs.Giving.{GivesRows, behind_step}
 use Rattle.card_asking.proofs.Meant.{base-valid}
 use Rattle.card_asking.proofs.Rows.{gives-first, gives-shown, all-given}
 use Rattle.table_copy.specs.Copy.{source_rows}
@@ -45,24 +45,24 @@ use Rattle.table_copy.specs.declared.copy_end.CopyEnd.TheVariants.{SourceMute}
 use Rattle.table_copy.proofs.Ending.{unless-source_mute}
 
 -- A plan that is to close with rows isn't refused.
-pub rows-go_on : {L : Type 0} (is_at : L → Machine → Type 0) (s last : Machine) (count : ℕ) (rows : List Values) (p : Planned) (step : Step) (now : L) → Gives is_at s (Rows count) last rows p step now → goes_on_by step ≡ Ok tt
+pub rows-go_on : {L : Type 0} (is_at : L → Machine → Type 0) (s last : Machine) (count : ℕ) (rows : List Values) (p : Planned) (step : Step) (now : L) → GivesRows is_at s (Rows count) last rows p step now → goes_on_by step ≡ Ok tt
 rows-go_on is_at s last count rows p (Send c) now gives = refl
 rows-go_on is_at s last count rows p (Row c) now gives = refl
 rows-go_on is_at s last count rows p ResetCard now gives = refl
 rows-go_on is_at s last count rows p (Done closed) now gives = ap (λ (closing : Closing). whether (fetched_by closing)) (all-given is_at s (Rows count) last rows p closed now gives).closes
 
 -- a plan that only reads leaves the source as it was
-pub gives-stays : {L : Type 0} (is_at : L → Machine → Type 0) (s last : Machine) (closing : Closing) (rows : List Values) (p : Planned) (step : Step) (now : L) → Gives is_at s closing last rows p step now → StaysAt is_at s now
+pub gives-stays : {L : Type 0} (is_at : L → Machine → Type 0) (s last : Machine) (closing : Closing) (rows : List Values) (p : Planned) (step : Step) (now : L) → GivesRows is_at s closing last rows p step now → StaysAt is_at s now
 gives-stays is_at s last closing rows p step now gives = record { machine = gives.machine; at = gives.at; like = gives.like }
 
 -- what one step of the source's plan says
 pub record Advanced {L : Type 0} (is_at : L → Machine → Type 0) (p : Planned) (step : Step) (before : Reply) (old : L) (r : Piece (Unit {0})) (q : Planned) (next : Step) (reply : Reply) (now : L) : Type 0 where
-  pub gives : (m last : Machine) (closing : Closing) (rows : List Values) → Gives is_at m closing last rows p step old → UnlessSourceMute r (Gives is_at m closing last (behind_step step rows) q next now)
+  pub gives : (m last : Machine) (closing : Closing) (rows : List Values) → GivesRows is_at m closing last rows p step old → UnlessSourceMute r (GivesRows is_at m closing last (behind_step step rows) q next now)
   pub goes_on : UnlessSourceMute r (r ≡ goes_on_by next)
   pub turns : UnlessSourceMute r (turn_by p step reply ≡ record { plan = q; step = next })
   pub heard : (m : Machine) → is_at old m → UnlessSourceMute r (reply ≡ heard_at m step before)
 
-module _ (s : Machine) (object : List ℕ) (can : CanBeSent 0 (Select object [] [])) (over : IsOver s) where
+module _ (s : Machine) (object : List ℕ) (can : CanBeSent 0 (Select object [] [])) (over : HasValidData s) where
   abbrev asked : Command
   asked = asking 0 (DeclareCursor object [] [])
 
@@ -135,7 +135,7 @@ module _ (s : Machine) (object : List ℕ) (can : CanBeSent 0 (Select object [] 
     unfolding source_rows
     giving-first rows now is at = shown-rows (select_shown (shown_on s 0) object [] []) (gives-shown is_at s 0 object [] [] false now over.basic over can at) is
       where
-        shown-rows : (given : Result ShownRows StatusWord) → Gives is_at s (closing_given given) (meaning s 0 (Select object [] [])).machine (rows_given given) declaring (Send asked) now
+        shown-rows : (given : Result ShownRows StatusWord) → GivesRows is_at s (closing_given given) (meaning s 0 (Select object [] [])).machine (rows_given given) declaring (Send asked) now
             → (given >>= λ given. Ok given.rows) ≡ Ok rows → GivesAll is_at s (length rows) rows declaring (Send asked) now
         shown-rows (Err word) gives is = absurd cc
         shown-rows (Ok given) gives is =
@@ -203,7 +203,7 @@ module _ (s : Machine) (object : List ℕ) (can : CanBeSent 0 (Select object [] 
         let rows : List Values = opened.0 in
         let all = opened.2 in
         unless-source_mute (λ (r : Piece (Unit {0})). OpensSo is_at s (source_rows s object) q₂ next₂ r now) r₂ tt (λ heard.
-        let gives : Gives is_at s (Rows (length rows)) all.last rows q₂ next₂ now =
-        subst (λ (left : List Values). Gives is_at s (Rows (length rows)) all.last left q₂ next₂ now) (opened-next before old r q next reply mid at one done rows) (b.gives s all.last (Rows (length rows)) rows all.gives heard) in
+        let gives : GivesRows is_at s (Rows (length rows)) all.last rows q₂ next₂ now =
+        subst (λ (left : List Values). GivesRows is_at s (Rows (length rows)) all.last left q₂ next₂ now) (opened-next before old r q next reply mid at one done rows) (b.gives s all.last (Rows (length rows)) rows all.gives heard) in
         subst (λ (r : Piece (Unit {0})). OpensSo is_at s (source_rows s object) q₂ next₂ r now) (sym (b.goes_on heard ∙ rows-go_on is_at s all.last (length rows) rows q₂ next₂ now gives))
         (rows, opened.1, record { last = all.last; gives = gives }))

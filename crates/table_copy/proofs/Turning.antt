@@ -14,12 +14,12 @@ use Rattle.planner.specs.declared.closing.Closing.TheVariants.{Nothing, Fine, Ro
 use Rattle.planner.specs.declared.step.Step.{Step}
 use Rattle.planner.specs.declared.step.Step.TheVariants.{Send, Row, ResetCard, Done}
 use Rattle.planner.specs.Planned.{Planned}
-use Rattle.card_asking.specs.Giving.{Gives, IsNextRow, behind_step}
+use Rattle.card_asking.specs.Giving.{GivesRows, IsNextRow, behind_step}
 use Rattle.card_asking.proofs.Calls.{answers-both, mutes-then}
 use Rattle.card_asking.proofs.Moments.{leaves-none}
 use Rattle.card_asking.proofs.Rows.{next-row, all-given}
 use Rattle.table_copy.specs.Copy.{row_copied, rows_copied}
-use Rattle.card_asking.specs.Calls.{Answers}
+use Rattle.card_asking.specs.Calls.{StillAnswers}
 use Rattle.table_copy.specs.Copying.{StaysAt, EndsBy, GoesBy}
 use Rattle.table_copy.specs.Filling.{Piece, UnlessSourceMute, OfDest, OfSource, IsFetching, FetchesSo, InsertsSo, HasRow, PutsSo, Together, TurnsSo, IsFilled, IsCommitted, CommitsSo, FillsSo, commits_by, counted_by, fetched_by, goes_on_by, has_row, whether, with_row}
 use Rattle.table_copy.specs.Progress.{IsCounted, IsCountedIn}
@@ -28,14 +28,14 @@ use Rattle.table_copy.specs.declared.copy_end.CopyEnd.TheVariants.{Copied, Sourc
 use Rattle.table_copy.proofs.Opening.{gives-stays, rows-go_on}
 
 -- A row is put in.
-pub has-row : {L : Type 0} (is_at : L → Machine → Type 0) (s : Machine) (closing : Closing) (last : Machine) (rows : List Values) (p : Planned) (step : Step) (now : L) → Gives is_at s closing last rows p step now → HasRow step rows p.row
+pub has-row : {L : Type 0} (is_at : L → Machine → Type 0) (s : Machine) (closing : Closing) (last : Machine) (rows : List Values) (p : Planned) (step : Step) (now : L) → GivesRows is_at s closing last rows p step now → HasRow step rows p.row
 has-row is_at s closing last rows p (Send c) now gives = tt
 has-row is_at s closing last rows p (Row c) now gives = next-row is_at s closing last rows p c now gives
 has-row is_at s closing last rows p ResetCard now gives = tt
 has-row is_at s closing last rows p (Done closed) now gives = tt
 
 -- it is one of those that are counted
-pub row-counted : {L : Type 0} (is_at : L → Machine → Type 0) (s last : Machine) (count passed : ℕ) (rows : List Values) (p : Planned) (step : Step) (now : L) → Gives is_at s (Rows count) last rows p step now → passed + length rows ≡ count
+pub row-counted : {L : Type 0} (is_at : L → Machine → Type 0) (s last : Machine) (count passed : ℕ) (rows : List Values) (p : Planned) (step : Step) (now : L) → GivesRows is_at s (Rows count) last rows p step now → passed + length rows ≡ count
     → with_row (has_row step) passed + length (behind_step step rows) ≡ count
 row-counted is_at s last count passed rows p (Send c) now gives counted = omega (arith, counted)
 row-counted is_at s last count passed rows p (Row c) now gives counted = first rows (next-row is_at s (Rows count) last rows p c now gives) counted
@@ -85,18 +85,18 @@ fetches-on is_at is_live faults s q next (Err (Copied number)) old now ends fetc
 fetches-on is_at is_live faults s q next (Err (DestRefused word)) old now ends fetching = absurd ends
 
 -- at its last step it gave all
-pub all-fetched : {L : Type 0} (is_at : L → Machine → Type 0) (s last : Machine) (count : ℕ) (rows : List Values) (p : Planned) (closed : Closing) (now : L) → Gives is_at s (Rows count) last rows p (Done closed) now → rows ≡ []
+pub all-fetched : {L : Type 0} (is_at : L → Machine → Type 0) (s last : Machine) (count : ℕ) (rows : List Values) (p : Planned) (closed : Closing) (now : L) → GivesRows is_at s (Rows count) last rows p (Done closed) now → rows ≡ []
 all-fetched is_at s last count rows p closed now gives = (all-given is_at s (Rows count) last rows p closed now gives).none
 
 -- before any call
 pub holds-same : {L : Type 0} (chip : L → Chip) (mark : L → ℕ) (db now : Database) (l : L) → mark l ≡ (chip l).still.mark → IfSome (chip l).image (λ image. Opens image now) → now ≡ db → LeavesOpen (Holds (mark l) db) (chip l) (chip l)
 holds-same chip mark db now l marks opens same = leaves-none chip mark (Holds (mark l) db) l now marks opens (refl, same)
 
-module _ {S D : Type 0} (s_live : S → Bool) (s_faults : S → ℕ) (d_live : D → Bool) (d_faults : D → ℕ) (source mid next : S) (dest half new : D) (s_first : Answers s_live s_faults source mid) (d_first : Answers d_live d_faults dest half) where
+module _ {S D : Type 0} (s_live : S → Bool) (s_faults : S → ℕ) (d_live : D → Bool) (d_faults : D → ℕ) (source mid next : S) (dest half new : D) (s_first : StillAnswers s_live s_faults source mid) (d_first : StillAnswers d_live d_faults dest half) where
   pub ends-then : (end : CopyEnd) → EndsBy s_live s_faults d_live d_faults end mid next half new → EndsBy s_live s_faults d_live d_faults end source next dest new
   ends-then DestMute ends = (mutes-then d_live d_faults dest half new d_first ends.0, both ends.1)
     where
-      both : Answers s_live s_faults mid next ⊎ Mutes s_live s_faults mid next → Answers s_live s_faults source next ⊎ Mutes s_live s_faults source next
+      both : StillAnswers s_live s_faults mid next ⊎ Mutes s_live s_faults mid next → StillAnswers s_live s_faults source next ⊎ Mutes s_live s_faults source next
       both (inl answers) = inl (answers-both s_live s_faults source mid next s_first answers)
       both (inr mutes) = inr (mutes-then s_live s_faults source mid next s_first mutes)
   ends-then SourceMute ends = (mutes-then s_live s_faults source mid next s_first ends.0, answers-both d_live d_faults dest half new d_first ends.1)
@@ -163,7 +163,7 @@ fetched-reads is_at s number (Rows all) now stays = stays
 fetched-reads is_at s number (Cut all) now stays = stays
 fetched-reads is_at s number (Refused word) now stays = stays
 
-pub fetched-goes : {S D : Type 0} (s_live : S → Bool) (s_faults : S → ℕ) (d_live : D → Bool) (d_faults : D → ℕ) (number : ℕ) (closing : Closing) (source next : S) (dest new : D) → Answers s_live s_faults source next → Answers d_live d_faults dest new
+pub fetched-goes : {S D : Type 0} (s_live : S → Bool) (s_faults : S → ℕ) (d_live : D → Bool) (d_faults : D → ℕ) (number : ℕ) (closing : Closing) (source next : S) (dest new : D) → StillAnswers s_live s_faults source next → StillAnswers d_live d_faults dest new
     → GoesBy s_live s_faults d_live d_faults (counted_by number (whether (fetched_by closing))) source next dest new
 fetched-goes s_live s_faults d_live d_faults number Nothing source next dest new s d = (s, d)
 fetched-goes s_live s_faults d_live d_faults number Fine source next dest new s d = (s, d)

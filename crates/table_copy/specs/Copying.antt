@@ -4,7 +4,7 @@ use Rattle.scql_model.specs.Database.{Database}
 use Rattle.scql_model.specs.Lives.{after_all}
 use Rattle.scql_model.specs.Machine.{Machine}
 use Rattle.card_link.specs.Link.{Mutes}
-use Rattle.card_asking.specs.Calls.{Answers}
+use Rattle.card_asking.specs.Calls.{StillAnswers}
 use Rattle.card_asking.specs.Giving.{IsLike}
 use Rattle.table_copy.specs.Copy.{Copy}
 use Rattle.table_copy.specs.declared.copy_end.CopyEnd.{CopyEnd}
@@ -38,12 +38,12 @@ ReadsSo is_at is_live s now = IsTrue (is_live now) → StaysAt is_at s now
 
 -- A copy says that a card is mute only where it failed. The destination goes before the source.
 abbrev pub EndsBy : {S D : Type 0} → (S → Bool) → (S → ℕ) → (D → Bool) → (D → ℕ) → CopyEnd → S → S → D → D → Type 0
-EndsBy s_live s_faults d_live d_faults DestMute source next dest new = Mutes d_live d_faults dest new × (Answers s_live s_faults source next ⊎ Mutes s_live s_faults source next)
-EndsBy s_live s_faults d_live d_faults SourceMute source next dest new = Mutes s_live s_faults source next × Answers d_live d_faults dest new
-EndsBy s_live s_faults d_live d_faults end source next dest new = Answers s_live s_faults source next × Answers d_live d_faults dest new
+EndsBy s_live s_faults d_live d_faults DestMute source next dest new = Mutes d_live d_faults dest new × (StillAnswers s_live s_faults source next ⊎ Mutes s_live s_faults source next)
+EndsBy s_live s_faults d_live d_faults SourceMute source next dest new = Mutes s_live s_faults source next × StillAnswers d_live d_faults dest new
+EndsBy s_live s_faults d_live d_faults end source next dest new = StillAnswers s_live s_faults source next × StillAnswers d_live d_faults dest new
 
 -- so of a piece of it, which is done or ends the copy
 abbrev pub GoesBy : {S D A : Type 0} → (S → Bool) → (S → ℕ) → (D → Bool) → (D → ℕ) → Result A CopyEnd → S → S → D → D → Type 0
-GoesBy s_live s_faults d_live d_faults (Ok x) source next dest new = Answers s_live s_faults source next × Answers d_live d_faults dest new
+GoesBy s_live s_faults d_live d_faults (Ok x) source next dest new = StillAnswers s_live s_faults source next × StillAnswers d_live d_faults dest new
 GoesBy s_live s_faults d_live d_faults (Err (Copied rows)) source next dest new = ⊥
 GoesBy s_live s_faults d_live d_faults (Err end) source next dest new = EndsBy s_live s_faults d_live d_faults end source next dest new

@@ -17,9 +17,9 @@ use Rattle.planner.specs.declared.step.Step.{Step}
 use Rattle.planner.specs.declared.step.Step.TheVariants.{Row, Done}
 use Rattle.planner.specs.Planned.{Planned}
 use Rattle.planner.specs.Words.{is_done}
-use Rattle.card_asking.specs.Giving.{Gives, IsNextRow, behind_step}
+use Rattle.card_asking.specs.Giving.{GivesRows, IsNextRow, behind_step}
 use Rattle.table_copy.specs.Copy.{rows_copied}
-use Rattle.card_asking.specs.Calls.{Answers}
+use Rattle.card_asking.specs.Calls.{StillAnswers}
 use Rattle.table_copy.specs.Copying.{StaysAt, StandsAt}
 use Rattle.table_copy.specs.declared.copy_end.CopyEnd.{CopyEnd}
 use Rattle.table_copy.specs.declared.copy_end.CopyEnd.TheVariants.{SourceRefused, DestRefused, SourceMute, DestMute}
@@ -63,15 +63,15 @@ UnlessDestMute r P = (r ≡ Err DestMute → ⊥) → P
 
 -- A piece on one card alone ends because that card is mute only where it failed, and never because the other one is mute.
 abbrev pub OfSource : {L A : Type 0} → (L → Bool) → (L → ℕ) → Piece A → L → L → Type 0
-OfSource is_live faults (Ok x) old new = Answers is_live faults old new
-OfSource is_live faults (Err (SourceRefused word)) old new = Answers is_live faults old new
+OfSource is_live faults (Ok x) old new = StillAnswers is_live faults old new
+OfSource is_live faults (Err (SourceRefused word)) old new = StillAnswers is_live faults old new
 OfSource is_live faults (Err SourceMute) old new = Mutes is_live faults old new
 OfSource is_live faults (Err end) old new = ⊥
 
 abbrev pub OfDest : {L A : Type 0} → (L → Bool) → (L → ℕ) → Piece A → L → L → Type 0
-OfDest is_live faults (Ok x) old new = Answers is_live faults old new
-OfDest is_live faults (Err (DestRefused word)) old new = Answers is_live faults old new
-OfDest is_live faults (Err (SourceRefused word)) old new = Answers is_live faults old new
+OfDest is_live faults (Ok x) old new = StillAnswers is_live faults old new
+OfDest is_live faults (Err (DestRefused word)) old new = StillAnswers is_live faults old new
+OfDest is_live faults (Err (SourceRefused word)) old new = StillAnswers is_live faults old new
 OfDest is_live faults (Err DestMute) old new = Mutes is_live faults old new
 OfDest is_live faults (Err end) old new = ⊥
 
@@ -82,12 +82,12 @@ pub record IsFetching {L : Type 0} (is_at : L → Machine → Type 0) (s : Machi
   pub closing : Closing
   pub last : Machine
   pub rows : List Values
-  pub gives : Gives is_at s closing last rows p step now
+  pub gives : GivesRows is_at s closing last rows p step now
 
 -- it is to give these rows, and so many in all
 pub record GivesAll {L : Type 0} (is_at : L → Machine → Type 0) (s : Machine) (count : ℕ) (rows : List Values) (p : Planned) (step : Step) (now : L) : Type 0 where
   pub last : Machine
-  pub gives : Gives is_at s (Rows count) last rows p step now
+  pub gives : GivesRows is_at s (Rows count) last rows p step now
 
 -- a source that was opened gives all rows; one that refused is as before
 abbrev pub OpensSo : {L : Type 0} → (L → Machine → Type 0) → Machine → Result (List Values) StatusWord → Planned → Step → Piece (Unit {0}) → L → Type 0
@@ -161,7 +161,7 @@ CommitsSo is_at d db (Err end) now = ⊥
 -- behind a ROLLBACK the card answers, or is mute
 abbrev pub RollsBackSo : {L : Type 0} → (L → Bool) → (L → ℕ) → CopyEnd → L → L → Type 0
 RollsBackSo is_live faults DestMute old new = Mutes is_live faults old new
-RollsBackSo is_live faults end old new = Answers is_live faults old new
+RollsBackSo is_live faults end old new = StillAnswers is_live faults old new
 
 -- Both.
 

@@ -9,7 +9,7 @@ ghost use Rattle.planner.specs.declared.closing.Closing.{Closing as ModelClosing
 ghost use Rattle.planner.specs.Planned.{IfSent, started};
 ghost use Rattle.planner.specs.Turns.{IfGoesOn};
 ghost use Rattle.card_asking.specs.Following.{heard_at, to_go, turn_by};
-ghost use Rattle.card_asking.specs.Giving.{Gives, behind_step};
+ghost use Rattle.card_asking.specs.Giving.{GivesRows, behind_step};
 ghost use Rattle.table_copy.specs.Copy.{source_rows};
 ghost use Rattle.card_asking.specs.Calls.{HasGoneOn};
 ghost use Rattle.table_copy.specs.Filling.{OfSource, OpensSo, UnlessSourceMute, fetched_by, goes_on_by};
@@ -67,12 +67,12 @@ pub fn advance<L: CardLink>(
 ) -> Result<(), CopyEnd>
     requires live { IsTrue (L.is_live source.old) }
     requires sendable { IfSent step.old IsSendable }
-    ensures gives { (m last : Machine) (closing : ModelClosing) (rows : List Values) → Gives L.is_at m closing last rows plan.old step.old source.old
-        → UnlessSourceMute result (Gives L.is_at m closing last (behind_step step.old rows) plan.new step.new source.new) }
+    ensures gives { (m last : Machine) (closing : ModelClosing) (rows : List Values) → GivesRows L.is_at m closing last rows plan.old step.old source.old
+        → UnlessSourceMute result (GivesRows L.is_at m closing last (behind_step step.old rows) plan.new step.new source.new) }
     ensures goes_on { UnlessSourceMute result (result ≡ goes_on_by step.new) }
     ensures turns { UnlessSourceMute result (turn_by plan.old step.old reply.new ≡ record { plan = plan.new; step = step.new }) }
     ensures reply { (m : Machine) → L.is_at source.old m → UnlessSourceMute result (reply.new ≡ heard_at m step.old reply.old) }
-    ensures still { (m last : Machine) (closing : ModelClosing) (rows : List Values) → Gives L.is_at m closing last rows plan.old step.old source.old
+    ensures still { (m last : Machine) (closing : ModelClosing) (rows : List Values) → GivesRows L.is_at m closing last rows plan.old step.old source.old
         → LeavesOpen (Holds (L.mark source.old) m.committed) (L.chip source.old) (L.chip source.new) }
     ensures ends { OfSource L.is_live L.faults result source.old source.new }
     ensures next_sendable { OnOk result (IfSent step.new IsSendable) }

@@ -11,7 +11,7 @@ use Rattle.scql_model.specs.Matching.{Values}
 use Rattle.scql_model.specs.Records as records
 use Rattle.scql_model.specs.Records.{is_row}
 use Rattle.scql_model.specs.ReadingCommands.{row_octets}
-use Rattle.card_link.specs.Link.{IsOneOf, IsOver as IsOverValid}
+use Rattle.card_link.specs.Link.{IsOneOf, HasValidData as IsOverValid}
 use Rattle.script.specs.declared.statement.Statement.{Statement}
 use Rattle.script.specs.Commands.{CanBeSent}
 use Rattle.script.specs.Line.{statement_of}
@@ -32,7 +32,7 @@ use Rattle.scql_model.specs.Lives.{after_all}
 use Rattle.card_asking.proofs.Followed.{none-before}
 use Rattle.card_asking.proofs.Moments.{one-last}
 use Rattle.card_asking.proofs.Sound.{IsSound, select-or-none, sound}
-use Rattle.terminal.specs.Going.{printed_row, rows_text, ran_text, IsInRun, IsMute, IsCut, IsOver, FailsSo}
+use Rattle.terminal.specs.Going.{printed_row, rows_text, ran_text, IsInRun, IsMute, IsCut, HasRun, FailsSo}
 use Rattle.terminal.specs.Holding.{Holding, Knows, Sits, terminal_at, holding_after}
 use Rattle.terminal.specs.Line.{IsAnswered, IsCutOff, IsCutShort, EndsSo, EndsBy, ClosesSo, IsMoment, refusal_of, refusal_in, rows_in}
 use Rattle.terminal.specs.Failing.{Works}
@@ -158,7 +158,7 @@ sits-after is_at m before s closing after new can knows holds closes at = record
 
 pub closes-ends : {L : Type 0} (is_at : L → Machine → Type 0) (given : L → Option (List ℕ)) (is_live : L → Bool) (faults sink_faults mark : L → ℕ) (m : Machine) (before : Holding) (s : Statement) (closing : Closing) (after : Holding) (result : LineEnd) (old mid new : L)
     → IsOverValid m → CanBeSent before.channel s → Knows before.transaction m → after ≡ holding_after s closing before
-    → IsOver is_at given mark m (shown (meaning m before.channel s)) closing old mid
+    → HasRun is_at given mark m (shown (meaning m before.channel s)) closing old mid
     → ClosesSo given is_live faults sink_faults (closing_text closing) (refusal_of closing) result mid new → is_at new (meaning m before.channel s).machine
     → EndsSo is_at given m (read_effect (terminal_at m before.channel) (Ok s)) (rows_in (terminal_at m before.channel) (Ok s)) (refusal_in (terminal_at m before.channel) (Ok s)) after result old new
 closes-ends is_at given is_live faults sink_faults mark m before s closing after result old mid new over can knows holds o closes at = go result closes

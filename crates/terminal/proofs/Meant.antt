@@ -3,7 +3,7 @@ use Rattle.std.proofs.Common.{◌≡◌, ℕ, ◌==◌, Bool, true, false, Optio
 use Rattle.std.specs.Option.{option_map_or}
 use Rattle.scql_model.specs.Machine.{Machine, Transaction}
 use Rattle.scql_model.specs.Transactions.{own_transaction}
-use Rattle.card_link.specs.Link.{IsOver}
+use Rattle.card_link.specs.Link.{HasValidData}
 use Rattle.script.specs.Commands.{CanBeSent}
 use Rattle.planner.specs.Meaning.{meaning}
 use Rattle.planner.specs.Planned.{Planned}
@@ -22,7 +22,7 @@ inside-known (Some t) channel = own (t.channel == channel)
     own false = refl
 
 -- a plan that is at its start on a terminal's channel runs to the meaning of its statement
-pub started-meant : (m : Machine) (holding : Holding) (plan : Planned) → IsOver m → CanBeSent holding.channel plan.statement → IsStarted holding plan → Knows holding.transaction m
+pub started-meant : (m : Machine) (holding : Holding) (plan : Planned) → HasValidData m → CanBeSent holding.channel plan.statement → IsStarted holding plan → Knows holding.transaction m
     → run_of m plan ≡ shown (meaning m holding.channel plan.statement)
 started-meant m holding plan over can starts knows =
     ap (run_of m) starts

@@ -21,7 +21,7 @@ use Rattle.card_asking.proofs.Followed.{first-follows, follows-both, none-before
 use Rattle.card_asking.proofs.Moments.{one-mark, one-next}
 use Rattle.terminal.specs.declared.failure.Failure.{Failure}
 use Rattle.terminal.specs.declared.failure.Failure.TheVariants.{Card, Outlet}
-use Rattle.terminal.specs.Going.{printed_row, rows_text, ran_text, FailsSo, IsInRun, Goes, IsMute, IsCut, IsOver}
+use Rattle.terminal.specs.Going.{printed_row, rows_text, ran_text, FailsSo, IsInRun, WentOn, IsMute, IsCut, HasRun}
 use Rattle.terminal.specs.Failing.{IsStart, Works, Causes}
 use Rattle.eeprom.specs.Fault.{Rose}
 use Rattle.eeprom.specs.Output.{Prints}
@@ -59,7 +59,7 @@ none-given m p step none = let first = given-first m p step in none-before (give
 
 -- A step's row was printed, and then the step followed.
 pub step-goes : {L : Type 0} (is_at : L → Machine → Type 0) (given : L → Option (List ℕ)) (mark : L → ℕ) (m : Machine) (p q : Planned) (step next : Step) (old mid new : L) → Prints (rows_text (given_by p step)) (given old) (given mid)
-    → mark old ≤ mark mid → (given_by p step ≡ [] → mark mid ≡ mark old) → given new ≡ given mid → mark new ≡ mark mid → Follows is_at m p step (given_by p step) q next new → Goes is_at given mark m p step old new q next
+    → mark old ≤ mark mid → (given_by p step ≡ [] → mark mid ≡ mark old) → given new ≡ given mid → mark new ≡ mark mid → Follows is_at m p step (given_by p step) q next new → WentOn is_at given mark m p step old new q next
 step-goes is_at given mark m p q step next old mid new printed later still same marked follows = record {
   rows = given_by p step;
   follows = follows;
@@ -128,7 +128,7 @@ returned-err P r failure is holds = subst (λ r. IfErr r P) (sym is) holds
 
 -- Composition: what went on so far, and what goes on from there.
 pub goes-both : {L : Type 0} (is_at : L → Machine → Type 0) (given : L → Option (List ℕ)) (mark : L → ℕ) (m : Machine) (p q s : Planned) (step next last : Step) (old mid new : L)
-    → (first : Goes is_at given mark m p step old mid q next) → Goes is_at given mark first.follows.machine q next mid new s last → Goes is_at given mark m p step old new s last
+    → (first : WentOn is_at given mark m p step old mid q next) → WentOn is_at given mark first.follows.machine q next mid new s last → WentOn is_at given mark m p step old new s last
 goes-both is_at given mark m p q s step next last old mid new first second = record {
   rows = first.rows ++ second.rows;
   follows = follows-both is_at m p q s step next last first.rows second.rows mid new first.follows second.follows;
@@ -139,7 +139,7 @@ goes-both is_at given mark m p q s step next last old mid new first second = rec
 
 -- a moment of what goes on is one of the whole
 pub goes-moment : {L : Type 0} (is_at : L → Machine → Type 0) (given : L → Option (List ℕ)) (mark : L → ℕ) (m : Machine) (p q : Planned) (step next : Step) (old mid : L) (g : ℕ) (left : Database)
-    → (first : Goes is_at given mark m p step old mid q next) → IsInRun (mark mid) first.follows.machine (run_from first.follows.machine q next) g left → IsInRun (mark old) m (run_from m p step) g left
+    → (first : WentOn is_at given mark m p step old mid q next) → IsInRun (mark mid) first.follows.machine (run_from first.follows.machine q next) g left → IsInRun (mark old) m (run_from m p step) g left
 goes-moment is_at given mark m p q step next old mid g left first within =
     let e = first.follows in
     subst (λ (ran : Ran). IsInRun (mark old) m ran g left) (sym e.left)
@@ -151,7 +151,7 @@ goes-moment is_at given mark m p q step next old mid g left first within =
 
 -- a failure of what goes on is one of the whole
 mute-behind : {L : Type 0} (is_at : L → Machine → Type 0) (given : L → Option (List ℕ)) (mark : L → ℕ) (m : Machine) (p q : Planned) (step next : Step) (old mid new : L)
-    → (first : Goes is_at given mark m p step old mid q next) → IsMute given (run_from first.follows.machine q next) mid new → IsMute given (run_from m p step) old new
+    → (first : WentOn is_at given mark m p step old mid q next) → IsMute given (run_from first.follows.machine q next) mid new → IsMute given (run_from m p step) old new
 mute-behind is_at given mark m p q step next old mid new first mute = record {
   first = first.rows ++ mute.first;
   rest = mute.rest;
@@ -160,7 +160,7 @@ mute-behind is_at given mark m p q step next old mid new first mute = record {
 }
 
 cut-behind : {L : Type 0} (is_at : L → Machine → Type 0) (given : L → Option (List ℕ)) (mark : L → ℕ) (m : Machine) (p q : Planned) (step next : Step) (old mid new : L)
-    → (first : Goes is_at given mark m p step old mid q next) → IsCut is_at given first.follows.machine (IsReadingAt q next) (run_from first.follows.machine q next) mid new → IsCut is_at given m (IsReadingAt p step) (run_from m p step) old new
+    → (first : WentOn is_at given mark m p step old mid q next) → IsCut is_at given first.follows.machine (IsReadingAt q next) (run_from first.follows.machine q next) mid new → IsCut is_at given m (IsReadingAt p step) (run_from m p step) old new
 cut-behind is_at given mark m p q step next old mid new first cut =
     let e = first.follows in
     let ran : Ran = run_from e.machine q next in
@@ -186,7 +186,7 @@ cut-behind is_at given mark m p q step next old mid new first cut =
     }
 
 pub fails-behind : {L : Type 0} (is_at : L → Machine → Type 0) (given : L → Option (List ℕ)) (mark : L → ℕ) (m : Machine) (p q : Planned) (step next : Step) (failure : Failure) (old mid new : L)
-    → (first : Goes is_at given mark m p step old mid q next) → FailsSo is_at given first.follows.machine (IsReadingAt q next) (run_from first.follows.machine q next) failure mid new
+    → (first : WentOn is_at given mark m p step old mid q next) → FailsSo is_at given first.follows.machine (IsReadingAt q next) (run_from first.follows.machine q next) failure mid new
     → FailsSo is_at given m (IsReadingAt p step) (run_from m p step) failure old new
 fails-behind is_at given mark m p q step next Card old mid new first mute = mute-behind is_at given mark m p q step next old mid new first mute
 fails-behind is_at given mark m p q step next Outlet old mid new first cut = cut-behind is_at given mark m p q step next old mid new first cut
@@ -209,7 +209,7 @@ fails-told is_at given m reads told ran Outlet old new are cut = record {
 
 -- a run that came to its last step is over
 pub is-over : {L : Type 0} (is_at : L → Machine → Type 0) (given : L → Option (List ℕ)) (mark : L → ℕ) (m : Machine) (p q : Planned) (step : Step) (closing : Closing) (old new : L)
-    → Goes is_at given mark m p step old new q (Done closing) → IsOver is_at given mark m (run_from m p step) closing old new
+    → WentOn is_at given mark m p step old new q (Done closing) → HasRun is_at given mark m (run_from m p step) closing old new
 is-over is_at given mark m p q step closing old new goes =
     let e = goes.follows in
     let rows : goes.rows ≡ (run_from m p step).rows = sym (ap (λ (ran : Ran). ran.rows) e.left ∙ append-nil goes.rows) in
@@ -225,7 +225,7 @@ is-over is_at given mark m p q step closing old new goes =
 
 -- a plan that took its first step
 pub first-goes : {L : Type 0} (is_at : L → Machine → Type 0) (given : L → Option (List ℕ)) (mark : L → ℕ) (m : Machine) (p q : Planned) (next : Step) (now : L) → is_at now m → next_of None p ≡ record { plan = q; step = next }
-    → Goes is_at given mark m (next_of None p).plan (next_of None p).step now now q next
+    → WentOn is_at given mark m (next_of None p).plan (next_of None p).step now now q next
 first-goes is_at given mark m p q next now at is = record {
   rows = [];
   follows = first-follows is_at m p q next now at is;

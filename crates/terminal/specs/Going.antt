@@ -39,7 +39,7 @@ abbrev pub IsInRun : ℕ → Machine → Ran → ℕ → Database → Type 0
 IsInRun from m ran g left = IsWithin from ran.rows (m.committed ∷ ran.commits) g left
 
 -- A desk went from a machine and a step of a plan to another machine and step, and printed the rows that were given until then.
-pub record Goes {L : Type 0} (is_at : L → Machine → Type 0) (given : L → Option (List ℕ)) (mark : L → ℕ) (m : Machine) (p : Planned) (step : Step) (old new : L) (q : Planned) (next : Step) : Type 0 where
+pub record WentOn {L : Type 0} (is_at : L → Machine → Type 0) (given : L → Option (List ℕ)) (mark : L → ℕ) (m : Machine) (p : Planned) (step : Step) (old new : L) (q : Planned) (next : Step) : Type 0 where
   pub rows : List (List ℕ)
   pub follows : Follows is_at m p step rows q next new
   pub printed : Prints (rows_text rows) (given old) (given new)
@@ -70,7 +70,7 @@ FailsSo is_at given m reads ran Card old new = IsMute given ran old new
 FailsSo is_at given m reads ran Outlet old new = IsCut is_at given m reads ran old new
 
 -- a run that is over, but for its closing line
-pub record IsOver {L : Type 0} (is_at : L → Machine → Type 0) (given : L → Option (List ℕ)) (mark : L → ℕ) (m : Machine) (ran : Ran) (closing : Closing) (old new : L) : Type 0 where
+pub record HasRun {L : Type 0} (is_at : L → Machine → Type 0) (given : L → Option (List ℕ)) (mark : L → ℕ) (m : Machine) (ran : Ran) (closing : Closing) (old new : L) : Type 0 where
   pub at : is_at new ran.machine
   pub closes : closing ≡ ran.closing
   pub printed : Prints (rows_text ran.rows) (given old) (given new)

@@ -6,13 +6,13 @@ ghost use Rattle.scql_model.specs.Machine.{Machine};
 ghost use Rattle.scql_model.specs.Lines.{longest_line};
 ghost use Rattle.script.specs.Commands.{CanAlwaysBeSent, CanBeSent};
 ghost use Rattle.script.specs.Line.{statement_of};
-ghost use Rattle.card_link.specs.Link.{Gives, IsOneOf, LeavesOpen};
+ghost use Rattle.card_link.specs.Link.{AfterOutput, IsOneOf, LeavesOpen};
 ghost use Rattle.planner.specs.Held as held;
 ghost use Rattle.planner.specs.Meaning.{meaning};
 ghost use Rattle.planner.specs.Readings.{IsSelect};
 ghost use Rattle.planner.specs.Running.{shown};
 ghost use Rattle.planner.specs.StatementLines.{read_effect};
-ghost use Rattle.terminal.specs.Going.{FailsSo, IsInRun, IsOver};
+ghost use Rattle.terminal.specs.Going.{FailsSo, IsInRun, HasRun};
 ghost use Rattle.terminal.specs.Holding as holding;
 ghost use Rattle.terminal.specs.Holding.{IsStarted, Knows, terminal_at};
 ghost use Rattle.terminal.specs.Line as line_specs;
@@ -108,7 +108,7 @@ impl Channels {
         ensures holds { IfOk result (λ closing. self.new ≡ holding.holding_after plan.old.statement closing self.old) }
         ensures stays { OnErr result (self.new ≡ self.old) }
         ensures over { (m : Machine) → L.is_at desk.old m → Knows self.old.transaction m
-            → IfOk result (λ closing. IsOver L.is_at L.given L.mark m (shown (meaning m self.old.channel plan.old.statement)) closing desk.old desk.new) }
+            → IfOk result (λ closing. HasRun L.is_at L.given L.mark m (shown (meaning m self.old.channel plan.old.statement)) closing desk.old desk.new) }
         ensures moments { (m : Machine) → L.is_at desk.old m → Knows self.old.transaction m
             → LeavesOpen (IsInRun (L.mark desk.old) m (shown (meaning m self.old.channel plan.old.statement))) (L.chip desk.old) (L.chip desk.new) }
         ensures fails { (m : Machine) → L.is_at desk.old m → Knows self.old.transaction m
@@ -183,7 +183,7 @@ impl Channels {
 /// Prints a closing line, if there is one, of a line that was refused for this reason, or wasn't.
 pub(crate) fn close<L: Desk>(link: &mut L, text: &[u8], refusal: Option<Refusal>) -> LineEnd
     ensures closes { ClosesSo L.given L.is_live L.faults L.sink_faults text.now refusal result link.old link.new }
-    ensures gives { Gives L.is_at L.is_live L.faults L.mark L.chip link.old link.new }
+    ensures gives { AfterOutput L.is_at L.is_live L.faults L.mark L.chip link.old link.new }
     ensures goes_on { L.goes_on link.old link.new }
 {
     if !text.is_empty() && give(link, text).is_err() {

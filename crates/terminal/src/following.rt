@@ -3,12 +3,12 @@ ghost use Rattle.std.specs.Prelude.{◌≡◌, ◌≢◌, ◌<◌, [], IsTrue, I
 ghost use Rattle.eeprom.specs.Output.{Prints};
 ghost use Rattle.scql_model.specs.Machine.{Machine};
 ghost use Rattle.script.specs.Commands.{IsSendable};
-ghost use Rattle.card_link.specs.Link.{LeavesOpen, Gives};
+ghost use Rattle.card_link.specs.Link.{LeavesOpen, AfterOutput};
 ghost use Rattle.planner.specs.Planned.{IfSent};
 ghost use Rattle.planner.specs.Readings.{IsReadingAt};
 ghost use Rattle.planner.specs.Turns.{IfGoesOn};
 ghost use Rattle.card_asking.specs.Following.{OnlyReads, given_by, run_from, run_of, to_go};
-ghost use Rattle.terminal.specs.Going.{Goes, FailsSo, IsInRun, IsOver, printed_row, rows_text};
+ghost use Rattle.terminal.specs.Going.{WentOn, FailsSo, IsInRun, HasRun, printed_row, rows_text};
 ghost use Rattle.terminal.specs.Failing.{Breaks, Causes, IsStart, Works};
 
 use crate::failure::Failure;
@@ -40,11 +40,11 @@ impl Room {
     }
 }
 
-/// Gives a piece of output.
+/// AfterOutput a piece of output.
 pub(crate) fn give<L: Desk>(desk: &mut L, octets: &[u8]) -> Result<(), Failure>
     ensures printed { OnOk result (Prints octets.now (L.given desk.old) (L.given desk.new)) }
     ensures cut { OnErr result (IsStart octets.now (L.given desk.old) (L.given desk.new)) }
-    ensures gives { Gives L.is_at L.is_live L.faults L.mark L.chip desk.old desk.new }
+    ensures gives { AfterOutput L.is_at L.is_live L.faults L.mark L.chip desk.old desk.new }
     ensures fails { IfErr result (λ failure. (failure ≡ Failure.Outlet) × Breaks L.faults L.sink_faults desk.old desk.new) }
     ensures works { OnOk result (Works L.is_live L.faults L.sink_faults desk.old desk.new) }
     ensures goes_on { L.goes_on desk.old desk.new }
@@ -59,7 +59,7 @@ pub(crate) fn give<L: Desk>(desk: &mut L, octets: &[u8]) -> Result<(), Failure>
 fn follow<L: Desk>(desk: &mut L, plan: &mut Plan, room: &mut Room) -> Result<(), Failure>
     requires live { IsTrue (L.is_live desk.old) }
     requires sendable { IfSent room.old.step IsSendable }
-    ensures goes { (m : Machine) → L.is_at desk.old m → OnOk result (Goes L.is_at L.given L.mark m plan.old room.old.step desk.old desk.new plan.new room.new.step) }
+    ensures goes { (m : Machine) → L.is_at desk.old m → OnOk result (WentOn L.is_at L.given L.mark m plan.old room.old.step desk.old desk.new plan.new room.new.step) }
     ensures moments { (m : Machine) → L.is_at desk.old m → LeavesOpen (IsInRun (L.mark desk.old) m (run_from m plan.old room.old.step)) (L.chip desk.old) (L.chip desk.new) }
     ensures fails { (m : Machine) → L.is_at desk.old m
         → IfErr result (λ failure. FailsSo L.is_at L.given m (IsReadingAt plan.old room.old.step) (run_from m plan.old room.old.step) failure desk.old desk.new) }
@@ -83,7 +83,7 @@ fn print_given<L: Desk>(desk: &mut L, plan: &Plan, room: &mut Room) -> Result<()
     ensures cut { OnErr result (IsStart (rows_text (given_by plan.now room.old.step)) (L.given desk.old) (L.given desk.new)) }
     ensures row { OnErr result (given_by plan.now room.old.step ≢ []) }
     ensures still { given_by plan.now room.old.step ≡ [] → L.mark desk.new ≡ L.mark desk.old }
-    ensures gives { Gives L.is_at L.is_live L.faults L.mark L.chip desk.old desk.new }
+    ensures gives { AfterOutput L.is_at L.is_live L.faults L.mark L.chip desk.old desk.new }
     ensures fails { IfErr result (λ failure. (failure ≡ Failure.Outlet) × Breaks L.faults L.sink_faults desk.old desk.new) }
     ensures works { OnOk result (Works L.is_live L.faults L.sink_faults desk.old desk.new) }
     ensures goes_on { L.goes_on desk.old desk.new }
@@ -102,7 +102,7 @@ fn print_row<L: Desk>(
 ) -> Result<(), Failure>
     ensures printed { OnOk result (Prints (printed_row plan.now.row) (L.given desk.old) (L.given desk.new)) }
     ensures cut { OnErr result (IsStart (printed_row plan.now.row) (L.given desk.old) (L.given desk.new)) }
-    ensures gives { Gives L.is_at L.is_live L.faults L.mark L.chip desk.old desk.new }
+    ensures gives { AfterOutput L.is_at L.is_live L.faults L.mark L.chip desk.old desk.new }
     ensures fails { IfErr result (λ failure. (failure ≡ Failure.Outlet) × Breaks L.faults L.sink_faults desk.old desk.new) }
     ensures works { OnOk result (Works L.is_live L.faults L.sink_faults desk.old desk.new) }
     ensures goes_on { L.goes_on desk.old desk.new }
@@ -118,7 +118,7 @@ pub(crate) fn carry_out<L: Desk>(
     room: &mut Room,
 ) -> Result<Closing, Failure>
     requires live { IsTrue (L.is_live desk.old) }
-    ensures over { (m : Machine) → L.is_at desk.old m → IfOk result (λ closing. IsOver L.is_at L.given L.mark m (run_of m plan.old) closing desk.old desk.new) }
+    ensures over { (m : Machine) → L.is_at desk.old m → IfOk result (λ closing. HasRun L.is_at L.given L.mark m (run_of m plan.old) closing desk.old desk.new) }
     ensures moments { (m : Machine) → L.is_at desk.old m → LeavesOpen (IsInRun (L.mark desk.old) m (run_of m plan.old)) (L.chip desk.old) (L.chip desk.new) }
     ensures fails { (m : Machine) → L.is_at desk.old m → IfErr result (λ failure. FailsSo L.is_at L.given m (OnlyReads plan.old) (run_of m plan.old) failure desk.old desk.new) }
     ensures causes { IfErr result (λ failure. Causes L.is_live L.faults L.sink_faults failure desk.old desk.new) }

@@ -8,7 +8,7 @@ use Rattle.scql_base.proofs.Splitting.{params_of-again}
 use Rattle.scql_model.specs.Matching.{Columns}
 use Rattle.scql_model.specs.Writing.{Assignment, all_assigned, assigned}
 use Rattle.db_write.specs.Assigned.{value_given}
-use Rattle.db_write.proofs.RowAssigned.{IsLeft, IsLeft-first, IsLeft-next, narrow-next, row-pushed, some-left, too_long, unwrap-mapped, value-assigned, whole-left}
+use Rattle.db_write.proofs.RowAssigned.{IsUnassigned, IsLeft-first, IsLeft-next, narrow-next, row-pushed, some-left, too_long, unwrap-mapped, value-assigned, whole-left}
 use Rattle.db_write.proofs.assigning.assigned.Goals as goal
 
 pub loop-column-init : goal.loop-column-init
@@ -16,7 +16,7 @@ loop-column-init c =
     let row = c.args.row.now in
     let columns = c.as_slice-column-items.ensures.names in
     record {
-      left = rw (c.requires.empty, c.octets-rest.ensures) (subst (λ (columns : Columns). IsLeft c.args.changes.now c.as_slice-column-items.result.now (all_assigned c.args.changes.now columns row) row [] (flat_map spelled row)) columns
+      left = rw (c.requires.empty, c.octets-rest.ensures) (subst (λ (columns : Columns). IsUnassigned c.args.changes.now c.as_slice-column-items.result.now (all_assigned c.args.changes.now columns row) row [] (flat_map spelled row)) columns
           (IsLeft-first c.args.changes.now c.as_slice-column-items.result.now row (flat_map spelled row) (params_of-again row) c.len.ensures.row.widths));
       many = ap length c.requires.empty;
     }
@@ -45,7 +45,7 @@ loop-column-preserved c =
     let whole = all_assigned c.args.changes.now c.args.columns.now c.args.row.now in
     let after = c.loop-column.after in
     let rest = c.loop-column.rest.now in
-    let left = subst (λ (columns : Columns). IsLeft c.args.changes.now columns whole c.args.row.now after rest) here c.loop-column.invariant.left in
+    let left = subst (λ (columns : Columns). IsUnassigned c.args.changes.now columns whole c.args.row.now after rest) here c.loop-column.invariant.left in
     let given = given-value c.args.changes.now column c.value_given.result c.in_ok-value.value c.unwrap_or.result c.value_given.ensures.given c.unwrap_or.ensures in
     let pushed = row-pushed after c.push.new.self c.unwrap_or.result.now c.in-Ok.ensures.ok in
     record {
@@ -61,7 +61,7 @@ returns-in_err-value c = record {
       let k = c.loop-column.column-index in
       let here = left-here items k c.column-item.result (omega arith) c.column-item.is in
       let whole = all_assigned c.args.changes.now c.args.columns.now c.args.row.now in
-      let left = subst (λ (columns : Columns). IsLeft c.args.changes.now columns whole c.args.row.now c.loop-column.after c.loop-column.rest.now) here c.loop-column.invariant.left in
+      let left = subst (λ (columns : Columns). IsUnassigned c.args.changes.now columns whole c.args.row.now c.loop-column.after c.loop-column.rest.now) here c.loop-column.invariant.left in
       absurd (some-left c.args.changes.now c.column-item.result (drop (k + 1) items) whole c.args.row.now c.loop-column.after c.loop-column.rest.now left c.in_err-value.ensures.none
       (omega (arith, c.loop-column.invariant.many, ap length here, length-drop k items, ap length c.as_slice-column-items.ensures.names, many)));
 }
@@ -76,7 +76,7 @@ returns-in_default c = record {
       let whole = all_assigned c.args.changes.now c.args.columns.now c.args.row.now in
       let after = c.loop-column.after in
       let rest = c.loop-column.rest.now in
-      let left = subst (λ (columns : Columns). IsLeft c.args.changes.now columns whole c.args.row.now after rest) here c.loop-column.invariant.left in
+      let left = subst (λ (columns : Columns). IsUnassigned c.args.changes.now columns whole c.args.row.now after rest) here c.loop-column.invariant.left in
       let given = given-value c.args.changes.now column c.value_given.result c.in_ok-value.value c.unwrap_or.result c.value_given.ensures.given c.unwrap_or.ensures in
       let few : length after < 15 = omega (arith, c.loop-column.invariant.many, c.loop-column-test.true, ap length c.as_slice-column-items.ensures.names, c.as_slice-column-items.ensures.list.count) in
       let short : length c.unwrap_or.result.now ≤ 200 =
@@ -94,7 +94,7 @@ returns c = record {
       let k = c.loop-column.column-index in
       let whole = all_assigned c.args.changes.now c.args.columns.now c.args.row.now in
       let none : drop k items ≡ [] = drop_all k items c.loop-column-test.false in
-      let left = subst (λ (columns : Columns). IsLeft c.args.changes.now columns whole c.args.row.now c.loop-column.after c.loop-column.rest.now) none c.loop-column.invariant.left in
+      let left = subst (λ (columns : Columns). IsUnassigned c.args.changes.now columns whole c.args.row.now c.loop-column.after c.loop-column.rest.now) none c.loop-column.invariant.left in
       whole-left c.args.changes.now whole c.args.row.now c.loop-column.after c.loop-column.rest.now left
       (omega (arith, c.loop-column.invariant.many, c.loop-column-test.false, c.loop-column.auto.column-index-end, ap length c.as_slice-column-items.ensures.names, many));
 }

@@ -7,7 +7,7 @@ use Rattle.card_link.specs.Link.{Holds, LeavesOpen}
 use Rattle.person.specs.Showing.{Shows}
 use Rattle.planner.specs.Planned.{IfSent}
 use Rattle.card_asking.specs.Following.{to_go}
-use Rattle.card_asking.specs.Calls.{Answers, HasGoneOn}
+use Rattle.card_asking.specs.Calls.{StillAnswers, HasGoneOn}
 use Rattle.table_copy.specs.Filling.{IsFetching, IsFilling, Together}
 use Rattle.table_copy.specs.Progress.{rows_shown}
 use Rattle.table_copy.proofs.copying.insert_rows.Given as goal
@@ -21,8 +21,8 @@ invariant-loop-step g l = record {
   still : (s : Machine) → IsFetching g.S.CardLink.is_at s l.fn.plan l.fn.step l.fn.source
       → LeavesOpen (Holds (g.S.CardLink.mark l.fn.source) s.committed) (g.S.CardLink.chip l.fn.source) (g.S.CardLink.chip l.source);
   moments : (d : Machine) → IsFilling g.D.CardLink.is_at d l.fn.dest → LeavesOpen (Holds (g.D.CardLink.mark l.fn.dest) d.committed) (g.D.CardLink.chip l.fn.dest) (g.D.CardLink.chip l.dest);
-  source : Answers g.S.CardLink.is_live g.S.CardLink.faults l.fn.source l.source;
-  dest : Answers g.D.CardLink.is_live g.D.CardLink.faults l.fn.dest l.dest;
+  source : StillAnswers g.S.CardLink.is_live g.S.CardLink.faults l.fn.source l.source;
+  dest : StillAnswers g.D.CardLink.is_live g.D.CardLink.faults l.fn.dest l.dest;
   few : l.rows + to_go l.plan l.step ≤ to_go l.fn.plan l.fn.step;
   shown : Shows g.P.Person.lost g.P.Person.shown (rows_shown l.rows) l.fn.person l.person;
   sendable : IfSent l.step IsSendable;

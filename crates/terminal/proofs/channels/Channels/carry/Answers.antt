@@ -5,7 +5,7 @@ use Rattle.planner.specs.Readings.{IsSelect}
 use Rattle.planner.specs.Running.{Ran, shown}
 use Rattle.planner.proofs.Readings.{started-reads}
 use Rattle.card_asking.specs.Following.{OnlyReads}
-use Rattle.terminal.specs.Going.{IsOver, IsInRun, FailsSo}
+use Rattle.terminal.specs.Going.{HasRun, IsInRun, FailsSo}
 use Rattle.terminal.proofs.Meant.{started-meant}
 use Rattle.terminal.proofs.Went.{fails-told}
 use Rattle.terminal.proofs.channels.Channels.carry.Goals as goal
@@ -27,7 +27,7 @@ returns-in-Err-clause-fails g c = λ m at knows.
 
 pub returns-in-Ok-clause-over : goal.returns-in-Ok-clause-over
 returns-in-Ok-clause-over g c = λ m at knows.
-    subst (λ (ran : Ran). IsOver g.L.CardLink.is_at g.L.Outlet.given g.L.CardLink.mark m ran c.in-Ok.closing c.args.desk.now c.carry_out.new.desk)
+    subst (λ (ran : Ran). HasRun g.L.CardLink.is_at g.L.Outlet.given g.L.CardLink.mark m ran c.in-Ok.closing c.args.desk.now c.carry_out.new.desk)
     (started-meant m c.args.self.now c.args.plan.now (g.met.L.CardLink.valid c.args.desk.now m at) (search rules) c.requires.started knows)
     (c.in-Ok.ensures.over m at)
 
