@@ -1,5 +1,5 @@
 -- DELETE USER on a card that holds a machine: it is a change, and then the sessions of the user are left.
-use Rattle.std.proofs.Common.{◌≡◌, ◌<◌, ◌∙◌, ℕ, zero, suc, ◌==◌, Bool, true, false, List, [], ◌∷◌, ◌++◌, drop, get_or, length, map, set, take, arith, Option, Some, None, Result, Ok, Err, if◌then◌else◌, refl, sym, ap, subst}
+use Rattle.std.proofs.Common.{◌≡◌, ◌<◌, ◌∙◌, ℕ, zero, suc, ◌==◌, Bool, true, false, List, [], ◌∷◌, ◌++◌, drop, get_or, length, map, set, take, arith, Option, Some, None, Result, Ok, Err, refl, sym, ap, subst}
 use Rattle.std.specs.Prelude.{IfOk, option_map}
 use Rattle.eeprom.specs.Chip.{Chip}
 use Rattle.eeprom.specs.declared.EepromFault.{EepromFault}
@@ -19,7 +19,7 @@ use Rattle.scql_model.specs.Step.{Answer, answered, changed, user_and_sessions_d
 use Rattle.scql_model.specs.Users.{user_deleted}
 use Rattle.card.specs.Answering.{HoldsAnswer, Performs, committed_at_once, replied}
 use Rattle.card.specs.Card.{Kept, HoldsMachine}
-use Rattle.card.specs.Changing.{new_of}
+use Rattle.card.specs.Changing.{gone_after, new_of}
 use Rattle.card.specs.Proved.{presents}
 use Rattle.card.specs.declared.found.Found.{Found}
 use Rattle.card.specs.Sessions.{left_session, session_seen, sessions_of}
@@ -68,9 +68,10 @@ left_card stamp card = record card { sessions = map (option_map (left_by stamp))
 HoldsMachine-left : (card : Kept) (chip : Chip) (m : Machine) (stamp : ℕ) → HoldsMachine card chip m → HoldsMachine (left_card stamp card) chip (without_user m stamp)
 HoldsMachine-left card chip m stamp at = HoldsMachine-sessions (map (option_map (left_by stamp))) card chip m at
 
--- the card after a change that answers this word, where this user has the name
-abbrev pub left_after : User → StatusWord → Kept → Kept
-left_after u word card = if word.word == done.word then left_card u.stamp card else card
+-- the card after a change, where the user of this stamp is gone, or none
+abbrev pub left_after : Option ℕ → Kept → Kept
+left_after (Some stamp) card = left_card stamp card
+left_after None card = card
 
 -- a user who isn't there isn't deleted
 deleted-nobody : (db : Database) (actor : Actor) (cursor : Option Cursor) (name : List ℕ) → user_named db.users name ≡ None → new_of db (edits_of db actor cursor (DeleteUser name)) ≡ Err not_found
@@ -93,45 +94,42 @@ module _ (m : Machine) (channel : ℕ) (name : List ℕ) (none : m.transaction �
       ap (λ (answer : Result Answer StatusWord). answer >>= leaving (user_named (base m channel).users name)) (changed-so r is)
       ∙ ap (λ (o : Option User). committed_at_once m channel r >>= leaving o) (ap (λ (db : Database). user_named db.users name) (committed-base m channel none) ∙ named)
 
-  pub refused-nobody : user_named m.committed.users name ≡ None → user_and_sessions_deleted m channel name ≡ Err not_found
-  refused-nobody named = deleted-so (Err not_found) None (deleted-nobody m.committed (actor m channel) (cursor_of m channel) name named) named
-
   -- a refusal is that of the change, and leaves the sessions
-  refused-so : (word : StatusWord) (card after : Kept) (new : Chip) (sent : StatusWord) (u : User) → outcome ≡ Err word → HoldsAnswer (answered m (changed m channel (DeleteUser name))) (replied [] sent) card new → after ≡ left_after u sent card
-      → after ≡ card
-  refused-so word card after new sent u is holds set =
+  refused-so : (word : StatusWord) (card after : Kept) (new : Chip) (sent : StatusWord) → outcome ≡ Err word → HoldsAnswer (answered m (changed m channel (DeleteUser name))) (replied [] sent) card new
+      → after ≡ left_after (gone_after m.committed name sent None) card → after ≡ card
+  refused-so word card after new sent is holds set =
       let said_so : sent ≡ word = ap (λ (reply : Reply). reply.word) holds.reply ∙ ap (λ (r : Result Answer StatusWord). (answered m r).reply.word) (changed-so (Err word) is) in
       let other : (sent.word == done.word) ≡ false = ap (λ (w : StatusWord). w.word == done.word) said_so ∙ refused-not_done m.committed (actor m channel) (cursor_of m channel) (DeleteUser name) word is in
       set ∙ rw other refl
 
-  module _ (most : ℕ) (result : Result StatusWord EepromFault) (card after : Kept) (old new : Chip) (u : User) (named : user_named m.committed.users name ≡ Some u)
-      (performs : Performs m (answered m (changed m channel (DeleteUser name))) most [] result card old new) (set : IfOk result (λ word. after ≡ left_after u word card)) where
+  module _ (most : ℕ) (result : Result StatusWord EepromFault) (card after : Kept) (old new : Chip)
+      (performs : Performs m (answered m (changed m channel (DeleteUser name))) most [] result card old new) (set : IfOk result (λ word. after ≡ left_after (gone_after m.committed name word None) card)) where
     refused : (word : StatusWord) → outcome ≡ Err word → Performs m (answered m (user_and_sessions_deleted m channel name)) most [] result after old new
     refused word is =
-        let same : answered m (changed m channel (DeleteUser name)) ≡ answered m (user_and_sessions_deleted m channel name) = ap (answered m) (changed-so (Err word) is) ∙ sym (ap (answered m) (deleted-so (Err word) (Some u) is named)) in
+        let same : answered m (changed m channel (DeleteUser name)) ≡ answered m (user_and_sessions_deleted m channel name) = ap (answered m) (changed-so (Err word) is) ∙ sym (ap (answered m) (deleted-so (Err word) _ is refl)) in
         subst (λ (answer : Answer). Performs m answer most [] result after old new) same
         (record { step = each result performs.step set; moments = performs.moments; unwritten = performs.unwritten; octets = performs.octets })
       where
-        each : (r : Result StatusWord EepromFault) → IfOk r (λ sent. HoldsAnswer (answered m (changed m channel (DeleteUser name))) (replied [] sent) card new) → IfOk r (λ sent. after ≡ left_after u sent card)
+        each : (r : Result StatusWord EepromFault) → IfOk r (λ sent. HoldsAnswer (answered m (changed m channel (DeleteUser name))) (replied [] sent) card new) → IfOk r (λ sent. after ≡ left_after (gone_after m.committed name sent None) card)
             → IfOk r (λ sent. HoldsAnswer (answered m (changed m channel (DeleteUser name))) (replied [] sent) after new)
         each (Ok sent) holds set =
-            let still = refused-so word card after new sent u is holds set in
+            let still = refused-so word card after new sent is holds set in
             subst (λ (kept : Kept). HoldsAnswer (answered m (changed m channel (DeleteUser name))) (replied [] sent) kept new) (sym still) holds
         each (Err fault) holds set = tt
 
-    deleted : (db : Database) → outcome ≡ Ok db → Performs m (answered m (user_and_sessions_deleted m channel name)) most [] result after old new
-    deleted db is =
+    deleted : (db : Database) (u : User) → outcome ≡ Ok db → user_named m.committed.users name ≡ Some u → Performs m (answered m (user_and_sessions_deleted m channel name)) most [] result after old new
+    deleted db u is named =
         let was : answered m (changed m channel (DeleteUser name)) ≡ answered m (committed_at_once m channel (Ok db)) = ap (answered m) (changed-so (Ok db) is) in
         let so : answered m (user_and_sessions_deleted m channel name) ≡ answered m (committed_at_once m channel (Ok db) >>= leaving (Some u)) = ap (answered m) (deleted-so (Ok db) (Some u) is named) in
         let by = subst (λ (answer : Answer). Performs m answer most [] result card old new) was performs in
         subst (λ (answer : Answer). Performs m answer most [] result after old new) (sym so)
         (record { step = each result by.step set; moments = by.moments; unwritten = by.unwritten; octets = by.octets })
       where
-        each : (r : Result StatusWord EepromFault) → IfOk r (λ sent. HoldsAnswer (answered m (committed_at_once m channel (Ok db))) (replied [] sent) card new) → IfOk r (λ sent. after ≡ left_after u sent card)
+        each : (r : Result StatusWord EepromFault) → IfOk r (λ sent. HoldsAnswer (answered m (committed_at_once m channel (Ok db))) (replied [] sent) card new) → IfOk r (λ sent. after ≡ left_after (gone_after m.committed name sent None) card)
             → IfOk r (λ sent. HoldsAnswer (answered m (committed_at_once m channel (Ok db) >>= leaving (Some u))) (replied [] sent) after new)
         each (Ok sent) holds set =
             let right : sent ≡ done = ap (λ (reply : Reply). reply.word) holds.reply in
-            let last : after ≡ left_card u.stamp card = set ∙ rw right refl in
+            let last : after ≡ left_card u.stamp card = set ∙ rw (right, named) refl in
             record {
               reply = holds.reply;
               held = subst (λ (kept : Kept). HoldsMachine kept new (answered m (committed_at_once m channel (Ok db) >>= leaving (Some u))).machine) (sym last)
@@ -140,8 +138,10 @@ module _ (m : Machine) (channel : ℕ) (name : List ℕ) (none : m.transaction �
         each (Err fault) holds set = tt
 
     pub Performs-deleted : Performs m (answered m (user_and_sessions_deleted m channel name)) most [] result after old new
-    Performs-deleted = of outcome refl
+    Performs-deleted = of outcome refl (user_named m.committed.users name) refl
       where
-        of : (r : Result Database StatusWord) → outcome ≡ r → Performs m (answered m (user_and_sessions_deleted m channel name)) most [] result after old new
-        of (Err word) is = refused word is
-        of (Ok db) is = deleted db is
+        of : (r : Result Database StatusWord) → outcome ≡ r → (found : Option User) → user_named m.committed.users name ≡ found
+            → Performs m (answered m (user_and_sessions_deleted m channel name)) most [] result after old new
+        of (Err word) is found named = refused word is
+        of (Ok db) is (Some u) named = deleted db u is named
+        of (Ok db) is None named = (let none = sym is ∙ deleted-nobody m.committed (actor m channel) (cursor_of m channel) name named in absurd cc)

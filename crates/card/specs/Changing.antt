@@ -1,5 +1,5 @@
 -- A change of the database of a card: which operations make one, for whom, and what it comes to.
-use Rattle.std.specs.Prelude.{◌≡◌, ◌⊎◌, ℕ, Bool, true, false, List, [], ◌∷◌, Result, Ok, Err, IfOk, OnOk}
+use Rattle.std.specs.Prelude.{◌≡◌, ◌⊎◌, ◌==◌, ℕ, Bool, true, false, List, [], ◌∷◌, Option, Result, Ok, Err, IfOk, OnOk, option_map, if◌then◌else◌}
 use Rattle.eeprom.specs.Chip.{Chip, Becomes, RisesAtMost}
 use Rattle.eeprom.specs.declared.EepromFault.{EepromFault}
 use Rattle.record_store.specs.Held.{Held}
@@ -7,10 +7,11 @@ use Rattle.record_store.specs.declared.side.Side.{Side}
 use Rattle.scql_base.specs.declared.operation.Operation.{Operation}
 use Rattle.scql_base.specs.declared.operation.OperationKind.{OperationKind}
 use Rattle.scql_base.specs.declared.operation.OperationKind.TheVariants.{CreateTable, CreateView, CreateDictionary, DropTable, DropView, Grant, Revoke, Insert, Update, Delete, CreateUser, DeleteUser}
+use Rattle.scql_base.specs.declared.records.User.{User}
 use Rattle.scql_base.specs.declared.words.StatusWord.{StatusWord}
 use Rattle.scql_base.specs.Words.{done}
 use Rattle.scql_model.specs.Bound.{or_nothing}
-use Rattle.scql_model.specs.Database.{Database}
+use Rattle.scql_model.specs.Database.{Database, user_named}
 use Rattle.scql_model.specs.Edits.{Edit, octets_for, with_edits}
 use Rattle.scql_model.specs.Operations.{kind_of}
 use Rattle.scql_model.specs.Refusals.{◌>>=◌}
@@ -91,3 +92,11 @@ abbrev pub ConcludesWithin : Database → Result (List Edit) StatusWord → Stat
 ConcludesWithin db edited word before after old new =
     ((edits : List Edit) × (edited ≡ Ok edits) × (word ≡ done) × Makes db edits before after old new)
     ⊎ ((new_of db edited ≡ Err word) × (after ≡ before) × (new ≡ old))
+
+-- the stamp that the user of a name has
+abbrev pub stamp_named : Database → List ℕ → Option ℕ
+stamp_named db name = option_map (λ (u : User). u.stamp) (user_named db.users name)
+
+-- whose stamp is told once DELETE USER of a name was answered with a word: the user's, if it is done
+abbrev pub gone_after : Database → List ℕ → StatusWord → Option ℕ → Option ℕ
+gone_after db name word before = if word.word == done.word then stamp_named db name else before

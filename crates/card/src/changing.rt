@@ -1,5 +1,5 @@
 // Changes of the database, each for who acts, in a transaction of its own.
-ghost use Rattle.std.specs.Prelude.{◌≡◌, ℕ, ◌≤◌, ◌*◌, Option, drop, false, true, is_some, IfOk, IfSome, IsTrue, IsErrOf, OnOk};
+ghost use Rattle.std.specs.Prelude.{◌≡◌, ℕ, ◌≤◌, ◌*◌, List, Option, drop, false, true, is_some, IfOk, IfSome, IsTrue, IsErrOf, OnOk, OnErr};
 ghost use Rattle.eeprom.specs.Chip.{Becomes, Keeps};
 ghost use Rattle.eeprom.specs.Fault.{Counts, CountsFaults, each_error};
 ghost use Rattle.eeprom.specs.Frame.{Reads};
@@ -7,6 +7,7 @@ ghost use Rattle.eeprom.specs.StoreOf.{store_of, cell_size, image_size};
 ghost use Rattle.record_store.specs.Held.{IsOver};
 ghost use Rattle.record_store.specs.declared.side.Side.TheVariants.{Committed, Working};
 ghost use Rattle.scql_base.specs.declared.cursor.Cursor as model;
+ghost use Rattle.scql_base.specs.declared.operation.Operation.TheVariants as asks;
 ghost use Rattle.scql_model.specs.Changing.{edits_of};
 ghost use Rattle.scql_model.specs.Creating.{IsActorOf, actor_stamp};
 ghost use Rattle.scql_model.specs.Cursors.{IsCursorOf};
@@ -17,13 +18,14 @@ ghost use Rattle.cursor.specs.Costs.{RisesBetween};
 ghost use Rattle.record_table.specs.Listed.{slots_of};
 ghost use Rattle.record_table.specs.Making.{IsHeld, Ends, GoesOn, is_stop_fault};
 ghost use Rattle.row_index.specs.Index.{Indexes, is_above};
+ghost use Rattle.row_table.specs.Tables.{Stand};
 ghost use Rattle.record_table.specs.AtRest.{IsAtRest};
 ghost use Rattle.card.specs.Card.{HoldsSome};
 ghost use Rattle.card.specs.Acting.{acting};
 ghost use Rattle.db_read.specs.Scan.{IsRightFor};
 ghost use Rattle.db_read.specs.Searched.{user_cells};
 ghost use Rattle.card.specs.Changing as specs;
-ghost use Rattle.card.specs.Changing.{IsChange, Changes, ConcludesWithin, KeepsCatalog, goes_through_cursor};
+ghost use Rattle.card.specs.Changing.{IsChange, Changes, ConcludesWithin, KeepsCatalog, goes_through_cursor, gone_after, stamp_named};
 
 use db_access::{create_user, delete_user, grant, revoke};
 use db_define::{create_dictionary, create_table, create_view, drop_table, drop_view};
@@ -32,7 +34,7 @@ use db_write::{delete, insert, update};
 use eeprom::{Eeprom, EepromFault};
 use record_store::{Side, Store};
 use record_table::{Stop, find_stamp};
-use row_index::RowIndex;
+use row_table::Tables;
 use scql_base::{Actor, Cursor, Operation, StatusWord, User};
 
 /// Whether an operation changes rows, and leaves users, objects and grants as they are.
@@ -47,52 +49,46 @@ pub(crate) fn changes_rows(operation: &Operation) -> bool
 
 /// Changes the database by an operation, for the user of this stamp or for the public, through a cursor where it is UPDATE or DELETE,
 /// and commits it. Where the operation is refused nothing is written, and the word of the refusal is answered. For whom the user acts
-/// isn't looked for where it is known.
+/// isn't looked for where it is known. The stamp of a user who is deleted is told.
 pub(crate) fn change<B: Eeprom>(
-    store: &mut Store,
+    tables: &mut Tables,
     bench: &mut B,
-    index: &mut RowIndex,
     user: Option<u32>,
     known: Option<Actor>,
     cursor: &Option<Cursor>,
     operation: &Operation,
     scan: &mut Scan,
+    gone: &mut Option<u32>,
 ) -> Result<StatusWord, EepromFault>
-    requires idle { store.old.begun ≡ false }
-    requires over { IsOver store.old (B.chip bench.old) }
-    requires holds { HoldsSome store.old Committed (B.chip bench.old) }
-    requires index_idle { index.old.begun ≡ false }
-    requires index { Indexes index.old store.old (B.chip bench.old) }
-    requires known { (db : Database) → IsHeld store.old Committed (B.chip bench.old) db → IfSome known (λ actor. actor ≡ acting db user) }
-    requires right { (db : Database) → IsHeld store.old Committed (B.chip bench.old) db → IsRightFor db (acting db user) scan.old cursor.now }
+    requires idle { tables.old.store.begun ≡ false }
+    requires stand { Stand tables.old (B.chip bench.old) }
+    requires holds { HoldsSome tables.old.store Committed (B.chip bench.old) }
+    requires known { (db : Database) → IsHeld tables.old.store Committed (B.chip bench.old) db → IfSome known (λ actor. actor ≡ acting db user) }
+    requires right { (db : Database) → IsHeld tables.old.store Committed (B.chip bench.old) db → IsRightFor db (acting db user) scan.old cursor.now }
     requires changes { IsChange operation.now }
     requires formed { HasForm operation.now }
-    requires fits { FitsCard store.old.row_limit operation.now }
-    ensures changes { (db : Database) → IsAtRest store.old (B.chip bench.old) db → IfSome cursor.now (IsCursorOf db)
-        → Changes db (edits_of db (acting db user) cursor.now operation.now) result store.new (B.chip bench.old) (B.chip bench.new) }
-    ensures catalog { specs.changes_rows (kind_of operation.now) ≡ true → OnOk result (KeepsCatalog Committed store.old store.new (B.chip bench.old) (B.chip bench.new)) }
-    ensures over { OnOk result (IsOver store.new (B.chip bench.new)) }
-    ensures idle { OnOk result (store.new.begun ≡ false) }
-    ensures holds { OnOk result (HoldsSome store.new Committed (B.chip bench.new)) }
-    ensures index_idle { OnOk result (index.new.begun ≡ false) }
-    ensures index { OnOk result (Indexes index.new store.new (B.chip bench.new)) }
-    ensures cells { OnOk result (store.new.chains.cells ≡ store.old.chains.cells) }
+    requires fits { FitsCard tables.old.store.row_limit operation.now }
+    ensures changes { (db : Database) → IsAtRest tables.old.store (B.chip bench.old) db → IfSome cursor.now (IsCursorOf db)
+        → Changes db (edits_of db (acting db user) cursor.now operation.now) result tables.new.store (B.chip bench.old) (B.chip bench.new) }
+    ensures catalog { specs.changes_rows (kind_of operation.now) ≡ true → OnOk result (KeepsCatalog Committed tables.old.store tables.new.store (B.chip bench.old) (B.chip bench.new)) }
+    ensures stand { OnOk result (Stand tables.new (B.chip bench.new)) }
+    ensures idle { OnOk result (tables.new.store.begun ≡ false) }
+    ensures holds { OnOk result (HoldsSome tables.new.store Committed (B.chip bench.new)) }
+    ensures cells { OnOk result (tables.new.store.chains.cells ≡ tables.old.store.chains.cells) }
     ensures scan_same { scan.new ≡ scan.old }
-    ensures behind { Keeps (drop (image_size store.old.chains.cells)) (B.chip bench.old) (B.chip bench.new) }
+    ensures gone { (db : Database) (name : List ℕ) → IsAtRest tables.old.store (B.chip bench.old) db → operation.now ≡ asks.DeleteUser name → IfOk result (λ word. gone.new ≡ gone_after db name word gone.old) }
+    ensures behind { Keeps (drop (image_size tables.old.store.chains.cells)) (B.chip bench.old) (B.chip bench.new) }
     ensures cause { Counts (B.faults bench.old) (B.faults bench.new) result }
 {
-    let actor = actor_known(store, bench, Side::Committed, user, known)?;
-    store.begin();
-    index.begin();
-    match make(store, bench, index, actor, cursor, operation, scan) {
+    let actor = actor_known(&tables.store, bench, Side::Committed, user, known)?;
+    tables.begin();
+    match make(tables, bench, actor, cursor, operation, scan, gone) {
         Ok(()) => {
-            store.commit(bench)?;
-            index.commit();
+            tables.commit(bench)?;
             Ok(StatusWord::DONE)
         }
         Err(Stop::Refused { word }) => {
-            store.rollback();
-            index.rollback();
+            tables.rollback();
             Ok(word)
         }
         Err(Stop::Fault) => Err(EepromFault),
@@ -101,150 +97,147 @@ pub(crate) fn change<B: Eeprom>(
 
 /// Changes the working database of a transaction that is open, as `change` does a committed one. What is committed stays.
 pub(crate) fn change_within<B: Eeprom>(
-    store: &mut Store,
+    tables: &mut Tables,
     bench: &mut B,
-    index: &mut RowIndex,
     user: Option<u32>,
     known: Option<Actor>,
     cursor: &Option<Cursor>,
     operation: &Operation,
     scan: &mut Scan,
 ) -> Result<StatusWord, EepromFault>
-    requires begun { IsTrue store.old.begun }
-    requires over { IsOver store.old (B.chip bench.old) }
-    requires works { HoldsSome store.old Working (B.chip bench.old) }
-    requires index_begun { IsTrue index.old.begun }
-    requires index { Indexes index.old store.old (B.chip bench.old) }
-    requires last { (db : Database) → IsHeld store.old Working (B.chip bench.old) db → is_above db.next index.old.committed ≡ true }
-    requires known { (db : Database) → IsHeld store.old Working (B.chip bench.old) db → IfSome known (λ actor. actor ≡ acting db user) }
-    requires right { (db : Database) → IsHeld store.old Working (B.chip bench.old) db → IsRightFor db (acting db user) scan.old cursor.now }
+    requires begun { IsTrue tables.old.store.begun }
+    requires stand { Stand tables.old (B.chip bench.old) }
+    requires works { HoldsSome tables.old.store Working (B.chip bench.old) }
+    requires last { (db : Database) → IsHeld tables.old.store Working (B.chip bench.old) db → is_above db.next tables.old.index.committed ≡ true }
+    requires known { (db : Database) → IsHeld tables.old.store Working (B.chip bench.old) db → IfSome known (λ actor. actor ≡ acting db user) }
+    requires right { (db : Database) → IsHeld tables.old.store Working (B.chip bench.old) db → IsRightFor db (acting db user) scan.old cursor.now }
     requires changes { IsChange operation.now }
     requires formed { HasForm operation.now }
-    requires fits { FitsCard store.old.row_limit operation.now }
-    ensures changes { (db : Database) → IsHeld store.old Working (B.chip bench.old) db → IfSome cursor.now (IsCursorOf db)
-        → IfOk result (λ word. ConcludesWithin db (edits_of db (acting db user) cursor.now operation.now) word store.old store.new (B.chip bench.old) (B.chip bench.new)) }
-    ensures catalog { specs.changes_rows (kind_of operation.now) ≡ true → OnOk result (KeepsCatalog Working store.old store.new (B.chip bench.old) (B.chip bench.new)) }
-    ensures works { OnOk result (HoldsSome store.new Working (B.chip bench.new)) }
+    requires fits { FitsCard tables.old.store.row_limit operation.now }
+    ensures changes { (db : Database) → IsHeld tables.old.store Working (B.chip bench.old) db → IfSome cursor.now (IsCursorOf db)
+        → IfOk result (λ word. ConcludesWithin db (edits_of db (acting db user) cursor.now operation.now) word tables.old.store tables.new.store (B.chip bench.old) (B.chip bench.new)) }
+    ensures catalog { specs.changes_rows (kind_of operation.now) ≡ true → OnOk result (KeepsCatalog Working tables.old.store tables.new.store (B.chip bench.old) (B.chip bench.new)) }
+    ensures works { OnOk result (HoldsSome tables.new.store Working (B.chip bench.new)) }
     // Whatever the cursor is, no stamp that was given out is left again.
-    ensures stamps { (db next : Database) → IsHeld store.old Working (B.chip bench.old) db → OnOk result (IsHeld store.new Working (B.chip bench.new) next → db.next ≤ next.next) }
-    ensures committed { OnOk result (slots_of store.new Committed (B.chip bench.new) ≡ slots_of store.old Committed (B.chip bench.old)) }
-    ensures goes_on { OnOk result (GoesOn store.old store.new (B.chip bench.old) (B.chip bench.new)) }
-    ensures index { OnOk result (Indexes index.new store.new (B.chip bench.new)) }
-    ensures index_begun { OnOk result (IsTrue index.new.begun) }
+    ensures stamps { (db next : Database) → IsHeld tables.old.store Working (B.chip bench.old) db → OnOk result (IsHeld tables.new.store Working (B.chip bench.new) next → db.next ≤ next.next) }
+    ensures committed { OnOk result (slots_of tables.new.store Committed (B.chip bench.new) ≡ slots_of tables.old.store Committed (B.chip bench.old)) }
+    ensures goes_on { OnOk result (GoesOn tables.old.store tables.new.store (B.chip bench.old) (B.chip bench.new)) }
+    ensures stand { OnOk result (Stand tables.new (B.chip bench.new)) }
     ensures scan_same { scan.new ≡ scan.old }
     ensures moments { Keeps store_of (B.chip bench.old) (B.chip bench.new) }
-    ensures behind { Keeps (drop (image_size store.old.chains.cells)) (B.chip bench.old) (B.chip bench.new) }
+    ensures behind { Keeps (drop (image_size tables.old.store.chains.cells)) (B.chip bench.old) (B.chip bench.new) }
     ensures cause { Counts (B.faults bench.old) (B.faults bench.new) result }
 {
-    let actor = actor_known(store, bench, Side::Working, user, known)?;
-    match make(store, bench, index, actor, cursor, operation, scan) {
+    let actor = actor_known(&tables.store, bench, Side::Working, user, known)?;
+    let mut gone = None;
+    match make(tables, bench, actor, cursor, operation, scan, &mut gone) {
         Ok(()) => Ok(StatusWord::DONE),
-        Err(Stop::Refused { word }) => Ok(word),
-        Err(Stop::Fault) => Err(EepromFault),
+        Err(stop) => stop.answer(),
     }
 }
 
 // Makes the change on the working side of a transaction.
 fn make<B: Eeprom>(
-    store: &mut Store,
+    tables: &mut Tables,
     bench: &mut B,
-    index: &mut RowIndex,
     actor: Actor,
     cursor: &Option<Cursor>,
     operation: &Operation,
     scan: &mut Scan,
+    gone: &mut Option<u32>,
 ) -> Result<(), Stop>
-    requires begun { IsTrue store.old.begun }
-    requires over { IsOver store.old (B.chip bench.old) }
-    requires index_begun { IsTrue index.old.begun }
-    requires index { Indexes index.old store.old (B.chip bench.old) }
-    requires last { (db : Database) → IsHeld store.old Working (B.chip bench.old) db → is_above db.next index.old.committed ≡ true }
-    requires right { (db : Database) → IsHeld store.old Working (B.chip bench.old) db → IsRightFor db actor scan.old cursor.now }
+    requires begun { IsTrue tables.old.store.begun }
+    requires stand { Stand tables.old (B.chip bench.old) }
+    requires last { (db : Database) → IsHeld tables.old.store Working (B.chip bench.old) db → is_above db.next tables.old.index.committed ≡ true }
+    requires right { (db : Database) → IsHeld tables.old.store Working (B.chip bench.old) db → IsRightFor db actor scan.old cursor.now }
     requires changes { IsChange operation.now }
-    requires fits { FitsCard store.old.row_limit operation.now }
-    ensures ends { (db : Database) → IsHeld store.old Working (B.chip bench.old) db → IfSome cursor.now (IsCursorOf db) → IsActorOf db actor → HasForm operation.now → FitsCard db.limit operation.now
-        → Ends db (edits_of db actor cursor.now operation.now) result store.old store.new (B.chip bench.old) (B.chip bench.new) }
+    requires fits { FitsCard tables.old.store.row_limit operation.now }
+    ensures ends { (db : Database) → IsHeld tables.old.store Working (B.chip bench.old) db → IfSome cursor.now (IsCursorOf db) → IsActorOf db actor → HasForm operation.now → FitsCard db.limit operation.now
+        → Ends db (edits_of db actor cursor.now operation.now) result tables.old.store tables.new.store (B.chip bench.old) (B.chip bench.new) }
     // Whatever the cursor is, it ends as through some cursor.
-    ensures through { (db : Database) → IsHeld store.old Working (B.chip bench.old) db → IsActorOf db actor → HasForm operation.now → FitsCard db.limit operation.now
-        → (through : Option model.Cursor) × Ends db (edits_of db actor through operation.now) result store.old store.new (B.chip bench.old) (B.chip bench.new) }
-    ensures goes_on { ¬ IsErrOf result Stop.Fault → GoesOn store.old store.new (B.chip bench.old) (B.chip bench.new) }
-    ensures index { (db : Database) → IsHeld store.old Working (B.chip bench.old) db → IsActorOf db actor → HasForm operation.now → FitsCard db.limit operation.now
-        → ¬ IsErrOf result Stop.Fault → Indexes index.new store.new (B.chip bench.new) }
-    ensures index_cells { index.new.cells ≡ index.old.cells }
-    ensures index_committed { index.new.committed ≡ index.old.committed }
-    ensures index_begun { IsTrue index.new.begun }
+    ensures through { (db : Database) → IsHeld tables.old.store Working (B.chip bench.old) db → IsActorOf db actor → HasForm operation.now → FitsCard db.limit operation.now
+        → (through : Option model.Cursor) × Ends db (edits_of db actor through operation.now) result tables.old.store tables.new.store (B.chip bench.old) (B.chip bench.new) }
+    ensures goes_on { ¬ IsErrOf result Stop.Fault → GoesOn tables.old.store tables.new.store (B.chip bench.old) (B.chip bench.new) }
+    ensures index { (db : Database) → IsHeld tables.old.store Working (B.chip bench.old) db → IsActorOf db actor → HasForm operation.now → FitsCard db.limit operation.now
+        → ¬ IsErrOf result Stop.Fault → Indexes tables.new.index tables.new.store (B.chip bench.new) }
+    ensures index_cells { tables.new.index.cells ≡ tables.old.index.cells }
+    ensures index_committed { tables.new.index.committed ≡ tables.old.index.committed }
+    ensures index_begun { IsTrue tables.new.index.begun }
     ensures scan_same { scan.new ≡ scan.old }
+    ensures gone { (db : Database) (name : List ℕ) → IsHeld tables.old.store Working (B.chip bench.old) db → operation.now ≡ asks.DeleteUser name → OnOk result (gone.new ≡ stamp_named db name) }
+    ensures none_gone { OnErr result (gone.new ≡ gone.old) }
     ensures moments { Keeps store_of (B.chip bench.old) (B.chip bench.new) }
-    ensures behind { Keeps (drop (image_size store.old.chains.cells)) (B.chip bench.old) (B.chip bench.new) }
+    ensures behind { Keeps (drop (image_size tables.old.store.chains.cells)) (B.chip bench.old) (B.chip bench.new) }
     ensures cause { CountsFaults is_stop_fault (B.faults bench.old) (B.faults bench.new) result }
 {
     match operation {
         Operation::Update { changes } => {
-            update(store, bench, actor, cursor, changes, index, scan)
+            update(
+                &mut tables.store, bench, actor, cursor, changes, &mut tables.index, scan,
+            )
         }
-        Operation::Delete => delete(store, bench, actor, cursor, index, scan),
-        operation => make_without_cursor(store, bench, index, actor, operation),
+        Operation::Delete => delete(&mut tables.store, bench, actor, cursor, &mut tables.index, scan),
+        operation => make_without_cursor(tables, bench, actor, operation, gone),
     }
 }
 
-// Makes a change that goes through no cursor.
+// Makes a change that goes through no cursor. The stamp of a user who is deleted is told.
 fn make_without_cursor<B: Eeprom>(
-    store: &mut Store,
+    tables: &mut Tables,
     bench: &mut B,
-    index: &mut RowIndex,
     actor: Actor,
     operation: &Operation,
+    gone: &mut Option<u32>,
 ) -> Result<(), Stop>
-    requires begun { IsTrue store.old.begun }
-    requires over { IsOver store.old (B.chip bench.old) }
-    requires index_begun { IsTrue index.old.begun }
-    requires index { Indexes index.old store.old (B.chip bench.old) }
-    requires last { (db : Database) → IsHeld store.old Working (B.chip bench.old) db → is_above db.next index.old.committed ≡ true }
+    requires begun { IsTrue tables.old.store.begun }
+    requires stand { Stand tables.old (B.chip bench.old) }
+    requires last { (db : Database) → IsHeld tables.old.store Working (B.chip bench.old) db → is_above db.next tables.old.index.committed ≡ true }
     requires changes { IsChange operation.now }
     requires no_cursor { goes_through_cursor (kind_of operation.now) ≡ false }
-    requires fits { FitsCard store.old.row_limit operation.now }
-    ensures ends { (db : Database) (cursor : Option model.Cursor) → IsHeld store.old Working (B.chip bench.old) db → IsActorOf db actor → HasForm operation.now → FitsCard db.limit operation.now
-        → Ends db (edits_of db actor cursor operation.now) result store.old store.new (B.chip bench.old) (B.chip bench.new) }
-    ensures goes_on { ¬ IsErrOf result Stop.Fault → GoesOn store.old store.new (B.chip bench.old) (B.chip bench.new) }
-    ensures index { (db : Database) → IsHeld store.old Working (B.chip bench.old) db → IsActorOf db actor → HasForm operation.now → FitsCard db.limit operation.now
-        → ¬ IsErrOf result Stop.Fault → Indexes index.new store.new (B.chip bench.new) }
-    ensures index_cells { index.new.cells ≡ index.old.cells }
-    ensures index_committed { index.new.committed ≡ index.old.committed }
-    ensures index_begun { IsTrue index.new.begun }
+    requires fits { FitsCard tables.old.store.row_limit operation.now }
+    ensures ends { (db : Database) (cursor : Option model.Cursor) → IsHeld tables.old.store Working (B.chip bench.old) db → IsActorOf db actor → HasForm operation.now → FitsCard db.limit operation.now
+        → Ends db (edits_of db actor cursor operation.now) result tables.old.store tables.new.store (B.chip bench.old) (B.chip bench.new) }
+    ensures goes_on { ¬ IsErrOf result Stop.Fault → GoesOn tables.old.store tables.new.store (B.chip bench.old) (B.chip bench.new) }
+    ensures index { (db : Database) → IsHeld tables.old.store Working (B.chip bench.old) db → IsActorOf db actor → HasForm operation.now → FitsCard db.limit operation.now
+        → ¬ IsErrOf result Stop.Fault → Indexes tables.new.index tables.new.store (B.chip bench.new) }
+    ensures index_cells { tables.new.index.cells ≡ tables.old.index.cells }
+    ensures index_committed { tables.new.index.committed ≡ tables.old.index.committed }
+    ensures index_begun { IsTrue tables.new.index.begun }
+    ensures gone { (db : Database) (name : List ℕ) → IsHeld tables.old.store Working (B.chip bench.old) db → operation.now ≡ asks.DeleteUser name → OnOk result (gone.new ≡ stamp_named db name) }
+    ensures none_gone { OnErr result (gone.new ≡ gone.old) }
     ensures moments { Keeps store_of (B.chip bench.old) (B.chip bench.new) }
-    ensures behind { Keeps (drop (image_size store.old.chains.cells)) (B.chip bench.old) (B.chip bench.new) }
+    ensures behind { Keeps (drop (image_size tables.old.store.chains.cells)) (B.chip bench.old) (B.chip bench.new) }
     ensures cause { CountsFaults is_stop_fault (B.faults bench.old) (B.faults bench.new) result }
 {
     match operation {
         Operation::CreateTable { name, columns } => {
-            create_table(store, bench, actor, name.copy(), columns, index)
+            create_table(&mut tables.store, bench, actor, name.copy(), columns, &mut tables.index)
         }
         Operation::CreateView {
             name,
             base,
             columns,
             conditions,
-        } => create_view(
-            store,
+        } => create_view(&mut tables.store,
             bench,
             actor,
             name.copy(),
             base.copy(),
             columns,
             conditions,
-            index,
+            &mut tables.index,
         ),
         Operation::CreateDictionary { name, subject } => {
-            create_dictionary(store, bench, actor, name.copy(), *subject, index)
+            create_dictionary(&mut tables.store, bench, actor, name.copy(), *subject, &mut tables.index)
         }
-        Operation::DropTable { name } => drop_table(store, bench, actor, name.copy(), index),
-        Operation::DropView { name } => drop_view(store, bench, actor, name.copy(), index),
+        Operation::DropTable { name } => drop_table(&mut tables.store, bench, actor, name.copy(), &mut tables.index),
+        Operation::DropView { name } => drop_view(&mut tables.store, bench, actor, name.copy(), &mut tables.index),
         Operation::Grant {
             privileges,
             object,
             grantee,
         } => grant(
-            store,
+            tables,
             bench,
             actor,
             *privileges,
@@ -256,20 +249,23 @@ fn make_without_cursor<B: Eeprom>(
             object,
             grantee,
         } => revoke(
-            store,
+            tables,
             bench,
             actor,
             *privileges,
             object.copy(),
             grantee.copy(),
         ),
-        Operation::Insert { table, row } => insert(store, bench, actor, table.copy(), row, index),
+        Operation::Insert { table, row } => insert(tables, bench, actor, table.copy(), row),
         Operation::CreateUser {
             name,
             profile,
             secret,
-        } => create_user(store, bench, actor, name.copy(), *profile, secret),
-        Operation::DeleteUser { name } => delete_user(store, bench, actor, name.copy()),
+        } => create_user(tables, bench, actor, name.copy(), *profile, secret),
+        Operation::DeleteUser { name } => {
+            *gone = Some(delete_user(tables, bench, actor, name.copy())?);
+            Ok(())
+        }
         _ => unreachable!(),
     }
 }

@@ -1,9 +1,10 @@
 // The engine of a card: its store, its sessions, and what carries out a command.
-ghost use Rattle.std.specs.Prelude.{◌≡◌, ◌==◌, slice_get, ◌<◌, ◌*◌, [], ◌∷◌, Some, None, true, false, map, is_some, length, drop, option_map, IfSome, IfOk, OnOk, OnErr, if◌then◌else◌};
+ghost use Rattle.std.specs.Prelude.{◌≡◌, ◌==◌, ℕ, List, slice_get, ◌<◌, ◌*◌, [], ◌∷◌, Some, None, true, false, map, is_some, length, drop, option_map, IfSome, IfOk, OnOk, OnErr, if◌then◌else◌};
 ghost use Rattle.eeprom.specs.Chip.{Chip, Becomes, Keeps};
 ghost use Rattle.eeprom.specs.Fault.{Counts, each_error};
 ghost use Rattle.eeprom.specs.Frame.{Reads};
 ghost use Rattle.eeprom.specs.StoreOf.{cell_size, image_size};
+ghost use Rattle.scql_base.specs.declared.operation.Operation.TheVariants as asks;
 ghost use Rattle.scql_model.specs.Creating.{actor_stamp};
 ghost use Rattle.scql_model.specs.Replies as model;
 ghost use Rattle.scql_model.specs.Machine as machine;
@@ -11,7 +12,7 @@ ghost use Rattle.scql_model.specs.Step as stepping;
 ghost use Rattle.scql_model.specs.Database.{Database};
 ghost use Rattle.card.specs.Card.{Kept, FindsAgain, IsReady, IsAt, StandsOver};
 ghost use Rattle.card.specs.Answering.{HoldsAnswer, LeavesFirstOfTwo, Performs, changing_session, settled, with_session, with_session_for};
-ghost use Rattle.card.specs.Changing.{IsChange};
+ghost use Rattle.card.specs.Changing.{IsChange, gone_after};
 ghost use Rattle.card.specs.Changing as changing;
 ghost use Rattle.card.specs.Counting.{counts_of};
 ghost use Rattle.card.specs.ReadCosts.{ReadsAsked, ReadsFor};
@@ -50,14 +51,14 @@ use db_read::Reader;
 use eeprom::{Eeprom, EepromFault, Heap};
 use record_store::Store;
 use row_index::RowIndex;
+use row_table::Tables;
 use scql_base::{Actor, Command, Name, Operation, PresentedUser, Row, StatusWord};
 use std::marker::Model;
 
 /// What a card keeps in memory, and carries out commands with.
 #[derive(Drop)]
 pub(crate) struct Engine {
-    store: Store,
-    index: RowIndex,
+    tables: Tables,
     sessions: Box<[Option<Session>; 4], Heap>,
     chains: Box<Chains, Heap>,
     // the channel that has the open transaction
@@ -75,7 +76,7 @@ impl Model for Engine {
 
     ghost Value = { Kept };
 
-    ghost view = { λ engine. record { store = engine.store; index = engine.index; sessions = sessions_of engine.sessions.value engine.chains.value; transaction = engine.transaction; found = engine.found.value; live = engine.live } };
+    ghost view = { λ engine. record { store = engine.tables.store; index = engine.tables.index; sessions = sessions_of engine.sessions.value engine.chains.value; transaction = engine.transaction; found = engine.found.value; live = engine.live } };
 
     ghost invariant = { λ engine. (length engine.sessions.value ≡ 4) × (length engine.chains.value ≡ 4) };
 }
@@ -90,8 +91,7 @@ impl Engine {
         ensures starts { (db : Database) → result.sessions ≡ (machine.start db).sessions }
     {
         Engine {
-            store,
-            index,
+            tables: Tables { store, index },
             sessions: rooms.sessions,
             chains: rooms.chains,
             transaction: None,
@@ -137,7 +137,7 @@ impl Engine {
         ensures unchanged { bench.new ≡ bench.old }
         ensures cause { Counts (B.faults bench.old) (B.faults bench.new) result }
     {
-        Ok(count_records(&self.store))
+        Ok(count_records(&self.tables.store))
     }
 
     /// The word that a command is answered with. The body of the reply, which is empty before, is written. The command is read into a place.
@@ -165,7 +165,7 @@ impl Engine {
         let channels = self.open_channels();
         match self
             .chains
-            .take(octets, channels, self.store.row_limit(), command)
+            .take(octets, channels, self.tables.store.row_limit(), command)
         {
             Taken::Refused { word } => Ok(word),
             Taken::Kept => {
@@ -257,7 +257,7 @@ impl Engine {
             Operation::DeleteUser { name } => {
                 self.delete_user(bench, channel, name.copy(), &command.operation)
             }
-            operation => self.change(bench, channel, operation),
+            operation => self.change(bench, channel, operation, &mut None),
         }
     }
 
@@ -290,8 +290,8 @@ impl Engine {
             unreachable!();
         };
         let mut reader = Reader {
-            store: &self.store,
-            index: &self.index,
+            store: &self.tables.store,
+            index: &self.tables.index,
             bench,
             side,
         };
@@ -328,7 +328,7 @@ impl Engine {
         self.found.forget();
         let user = self.proved_user(channel);
         let side = self.side(channel);
-        actor_of(&self.store, bench, side, user)
+        actor_of(&self.tables.store, bench, side, user)
     }
 
     fn open_channels(&self) -> [bool; 4]
@@ -359,7 +359,7 @@ impl Engine {
         ensures same { B.chip bench.new ≡ B.chip bench.old }
         ensures store { self.new.store ≡ self.old.store }
     {
-        let user = match present(&self.store, bench, name)? {
+        let user = match present(&self.tables.store, bench, name)? {
             db_access::Presented::Unknown => return Ok(StatusWord::NOT_FOUND),
             db_access::Presented::Public => None,
             db_access::Presented::User { stamp, proved } => Some(PresentedUser { stamp, proved }),
@@ -368,12 +368,13 @@ impl Engine {
         Ok(StatusWord::DONE)
     }
 
-    // Changes the database for who acts on a channel, in its transaction or in one of its own.
+    // Changes the database for who acts on a channel, in its transaction or in one of its own. The stamp of a user who is deleted is told.
     fn change<B: Eeprom>(
         &mut self,
         bench: &mut B,
         channel: u8,
         operation: &Operation,
+        gone: &mut Option<u32>,
     ) -> Result<StatusWord, EepromFault>
         requires ready { StandsOver self.old (B.chip bench.old) }
         requires channel { channel < 4 }
@@ -386,6 +387,8 @@ impl Engine {
         ensures performs { (m : machine.Machine) → IsAt self.old (B.chip bench.old) m
             → Performs m (stepping.answered m (stepping.changed m channel operation.now)) (or_nothing (octets_changed m channel operation.now)) [] result self.new (B.chip bench.old) (B.chip bench.new) }
         ensures ready { OnOk result (StandsOver self.new (B.chip bench.new)) }
+        ensures gone { (m : machine.Machine) (name : List ℕ) → IsAt self.old (B.chip bench.old) m → self.old.transaction ≡ None → operation.now ≡ asks.DeleteUser name
+            → IfOk result (λ word. gone.new ≡ gone_after m.committed name word gone.old) }
         // Rows are no part of what was found.
         ensures found { changing.changes_rows (kind_of operation.now) ≡ true → OnOk result (FindsAgain self.new (B.chip bench.new)) }
         ensures cause { Counts (B.faults bench.old) (B.faults bench.new) result }
@@ -395,8 +398,7 @@ impl Engine {
         let known = self.known_actor(channel);
         let user = self.proved_user(channel);
         let Engine {
-            store,
-            index,
+            tables,
             sessions,
             transaction,
             found,
@@ -409,19 +411,18 @@ impl Engine {
         };
         let word = match transaction {
             None => change(
-                store,
+                tables,
                 bench,
-                index,
                 user,
                 known,
                 &session.cursor,
                 operation,
                 scan,
+                gone,
             )?,
             Some(_) => change_within(
-                store,
+                tables,
                 bench,
-                index,
                 user,
                 known,
                 &session.cursor,

@@ -29,7 +29,6 @@ use apdu::Reply;
 use apdu_chain::Pending;
 use db_read::{Motion, Reader, Scan, advance, declare, find_selected};
 use eeprom::{Eeprom, EepromFault};
-use record_table::Stop;
 use scql_base::{Actor, Command, Operation, Row, StatusWord};
 
 /// Whether an operation reads.
@@ -136,8 +135,7 @@ fn give_rest<B: Eeprom>(
     let mut object = None;
     match find_selected(reader, actor, cursor.object, &mut object) {
         Ok(()) => Ok(give_more(le, &mut session.pending, reply)),
-        Err(Stop::Refused { word }) => Ok(word),
-        Err(Stop::Fault) => Err(EepromFault),
+        Err(stop) => stop.answer(),
     }
 }
 

@@ -17,9 +17,7 @@ ghost use Rattle.card.specs.Sessions.{is_open, left_session};
 use crate::engine::Engine;
 use crate::session::Session;
 use eeprom::{Eeprom, EepromFault};
-use record_store::Side;
 use scql_base::{Name, Operation, StatusWord};
-use user_table::find_name;
 
 impl Engine {
     // Deletes the user of a name, as an operation asks. Each session that presented it has neither user nor cursor then.
@@ -45,12 +43,10 @@ impl Engine {
         ensures cells { OnOk result (self.new.store.chains.cells ≡ self.old.store.chains.cells) }
         ensures behind { Keeps (drop (image_size self.old.store.chains.cells)) (B.chip bench.old) (B.chip bench.new) }
     {
-        let Some(user) = find_name(&self.store, bench, Side::Committed, name)? else {
-            return Ok(StatusWord::NOT_FOUND);
-        };
-        let word = self.change(bench, channel, operation)?;
-        if word.word == StatusWord::DONE.word {
-            self.leave(user.value.stamp);
+        let mut gone = None;
+        let word = self.change(bench, channel, operation, &mut gone)?;
+        if let Some(stamp) = gone {
+            self.leave(stamp);
         }
         Ok(word)
     }

@@ -72,8 +72,7 @@ impl Engine {
         if self.transaction.is_some() {
             return StatusWord::CONDITIONS_NOT_SATISFIED;
         }
-        self.store.begin();
-        self.index.begin();
+        self.tables.begin();
         self.transaction = Some(channel);
         self.drop_pending(channel);
         StatusWord::DONE
@@ -97,8 +96,7 @@ impl Engine {
         if !self.has_transaction(channel) {
             return Ok(StatusWord::CONDITIONS_NOT_SATISFIED);
         }
-        self.store.commit(bench)?;
-        self.index.commit();
+        self.tables.commit(bench)?;
         self.transaction = None;
         self.drop_pending(channel);
         Ok(StatusWord::DONE)
@@ -133,8 +131,7 @@ impl Engine {
         ensures closed { self.new.transaction ≡ None }
         ensures cells { self.new.store.chains.cells ≡ self.old.store.chains.cells }
     {
-        self.store.rollback();
-        self.index.rollback();
+        self.tables.rollback();
         self.transaction = None;
     }
 

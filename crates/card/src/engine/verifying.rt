@@ -40,7 +40,7 @@ impl Engine {
         let Some(user) = self.unproved_user(channel) else {
             return Ok(StatusWord::CONDITIONS_NOT_SATISFIED);
         };
-        let word = db_access::verify(&mut self.store, bench, user, secret)?;
+        let word = db_access::verify(&mut self.tables.store, bench, user, secret)?;
         if word.word == StatusWord::DONE.word {
             self.prove(channel);
         }

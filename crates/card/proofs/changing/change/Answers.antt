@@ -1,5 +1,5 @@
 -- Each way in which a change ends.
-use Rattle.std.proofs.Common.{◌≡◌, ℕ, true, false, Option, is_some, refl, sym, ap, subst, ◌∙◌, rules}
+use Rattle.std.proofs.Common.{List, Result, Err, ◌≡◌, ℕ, true, Option, is_some, sym, ap, subst, ◌∙◌, rules}
 use Rattle.eeprom.specs.Chip.{Chip, Keeps}
 use Rattle.eeprom.specs.StoreOf.{store_of}
 use Rattle.record_store.specs.Held.{Held}
@@ -12,97 +12,107 @@ use Rattle.scql_model.specs.Cursors.{IsCursorOf}
 use Rattle.scql_model.specs.Database.{Database}
 use Rattle.scql_model.specs.WellFormed.{FitsCard}
 use Rattle.record_table.specs.Making.{IsHeld, Ends}
-use Rattle.record_table.specs.declared.stop.Stop.TheVariants.{Fault}
+use Rattle.record_table.specs.declared.stop.Stop.{Stop}
+use Rattle.record_table.specs.declared.stop.Stop.TheVariants.{Fault, Refused}
+use Rattle.scql_base.specs.declared.words.StatusWord.{StatusWord}
+use Rattle.scql_model.specs.Edits.{Edit}
 use Rattle.std.specs.Prelude.{IfSome, IsErrOf, Ok}
 use Rattle.eeprom.proofs.Leaves.{Keeps-none}
 use Rattle.scql_base.specs.Words.{done}
 use Rattle.record_table.specs.AtRest.{IsAtRest}
 use Rattle.db_read.specs.Scan.{IsRightFor}
+use Rattle.row_table.specs.Tables.{Stand}
 use Rattle.card.specs.Acting.{acting}
-use Rattle.card.specs.Changing.{Changes}
+use Rattle.card.specs.Changing.{Changes, new_of}
 use Rattle.row_index.specs.Index.{Index, Indexes, is_above}
-use Rattle.card.proofs.IndexedStore.{HoldsSome-changed, Indexes-begun, Indexes-ended, Indexes-held, last-held, rest-concluded}
-use Rattle.record_table.proofs.AtRest.{held-begun, held-before, slots-committed, slots-rolled_back, over-begun, opens-rest, committed-begun, behind-changed}
+use Rattle.card.proofs.IndexedStore.{HoldsSome-changed, Indexes-held, last-held, rest-concluded}
+use Rattle.record_table.proofs.AtRest.{held-begun, held-before, opens-rest, committed-begun, behind-changed}
 use Rattle.card.proofs.ChangedStore.{rest-rolled_back, Changes-failed, Changes-refused, Changes-half_committed, Changes-committed}
 use Rattle.card.proofs.CatalogKept.{catalog-concluded, catalog-kept}
 use Rattle.card.proofs.ChangingOperations.{IsActorOf-acting}
-use Rattle.card.proofs.changing.change.Goals.{After-commit-in-Ok, After-make, After-rollback-in-Err-Refused}
+use Rattle.card.proofs.Performing.{refused-not_done}
+use Rattle.card.proofs.changing.change.Goals.{In_ok-commit-in-Ok, After-make, After-rollback}
 use Rattle.card.proofs.changing.change.Goals as goal
 
 pub returns-in_err-actor-clause-changes : goal.returns-in_err-actor-clause-changes
 returns-in_err-actor-clause-changes g c = λ db rest of.
-    Changes-failed db (edits_of db (acting db c.args.user) c.args.cursor.now c.args.operation.now) (g.B.Eeprom.chip c.args.bench.now) (opens-rest c.args.store.now (g.B.Eeprom.chip c.args.bench.now) db c.requires.over rest)
-    c.from_residual.result c.args.store.now (g.B.Eeprom.chip c.actor_known.new.bench) (search rules)
+    Changes-failed db (edits_of db (acting db c.args.user) c.args.cursor.now c.args.operation.now) (g.B.Eeprom.chip c.args.bench.now) (opens-rest c.args.tables.now.store (g.B.Eeprom.chip c.args.bench.now) db c.requires.stand.over rest)
+    c.from_residual.result c.args.tables.now.store (g.B.Eeprom.chip c.actor_known.new.bench) (search rules)
     (Keeps-none store_of (g.B.Eeprom.chip c.args.bench.now) (g.B.Eeprom.chip c.actor_known.new.bench) c.in_err-actor.ensures.frame.same)
 
-pub make-requires-clause-over : goal.make-requires-clause-over
-make-requires-clause-over g c = over-begun c.args.store.now c.begin.new.self (g.B.Eeprom.chip c.args.bench.now) (g.B.Eeprom.chip c.actor_known.new.bench) c.requires.over c.in_ok-actor.ensures.frame.same c.begin.ensures.begun c.begin.ensures.stands
-
 pub make-requires-clause-fits : goal.make-requires-clause-fits
-make-requires-clause-fits g c = subst (λ (store : Held). FitsCard store.row_limit c.args.operation.now) (sym c.begin.ensures.begun) c.requires.fits
+make-requires-clause-fits g c = subst (λ (store : Held). FitsCard store.row_limit c.args.operation.now) (sym c.begin.ensures.store) c.requires.fits
 
 -- the operation that was made ended as through a cursor
 abbrev EndsThrough : (g : _) (c : After-make g) → Database → Option Cursor → Type 0
 EndsThrough g c db cursor =
-    Ends db (edits_of db (acting db c.args.user) cursor c.args.operation.now) c.make.result c.begin.new.self c.make.new.store (g.B.Eeprom.chip c.actor_known.new.bench) (g.B.Eeprom.chip c.make.new.bench)
+    Ends db (edits_of db (acting db c.args.user) cursor c.args.operation.now) c.make.result c.begin.new.self.store c.make.new.tables.store (g.B.Eeprom.chip c.actor_known.new.bench) (g.B.Eeprom.chip c.make.new.bench)
 
 -- what is held when it is made
-held-made : (g : _) (c : After-make g) (db : Database) → IsAtRest c.args.store.now (g.B.Eeprom.chip c.args.bench.now) db → IsHeld c.begin.new.self Working (g.B.Eeprom.chip c.actor_known.new.bench) db
+held-made : (g : _) (c : After-make g) (db : Database) → IsAtRest c.args.tables.now.store (g.B.Eeprom.chip c.args.bench.now) db → IsHeld c.begin.new.self.store Working (g.B.Eeprom.chip c.actor_known.new.bench) db
 held-made g c db rest =
-    held-begun c.args.store.now c.begin.new.self (g.B.Eeprom.chip c.args.bench.now) (g.B.Eeprom.chip c.actor_known.new.bench) db rest c.in_ok-actor.ensures.frame.same c.begin.ensures.begun c.begin.ensures.starts
+    held-begun c.args.tables.now.store c.begin.new.self.store (g.B.Eeprom.chip c.args.bench.now) (g.B.Eeprom.chip c.actor_known.new.bench) db rest c.in_ok-actor.ensures.frame.same c.begin.ensures.store c.begin.ensures.starts
 
 -- and for whom
-actor-made : (g : _) (c : After-make g) (db : Database) → IsAtRest c.args.store.now (g.B.Eeprom.chip c.args.bench.now) db → c.in_ok-actor.actor ≡ acting db c.args.user
-actor-made g c db rest = let before : IsHeld c.args.store.now Committed (g.B.Eeprom.chip c.args.bench.now) db = rest in c.in_ok-actor.ensures.actor db before
+actor-made : (g : _) (c : After-make g) (db : Database) → IsAtRest c.args.tables.now.store (g.B.Eeprom.chip c.args.bench.now) db → c.in_ok-actor.actor ≡ acting db c.args.user
+actor-made g c db rest = let before : IsHeld c.args.tables.now.store Committed (g.B.Eeprom.chip c.args.bench.now) db = rest in c.in_ok-actor.ensures.actor db before
 
-acts-made : (g : _) (c : After-make g) (db : Database) → IsAtRest c.args.store.now (g.B.Eeprom.chip c.args.bench.now) db → IsActorOf db c.in_ok-actor.actor
+acts-made : (g : _) (c : After-make g) (db : Database) → IsAtRest c.args.tables.now.store (g.B.Eeprom.chip c.args.bench.now) db → IsActorOf db c.in_ok-actor.actor
 acts-made g c db rest = subst (IsActorOf db) (sym (actor-made g c db rest)) (IsActorOf-acting db c.args.user)
 
-fits-made : (g : _) (c : After-make g) (db : Database) → IsAtRest c.args.store.now (g.B.Eeprom.chip c.args.bench.now) db → FitsCard db.limit c.args.operation.now
+fits-made : (g : _) (c : After-make g) (db : Database) → IsAtRest c.args.tables.now.store (g.B.Eeprom.chip c.args.bench.now) db → FitsCard db.limit c.args.operation.now
 fits-made g c db rest = subst (λ (limit : ℕ). FitsCard limit c.args.operation.now) (sym rest.limit) c.requires.fits
 
 -- It ended as through the cursor that it was given, where that is one of the database.
-ended : (g : _) (c : After-make g) (db : Database) → IsAtRest c.args.store.now (g.B.Eeprom.chip c.args.bench.now) db → IfSome c.args.cursor.now (IsCursorOf db) → EndsThrough g c db c.args.cursor.now
+ended : (g : _) (c : After-make g) (db : Database) → IsAtRest c.args.tables.now.store (g.B.Eeprom.chip c.args.bench.now) db → IfSome c.args.cursor.now (IsCursorOf db) → EndsThrough g c db c.args.cursor.now
 ended g c db rest of =
     let who = actor-made g c db rest in
-    subst (λ actor. Ends db (edits_of db actor c.args.cursor.now c.args.operation.now) c.make.result c.begin.new.self c.make.new.store (g.B.Eeprom.chip c.actor_known.new.bench) (g.B.Eeprom.chip c.make.new.bench)) who
+    subst (λ actor. Ends db (edits_of db actor c.args.cursor.now c.args.operation.now) c.make.result c.begin.new.self.store c.make.new.tables.store (g.B.Eeprom.chip c.actor_known.new.bench) (g.B.Eeprom.chip c.make.new.bench)) who
     (c.make.ensures.ends db (held-made g c db rest) of (acts-made g c db rest) c.requires.formed (fits-made g c db rest))
 
 -- It ended as through some cursor in any case.
-through : (g : _) (c : After-make g) (db : Database) → IsAtRest c.args.store.now (g.B.Eeprom.chip c.args.bench.now) db → (cursor : Option Cursor) × EndsThrough g c db cursor
+through : (g : _) (c : After-make g) (db : Database) → IsAtRest c.args.tables.now.store (g.B.Eeprom.chip c.args.bench.now) db → (cursor : Option Cursor) × EndsThrough g c db cursor
 through g c db rest =
     let who = actor-made g c db rest in
     let ends = c.make.ensures.through db (held-made g c db rest) (acts-made g c db rest) c.requires.formed (fits-made g c db rest) in
-    (ends.0, subst (λ actor. Ends db (edits_of db actor ends.0 c.args.operation.now) c.make.result c.begin.new.self c.make.new.store (g.B.Eeprom.chip c.actor_known.new.bench) (g.B.Eeprom.chip c.make.new.bench)) who ends.1)
+    (ends.0, subst (λ actor. Ends db (edits_of db actor ends.0 c.args.operation.now) c.make.result c.begin.new.self.store c.make.new.tables.store (g.B.Eeprom.chip c.actor_known.new.bench) (g.B.Eeprom.chip c.make.new.bench)) who ends.1)
 
 -- The index stands for what was made, where nothing failed.
-followed : (g : _) (c : After-make g) → ¬ IsErrOf c.make.result Fault → Indexes c.make.new.index c.make.new.store (g.B.Eeprom.chip c.make.new.bench)
+followed : (g : _) (c : After-make g) → ¬ IsErrOf c.make.result Fault → Indexes c.make.new.tables.index c.make.new.tables.store (g.B.Eeprom.chip c.make.new.bench)
 followed g c whole =
     let old = g.B.Eeprom.chip c.args.bench.now in
     let goes_on = c.make.ensures.goes_on whole in
-    Indexes-held c.make.new.index c.make.new.store c.args.store.now Committed old (g.B.Eeprom.chip c.make.new.bench) c.requires.holds
+    Indexes-held c.make.new.tables.index c.make.new.tables.store c.args.tables.now.store Committed old (g.B.Eeprom.chip c.make.new.bench) c.requires.holds
     (goes_on.told ∙ ap (λ (chip : Chip). is_some chip.image) c.in_ok-actor.ensures.frame.same)
-    (c.make.ensures.index_cells ∙ (ap (λ (i : Index). i.cells) c.begin-2.ensures.begun ∙ (c.requires.index.cells ∙ sym (goes_on.cells ∙ ap (λ (h : Held). h.chains.cells) c.begin.ensures.begun)))) (λ db rest.
+    (c.make.ensures.index_cells ∙ (ap (λ (i : Index). i.cells) c.begin.ensures.index ∙ (c.requires.stand.index.cells ∙ sym (goes_on.cells ∙ ap (λ (h : Held). h.chains.cells) c.begin.ensures.store)))) (λ db rest.
     c.make.ensures.index db (held-made g c db rest) (acts-made g c db rest) c.requires.formed (fits-made g c db rest) whole)
+
+-- so the tables stand
+stood : (g : _) (c : After-make g) → ¬ IsErrOf c.make.result Fault → Stand c.make.new.tables (g.B.Eeprom.chip c.make.new.bench)
+stood g c whole = record {
+  over = (c.make.ensures.goes_on whole).over;
+  index = followed g c whole;
+  together = c.make.ensures.index_begun ∙ sym ((c.make.ensures.goes_on whole).begun ∙ ap (λ (h : Held). h.begun) c.begin.ensures.store);
+}
 
 -- the store of the image stayed so far
 kept : (g : _) (c : After-make g) → Keeps store_of (g.B.Eeprom.chip c.args.bench.now) (g.B.Eeprom.chip c.make.new.bench)
 kept g c = subst (λ (chip : Chip). Keeps store_of chip (g.B.Eeprom.chip c.make.new.bench)) c.in_ok-actor.ensures.frame.same c.make.ensures.moments
 
 -- a refusal did nothing
-refused-still : (g : _) (c : After-rollback-in-Err-Refused g) (db : Database) (cursor : Option Cursor) → EndsThrough g (goal.at.returns-in-Err-Refused-clause-changes g c).After-make db cursor
-    → (c.make.new.store ≡ c.begin.new.self) × (g.B.Eeprom.chip c.make.new.bench ≡ g.B.Eeprom.chip c.actor_known.new.bench)
+refused-still : (g : _) (c : After-rollback g) (db : Database) (cursor : Option Cursor) → EndsThrough g (goal.at.returns-in-Err-Refused-clause-changes g c).After-make db cursor
+    → (c.make.new.tables.store ≡ c.begin.new.self.store) × (g.B.Eeprom.chip c.make.new.bench ≡ g.B.Eeprom.chip c.actor_known.new.bench)
 refused-still g c db cursor ends = let refused = rw (c.in-Err-Refused.is, c.in-Err-Refused.field-0-is) at ends in (refused.1, refused.2)
 
-refused-through : (g : _) (c : After-rollback-in-Err-Refused g) (db : Database) (cursor : Option Cursor) → IsAtRest c.args.store.now (g.B.Eeprom.chip c.args.bench.now) db → EndsThrough g (goal.at.returns-in-Err-Refused-clause-changes g c).After-make db cursor
-    → Changes db (edits_of db (acting db c.args.user) cursor c.args.operation.now) (Ok c.in-Err-Refused.word) c.rollback.new.self (g.B.Eeprom.chip c.args.bench.now) (g.B.Eeprom.chip c.make.new.bench)
+refused-through : (g : _) (c : After-rollback g) (db : Database) (cursor : Option Cursor) → IsAtRest c.args.tables.now.store (g.B.Eeprom.chip c.args.bench.now) db → EndsThrough g (goal.at.returns-in-Err-Refused-clause-changes g c).After-make db cursor
+    → Changes db (edits_of db (acting db c.args.user) cursor c.args.operation.now) (Ok c.in-Err-Refused.word) c.rollback.new.self.store (g.B.Eeprom.chip c.args.bench.now) (g.B.Eeprom.chip c.make.new.bench)
 refused-through g c db cursor rest ends =
     let old = g.B.Eeprom.chip c.args.bench.now in
     let refused = rw (c.in-Err-Refused.is, c.in-Err-Refused.field-0-is) at ends in
-    Changes-refused db (edits_of db (acting db c.args.user) cursor c.args.operation.now) old (opens-rest c.args.store.now old db c.requires.over rest) c.in-Err-Refused.word c.rollback.new.self (g.B.Eeprom.chip c.make.new.bench)
+    Changes-refused db (edits_of db (acting db c.args.user) cursor c.args.operation.now) old (opens-rest c.args.tables.now.store old db c.requires.stand.over rest) c.in-Err-Refused.word c.rollback.new.self.store (g.B.Eeprom.chip c.make.new.bench)
     (refused.2 ∙ c.in_ok-actor.ensures.frame.same) refused.0
-    (rest-rolled_back c.args.store.now c.begin.new.self c.make.new.store c.rollback.new.self old (g.B.Eeprom.chip c.actor_known.new.bench) (g.B.Eeprom.chip c.make.new.bench) db rest
-    c.in_ok-actor.ensures.frame.same c.begin.ensures.begun c.begin.ensures.committed refused.1 refused.2 c.rollback.ensures.committed c.rollback.ensures.cells c.rollback.ensures.rows)
+    (rest-rolled_back c.args.tables.now.store c.begin.new.self.store c.make.new.tables.store c.rollback.new.self.store old (g.B.Eeprom.chip c.actor_known.new.bench) (g.B.Eeprom.chip c.make.new.bench) db rest
+    c.in_ok-actor.ensures.frame.same c.begin.ensures.store c.begin.ensures.committed refused.1 refused.2 c.rollback.ensures.committed c.rollback.ensures.cells c.rollback.ensures.rows)
 
 pub returns-in-Err-Refused-clause-changes : goal.returns-in-Err-Refused-clause-changes
 returns-in-Err-Refused-clause-changes g c = λ db rest of. refused-through g c db c.args.cursor.now rest (ended g (goal.at.returns-in-Err-Refused-clause-changes g c).After-make db rest of)
@@ -115,22 +125,22 @@ returns-in_err-commit-in-Ok-clause-changes g c = λ db rest of.
     let edited = edits_of db (acting db c.args.user) cursor c.args.operation.now in
     let made = rw c.in-Ok.is at (ended g w db rest of) in
     let goes_on = c.in-Ok.ensures.goes_on (λ wrong. cc) in
-    Changes-half_committed db edited old (opens-rest c.args.store.now old db c.requires.over rest) made.0 made.1 c.begin.new.self c.make.new.store (g.B.Eeprom.chip c.actor_known.new.bench) (g.B.Eeprom.chip c.make.new.bench) made.2
-    c.from_residual-in_err-commit-in-Ok.result c.commit.new.self (g.B.Eeprom.chip c.commit.new.bench) (search rules) (kept g w)
-    (committed-begun c.args.store.now c.begin.new.self c.make.new.store old (g.B.Eeprom.chip c.actor_known.new.bench) (g.B.Eeprom.chip c.make.new.bench) db rest c.in_ok-actor.ensures.frame.same c.begin.ensures.begun c.begin.ensures.committed made.2.committed goes_on.cells goes_on.rows)
+    Changes-half_committed db edited old (opens-rest c.args.tables.now.store old db c.requires.stand.over rest) made.0 made.1 c.begin.new.self.store c.make.new.tables.store (g.B.Eeprom.chip c.actor_known.new.bench) (g.B.Eeprom.chip c.make.new.bench) made.2
+    c.from_residual-in_err-commit-in-Ok.result c.commit.new.self.store (g.B.Eeprom.chip c.commit.new.bench) (search rules) (kept g w)
+    (committed-begun c.args.tables.now.store c.begin.new.self.store c.make.new.tables.store old (g.B.Eeprom.chip c.actor_known.new.bench) (g.B.Eeprom.chip c.make.new.bench) db rest c.in_ok-actor.ensures.frame.same c.begin.ensures.store c.begin.ensures.committed made.2.committed goes_on.cells goes_on.rows)
     c.commit.ensures.moments
 
-done-through : (g : _) (c : After-commit-in-Ok g) (db : Database) (cursor : Option Cursor) → IsAtRest c.args.store.now (g.B.Eeprom.chip c.args.bench.now) db → EndsThrough g (goal.at.returns-in_ok-commit-in-Ok-clause-changes g c).After-make db cursor
-    → Changes db (edits_of db (acting db c.args.user) cursor c.args.operation.now) (Ok done) c.commit.new.self (g.B.Eeprom.chip c.args.bench.now) (g.B.Eeprom.chip c.commit.new.bench)
+done-through : (g : _) (c : In_ok-commit-in-Ok g) (db : Database) (cursor : Option Cursor) → IsAtRest c.args.tables.now.store (g.B.Eeprom.chip c.args.bench.now) db → EndsThrough g (goal.at.returns-in_ok-commit-in-Ok-clause-changes g c).After-make db cursor
+    → Changes db (edits_of db (acting db c.args.user) cursor c.args.operation.now) (Ok done) c.commit.new.self.store (g.B.Eeprom.chip c.args.bench.now) (g.B.Eeprom.chip c.commit.new.bench)
 done-through g c db cursor rest ends =
     let w = (goal.at.returns-in_ok-commit-in-Ok-clause-changes g c).After-make in
     let old = g.B.Eeprom.chip c.args.bench.now in
     let edited = edits_of db (acting db c.args.user) cursor c.args.operation.now in
     let made = rw c.in-Ok.is at ends in
     let goes_on = c.in-Ok.ensures.goes_on (λ wrong. cc) in
-    Changes-committed db edited old (opens-rest c.args.store.now old db c.requires.over rest) made.0 made.1 c.begin.new.self c.make.new.store (g.B.Eeprom.chip c.actor_known.new.bench) (g.B.Eeprom.chip c.make.new.bench) made.2
-    c.commit.new.self (g.B.Eeprom.chip c.commit.new.bench) goes_on.over (kept g w)
-    (committed-begun c.args.store.now c.begin.new.self c.make.new.store old (g.B.Eeprom.chip c.actor_known.new.bench) (g.B.Eeprom.chip c.make.new.bench) db rest c.in_ok-actor.ensures.frame.same c.begin.ensures.begun c.begin.ensures.committed made.2.committed goes_on.cells goes_on.rows)
+    Changes-committed db edited old (opens-rest c.args.tables.now.store old db c.requires.stand.over rest) made.0 made.1 c.begin.new.self.store c.make.new.tables.store (g.B.Eeprom.chip c.actor_known.new.bench) (g.B.Eeprom.chip c.make.new.bench) made.2
+    c.commit.new.self.store (g.B.Eeprom.chip c.commit.new.bench) goes_on.over (kept g w)
+    (committed-begun c.args.tables.now.store c.begin.new.self.store c.make.new.tables.store old (g.B.Eeprom.chip c.actor_known.new.bench) (g.B.Eeprom.chip c.make.new.bench) db rest c.in_ok-actor.ensures.frame.same c.begin.ensures.store c.begin.ensures.committed made.2.committed goes_on.cells goes_on.rows)
     c.commit.ensures.moments c.in_ok-commit-in-Ok.ensures.done c.in_ok-commit-in-Ok.ensures.told c.in_ok-commit-in-Ok.ensures.cells c.in_ok-commit-in-Ok.ensures.rows
     (ap (λ (chip : Chip). chip.written) c.in_ok-actor.ensures.frame.same) c.begin.ensures.no_entries c.in_ok-commit-in-Ok.ensures.octets_written
 
@@ -139,89 +149,83 @@ returns-in_ok-commit-in-Ok-clause-changes g c = λ db rest of. done-through g c 
 
 pub returns-in_err-commit-in-Ok-clause-behind : goal.returns-in_err-commit-in-Ok-clause-behind
 returns-in_err-commit-in-Ok-clause-behind g c =
-    behind-changed (g.B.Eeprom.chip c.args.bench.now) (g.B.Eeprom.chip c.actor_known.new.bench) (g.B.Eeprom.chip c.make.new.bench) (g.B.Eeprom.chip c.commit.new.bench) c.args.store.now c.begin.new.self c.make.new.store
-    c.in_ok-actor.ensures.frame.same c.begin.ensures.begun (c.in-Ok.ensures.goes_on (λ wrong. cc)).cells c.make.ensures.behind c.commit.ensures.behind
+    behind-changed (g.B.Eeprom.chip c.args.bench.now) (g.B.Eeprom.chip c.actor_known.new.bench) (g.B.Eeprom.chip c.make.new.bench) (g.B.Eeprom.chip c.commit.new.bench) c.args.tables.now.store c.begin.new.self.store c.make.new.tables.store
+    c.in_ok-actor.ensures.frame.same c.begin.ensures.store (c.in-Ok.ensures.goes_on (λ wrong. cc)).cells c.make.ensures.behind c.commit.ensures.behind
 
 pub returns-in_ok-commit-in-Ok-clause-behind : goal.returns-in_ok-commit-in-Ok-clause-behind
 returns-in_ok-commit-in-Ok-clause-behind g c =
-    behind-changed (g.B.Eeprom.chip c.args.bench.now) (g.B.Eeprom.chip c.actor_known.new.bench) (g.B.Eeprom.chip c.make.new.bench) (g.B.Eeprom.chip c.commit.new.bench) c.args.store.now c.begin.new.self c.make.new.store
-    c.in_ok-actor.ensures.frame.same c.begin.ensures.begun (c.in-Ok.ensures.goes_on (λ wrong. cc)).cells c.make.ensures.behind c.commit.ensures.behind
+    behind-changed (g.B.Eeprom.chip c.args.bench.now) (g.B.Eeprom.chip c.actor_known.new.bench) (g.B.Eeprom.chip c.make.new.bench) (g.B.Eeprom.chip c.commit.new.bench) c.args.tables.now.store c.begin.new.self.store c.make.new.tables.store
+    c.in_ok-actor.ensures.frame.same c.begin.ensures.store (c.in-Ok.ensures.goes_on (λ wrong. cc)).cells c.make.ensures.behind c.commit.ensures.behind
 
 pub returns-in-Err-Fault-clause-changes : goal.returns-in-Err-Fault-clause-changes
 returns-in-Err-Fault-clause-changes g c = λ db rest of.
     let old = g.B.Eeprom.chip c.args.bench.now in
-    Changes-failed db (edits_of db (acting db c.args.user) c.args.cursor.now c.args.operation.now) old (opens-rest c.args.store.now old db c.requires.over rest) _ c.make.new.store (g.B.Eeprom.chip c.make.new.bench) tt
+    Changes-failed db (edits_of db (acting db c.args.user) c.args.cursor.now c.args.operation.now) old (opens-rest c.args.tables.now.store old db c.requires.stand.over rest) _ c.make.new.tables.store (g.B.Eeprom.chip c.make.new.bench) tt
     (kept g (goal.at.returns-in-Err-Fault-clause-changes g c).After-make)
-
-pub make-requires-clause-index : goal.make-requires-clause-index
-make-requires-clause-index g c =
-    Indexes-begun c.args.index.now c.begin-2.new.self c.args.store.now c.begin.new.self (g.B.Eeprom.chip c.args.bench.now) (g.B.Eeprom.chip c.actor_known.new.bench) c.requires.index c.in_ok-actor.ensures.frame.same
-    c.begin-2.ensures.begun c.begin.ensures.begun c.begin.ensures.starts c.begin.ensures.committed
 
 pub make-requires-clause-last : goal.make-requires-clause-last
 make-requires-clause-last g c = λ db held.
-    let begun : IsHeld c.args.store.now Committed (g.B.Eeprom.chip c.args.bench.now) db = held-before c.args.store.now c.begin.new.self (g.B.Eeprom.chip c.args.bench.now) (g.B.Eeprom.chip c.actor_known.new.bench) db held
-    c.in_ok-actor.ensures.frame.same c.begin.ensures.begun c.begin.ensures.starts in
-    subst (λ (index : Index). is_above db.next index.committed ≡ true) (sym c.begin-2.ensures.begun) (last-held c.args.index.now c.args.store.now (g.B.Eeprom.chip c.args.bench.now) db c.requires.index begun)
+    let begun : IsHeld c.args.tables.now.store Committed (g.B.Eeprom.chip c.args.bench.now) db = held-before c.args.tables.now.store c.begin.new.self.store (g.B.Eeprom.chip c.args.bench.now) (g.B.Eeprom.chip c.actor_known.new.bench) db held
+    c.in_ok-actor.ensures.frame.same c.begin.ensures.store c.begin.ensures.starts in
+    subst (λ (index : Index). is_above db.next index.committed ≡ true) (sym c.begin.ensures.index) (last-held c.args.tables.now.index c.args.tables.now.store (g.B.Eeprom.chip c.args.bench.now) db c.requires.stand.index begun)
 
 pub returns-in_ok-commit-in-Ok-clause-holds : goal.returns-in_ok-commit-in-Ok-clause-holds
 returns-in_ok-commit-in-Ok-clause-holds g c =
-    HoldsSome-changed c.commit.new.self c.args.store.now Committed (g.B.Eeprom.chip c.args.bench.now) (g.B.Eeprom.chip c.commit.new.bench) c.requires.holds
+    HoldsSome-changed c.commit.new.self.store c.args.tables.now.store Committed (g.B.Eeprom.chip c.args.bench.now) (g.B.Eeprom.chip c.commit.new.bench) c.requires.holds
     (c.in_ok-commit-in-Ok.ensures.told ∙ ((c.in-Ok.ensures.goes_on (λ wrong. cc)).told ∙ ap (λ (chip : Chip). is_some chip.image) c.in_ok-actor.ensures.frame.same))
     (λ db rest.
     let ends = through g (goal.at.returns-in_ok-commit-in-Ok-clause-changes g c).After-make db rest in
     rest-concluded db _ _ _ _ (done-through g c db ends.0 rest ends.1).step)
 
-pub returns-in_ok-commit-in-Ok-clause-index : goal.returns-in_ok-commit-in-Ok-clause-index
-returns-in_ok-commit-in-Ok-clause-index g c =
-    let goes_on = c.in-Ok.ensures.goes_on (λ wrong. cc) in
-    Indexes-ended c.make.new.index c.commit-in-Ok.new.self Working c.make.new.store c.commit.new.self (g.B.Eeprom.chip c.make.new.bench) (g.B.Eeprom.chip c.commit.new.bench)
-    (followed g (goal.at.returns-in_ok-commit-in-Ok-clause-index g c).After-make (λ wrong. cc)) c.commit-in-Ok.ensures.committed c.in_ok-commit-in-Ok.ensures.ended c.in_ok-commit-in-Ok.ensures.cells
-    (slots-committed c.make.new.store c.commit.new.self (g.B.Eeprom.chip c.make.new.bench) (g.B.Eeprom.chip c.commit.new.bench) goes_on.over c.in_ok-commit-in-Ok.ensures.done c.in_ok-commit-in-Ok.ensures.told)
-
 pub returns-in-Err-Refused-clause-holds : goal.returns-in-Err-Refused-clause-holds
 returns-in-Err-Refused-clause-holds g c =
-    HoldsSome-changed c.rollback.new.self c.args.store.now Committed (g.B.Eeprom.chip c.args.bench.now) (g.B.Eeprom.chip c.make.new.bench) c.requires.holds
+    HoldsSome-changed c.rollback.new.self.store c.args.tables.now.store Committed (g.B.Eeprom.chip c.args.bench.now) (g.B.Eeprom.chip c.make.new.bench) c.requires.holds
     ((c.in-Err-Refused.ensures.goes_on (λ wrong. cc)).told ∙ ap (λ (chip : Chip). is_some chip.image) c.in_ok-actor.ensures.frame.same)
     (λ db rest.
     let ends = through g (goal.at.returns-in-Err-Refused-clause-changes g c).After-make db rest in
     rest-concluded db _ _ _ _ (refused-through g c db ends.0 rest ends.1).step)
 
-pub returns-in-Err-Refused-clause-index : goal.returns-in-Err-Refused-clause-index
-returns-in-Err-Refused-clause-index g c =
-    let goes_on = c.in-Err-Refused.ensures.goes_on (λ wrong. cc) in
-    let old = g.B.Eeprom.chip c.args.bench.now in
-    let w = (goal.at.returns-in-Err-Refused-clause-changes g c).After-make in
-    let cells : c.rollback.new.self.chains.cells ≡ c.args.store.now.chains.cells = c.rollback.ensures.cells ∙ (goes_on.cells ∙ ap (λ (h : Held). h.chains.cells) c.begin.ensures.begun) in
-    let is : c.rollback-in-Err-Refused.new.self ≡ record { cells = c.args.index.now.cells; begun = false; committed = c.args.index.now.committed; working = c.args.index.now.committed }
-    = c.rollback-in-Err-Refused.ensures.rolled_back ∙ rw (c.make.ensures.index_cells, c.make.ensures.index_committed, c.begin-2.ensures.begun) refl in
-    Indexes-held c.rollback-in-Err-Refused.new.self c.rollback.new.self c.args.store.now Committed old (g.B.Eeprom.chip c.make.new.bench) c.requires.holds
-    (goes_on.told ∙ ap (λ (chip : Chip). is_some chip.image) c.in_ok-actor.ensures.frame.same)
-    (ap (λ (i : Index). i.cells) is ∙ (c.requires.index.cells ∙ sym cells)) (λ db rest.
-    let ends = through g w db rest in
-    let refused = refused-still g c db ends.0 ends.1 in
-    Indexes-ended c.args.index.now c.rollback-in-Err-Refused.new.self Committed c.args.store.now c.rollback.new.self old (g.B.Eeprom.chip c.make.new.bench) c.requires.index is c.rollback.ensures.ended cells
-    (slots-rolled_back c.args.store.now c.begin.new.self c.make.new.store c.rollback.new.self old (g.B.Eeprom.chip c.actor_known.new.bench) (g.B.Eeprom.chip c.make.new.bench) c.in_ok-actor.ensures.frame.same
-    c.begin.ensures.committed refused.0 refused.1 c.rollback.ensures.committed))
+pub make-requires-clause-stand : goal.make-requires-clause-stand
+make-requires-clause-stand g c = c.begin.ensures.stand _ (rw (sym c.in_ok-actor.ensures.frame.same) at c.requires.stand)
+
+pub commit-requires-clause-stand : goal.commit-requires-clause-stand
+commit-requires-clause-stand g c = stood g (goal.at.commit-requires-clause-stand g c).After-make (rw c.in-Ok.is (λ wrong. cc))
+
+pub returns-in-Err-Refused-clause-stand : goal.returns-in-Err-Refused-clause-stand
+returns-in-Err-Refused-clause-stand g c = c.rollback.ensures.stand _ (stood g (goal.at.returns-in-Err-Refused-clause-stand g c).After-make (rw (c.in-Err-Refused.is, c.in-Err-Refused.field-0-is) (λ wrong. cc)))
 
 pub returns-in_ok-commit-in-Ok-clause-catalog : goal.returns-in_ok-commit-in-Ok-clause-catalog
 returns-in_ok-commit-in-Ok-clause-catalog g c = λ rows.
     let new = g.B.Eeprom.chip c.commit.new.bench in
-    catalog-kept c.commit.new.self c.args.store.now Committed new (g.B.Eeprom.chip c.args.bench.now) c.requires.holds
+    catalog-kept c.commit.new.self.store c.args.tables.now.store Committed new (g.B.Eeprom.chip c.args.bench.now) c.requires.holds
     (c.in_ok-commit-in-Ok.ensures.told ∙ ((c.in-Ok.ensures.goes_on (λ wrong. cc)).told ∙ ap (λ (chip : Chip). is_some chip.image) c.in_ok-actor.ensures.frame.same)) (λ db next rest after.
     let ends = through g (goal.at.returns-in_ok-commit-in-Ok-clause-changes g c).After-make db rest in
-    catalog-concluded c.commit.new.self new db next (acting db c.args.user) ends.0 c.args.operation.now done rows (done-through g c db ends.0 rest ends.1).step after)
+    catalog-concluded c.commit.new.self.store new db next (acting db c.args.user) ends.0 c.args.operation.now done rows (done-through g c db ends.0 rest ends.1).step after)
 
 pub returns-in-Err-Refused-clause-catalog : goal.returns-in-Err-Refused-clause-catalog
 returns-in-Err-Refused-clause-catalog g c = λ rows.
     let new = g.B.Eeprom.chip c.make.new.bench in
-    catalog-kept c.rollback.new.self c.args.store.now Committed new (g.B.Eeprom.chip c.args.bench.now) c.requires.holds
+    catalog-kept c.rollback.new.self.store c.args.tables.now.store Committed new (g.B.Eeprom.chip c.args.bench.now) c.requires.holds
     ((c.in-Err-Refused.ensures.goes_on (λ wrong. cc)).told ∙ ap (λ (chip : Chip). is_some chip.image) c.in_ok-actor.ensures.frame.same) (λ db next rest after.
     let ends = through g (goal.at.returns-in-Err-Refused-clause-changes g c).After-make db rest in
-    catalog-concluded c.rollback.new.self new db next (acting db c.args.user) ends.0 c.args.operation.now c.in-Err-Refused.word rows (refused-through g c db ends.0 rest ends.1).step after)
+    catalog-concluded c.rollback.new.self.store new db next (acting db c.args.user) ends.0 c.args.operation.now c.in-Err-Refused.word rows (refused-through g c db ends.0 rest ends.1).step after)
 
 pub make-requires-clause-right : goal.make-requires-clause-right
 make-requires-clause-right g c = λ db held.
-    let rest : IsHeld c.args.store.now Committed (g.B.Eeprom.chip c.args.bench.now) db = held-before c.args.store.now c.begin.new.self (g.B.Eeprom.chip c.args.bench.now) (g.B.Eeprom.chip c.actor_known.new.bench) db held
-    c.in_ok-actor.ensures.frame.same c.begin.ensures.begun c.begin.ensures.starts in
+    let rest : IsHeld c.args.tables.now.store Committed (g.B.Eeprom.chip c.args.bench.now) db = held-before c.args.tables.now.store c.begin.new.self.store (g.B.Eeprom.chip c.args.bench.now) (g.B.Eeprom.chip c.actor_known.new.bench) db held
+    c.in_ok-actor.ensures.frame.same c.begin.ensures.store c.begin.ensures.starts in
     subst (λ (actor : Actor). IsRightFor db actor c.args.scan.now c.args.cursor.now) (sym (c.in_ok-actor.ensures.actor db rest)) (c.requires.right db rest)
+
+pub returns-in_ok-commit-in-Ok-clause-gone : goal.returns-in_ok-commit-in-Ok-clause-gone
+returns-in_ok-commit-in-Ok-clause-gone g c = λ db name rest deletes. c.in-Ok.ensures.gone db name (held-made g (goal.at.returns-in_ok-commit-in-Ok-clause-gone g c).After-make db rest) deletes
+
+-- the word of a refusal is that of the operation
+word-refused : {T : Type 0} (db : Database) (outcome : Result (List Edit) StatusWord) (result : Result T Stop) (word : StatusWord) (old new : Held) (before after : Chip) → result ≡ Err (Refused word) → Ends db outcome result old new before after
+    → new_of db outcome ≡ Err word
+word-refused {T} db outcome result word old new before after is ends = (subst (λ (r : Result T Stop). Ends db outcome r old new before after) is ends).0
+
+pub returns-in-Err-Refused-clause-gone : goal.returns-in-Err-Refused-clause-gone
+returns-in-Err-Refused-clause-gone g c = λ db name rest deletes.
+    let ends = through g (goal.at.returns-in-Err-Refused-clause-gone g c).After-make db rest in
+    rw (refused-not_done db (acting db c.args.user) ends.0 c.args.operation.now c.in-Err-Refused.word (word-refused db _ c.make.result c.in-Err-Refused.word _ _ _ _ (c.in-Err-Refused.is ∙ ap Err c.in-Err-Refused.field-0-is) ends.1))
+    c.in-Err-Refused.ensures.none_gone

@@ -1,5 +1,5 @@
 -- Each operation ends as its edits say, and the index goes on with it.
-use Rattle.std.proofs.Common.{◌≡◌, ℕ, false, List, refl}
+use Rattle.std.proofs.Common.{◌≡◌, ℕ, false, List, Some, refl, sym, subst, ◌∙◌}
 use Rattle.scql_base.specs.declared.condition.Condition.{Condition}
 use Rattle.scql_base.specs.declared.operation.Operation.{Operation}
 use Rattle.scql_base.specs.declared.operation.Operation.TheVariants.{CreateTable, CreateView, CreateDictionary, DropTable, DropView, Grant, Revoke, Insert, Update, Delete, CreateUser, DeleteUser}
@@ -7,8 +7,8 @@ use Rattle.scql_base.specs.declared.words.Profile.{Profile}
 use Rattle.scql_base.specs.declared.words.Subject.{Subject}
 use Rattle.scql_model.specs.Changing.{edits_of}
 use Rattle.scql_model.specs.Operations.{kind_of}
-use Rattle.card.specs.Changing.{IsChange, goes_through_cursor}
-use Rattle.card.proofs.IndexedStore.{Indexes-ends}
+use Rattle.record_table.proofs.Ending.{Ends-stopped, no_fault-on}
+use Rattle.card.specs.Changing.{IsChange, goes_through_cursor, stamp_named}
 use Rattle.card.proofs.changing.make_without_cursor.Goals as goal
 
 -- each change has an arm
@@ -85,53 +85,52 @@ returns-in-DropTable-clause-index g c = λ db held acts form fits. c.drop_table.
 
 pub returns-in-Insert-clause-ends : goal.returns-in-Insert-clause-ends
 unfolding edits_of
-returns-in-Insert-clause-ends g c = λ db cursor held acts form fits.
-    rw c.in-Insert.is ((rw c.copy-in-Insert.ensures at c.insert.ensures.ends) db held (rw c.in-Insert.is at form) (rw c.in-Insert.is at fits))
+returns-in-Insert-clause-ends g c = λ db cursor held acts form fits. rw c.in-Insert.is ((rw c.copy-in-Insert.ensures at c.insert.ensures).ends db held (rw c.in-Insert.is at form, rw c.in-Insert.is at fits))
 
 pub returns-in-Insert-clause-index : goal.returns-in-Insert-clause-index
-returns-in-Insert-clause-index g c = λ db held acts form fits.
-    (rw c.copy-in-Insert.ensures at c.insert.ensures.index) db held (rw c.in-Insert.is at form) (rw c.in-Insert.is at fits)
+returns-in-Insert-clause-index g c = λ db held acts form fits. (rw c.copy-in-Insert.ensures at c.insert.ensures).index db held (rw c.in-Insert.is at form, rw c.in-Insert.is at fits)
 
 pub returns-in-CreateUser-clause-ends : goal.returns-in-CreateUser-clause-ends
 unfolding edits_of
-returns-in-CreateUser-clause-ends g c = λ db cursor held acts form fits.
-    rw c.in-CreateUser.is ((rw c.copy-in-CreateUser.ensures at c.create_user.ensures.ends) db held acts (rw c.in-CreateUser.is at form))
+returns-in-CreateUser-clause-ends g c = λ db cursor held acts form fits. rw c.in-CreateUser.is ((rw c.copy-in-CreateUser.ensures at c.create_user.ensures).ends db held (acts, rw c.in-CreateUser.is at form))
 
 pub returns-in-CreateUser-clause-index : goal.returns-in-CreateUser-clause-index
-returns-in-CreateUser-clause-index g c = λ db held acts form fits ended.
-    let made = (rw c.copy-in-CreateUser.ensures at c.create_user.ensures.ends) db held acts (rw c.in-CreateUser.is at form) in
-    Indexes-ends db _ c.create_user.result c.args.index.now c.args.store.now c.create_user.new.store (g.B.Eeprom.chip c.args.bench.now) (g.B.Eeprom.chip c.create_user.new.bench)
-    c.requires.index made c.create_user.ensures.goes_on c.create_user.ensures.rows ended
+returns-in-CreateUser-clause-index g c = λ db held acts form fits. (rw c.copy-in-CreateUser.ensures at c.create_user.ensures).index db held (acts, rw c.in-CreateUser.is at form)
 
 pub returns-in-Grant-clause-ends : goal.returns-in-Grant-clause-ends
 unfolding edits_of
-returns-in-Grant-clause-ends g c = λ db cursor held acts form fits.
-    rw c.in-Grant.is ((rw (c.copy-in-Grant.ensures, c.copy-in-Grant-2.ensures) at c.grant.ensures.ends) db held (rw c.in-Grant.is at form))
+returns-in-Grant-clause-ends g c = λ db cursor held acts form fits. rw c.in-Grant.is ((rw (c.copy-in-Grant.ensures, c.copy-in-Grant-2.ensures) at c.grant.ensures).ends db held (rw c.in-Grant.is at form))
 
 pub returns-in-Grant-clause-index : goal.returns-in-Grant-clause-index
-returns-in-Grant-clause-index g c = λ db held acts form fits ended.
-    let made = (rw (c.copy-in-Grant.ensures, c.copy-in-Grant-2.ensures) at c.grant.ensures.ends) db held (rw c.in-Grant.is at form) in
-    Indexes-ends db _ c.grant.result c.args.index.now c.args.store.now c.grant.new.store (g.B.Eeprom.chip c.args.bench.now) (g.B.Eeprom.chip c.grant.new.bench)
-    c.requires.index made c.grant.ensures.goes_on c.grant.ensures.rows ended
+returns-in-Grant-clause-index g c = λ db held acts form fits. (rw (c.copy-in-Grant.ensures, c.copy-in-Grant-2.ensures) at c.grant.ensures).index db held (rw c.in-Grant.is at form)
 
 pub returns-in-Revoke-clause-ends : goal.returns-in-Revoke-clause-ends
 unfolding edits_of
-returns-in-Revoke-clause-ends g c = λ db cursor held acts form fits.
-    rw c.in-Revoke.is ((rw (c.copy-in-Revoke.ensures, c.copy-in-Revoke-2.ensures) at c.revoke.ensures.ends) db held)
+returns-in-Revoke-clause-ends g c = λ db cursor held acts form fits. rw c.in-Revoke.is ((rw (c.copy-in-Revoke.ensures, c.copy-in-Revoke-2.ensures) at c.revoke.ensures).ends db held tt)
 
 pub returns-in-Revoke-clause-index : goal.returns-in-Revoke-clause-index
-returns-in-Revoke-clause-index g c = λ db held acts form fits ended.
-    let made = (rw (c.copy-in-Revoke.ensures, c.copy-in-Revoke-2.ensures) at c.revoke.ensures.ends) db held in
-    Indexes-ends db _ c.revoke.result c.args.index.now c.args.store.now c.revoke.new.store (g.B.Eeprom.chip c.args.bench.now) (g.B.Eeprom.chip c.revoke.new.bench)
-    c.requires.index made c.revoke.ensures.goes_on c.revoke.ensures.rows ended
+returns-in-Revoke-clause-index g c = λ db held acts form fits. (rw (c.copy-in-Revoke.ensures, c.copy-in-Revoke-2.ensures) at c.revoke.ensures).index db held tt
 
-pub returns-in-DeleteUser-clause-ends : goal.returns-in-DeleteUser-clause-ends
+pub returns-in_err-delete_user-in-DeleteUser-clause-ends : goal.returns-in_err-delete_user-in-DeleteUser-clause-ends
 unfolding edits_of
-returns-in-DeleteUser-clause-ends g c = λ db cursor held acts form fits.
-    rw c.in-DeleteUser.is ((rw c.copy-in-DeleteUser.ensures at c.delete_user.ensures.ends) db held)
+returns-in_err-delete_user-in-DeleteUser-clause-ends g c = λ db cursor held acts form fits.
+    rw c.in-DeleteUser.is (Ends-stopped ℕ db _ c.from_residual.result c.in_err-delete_user-in-DeleteUser.field-0.0 _ _ _ _ c.from_residual.ensures.1
+    ((rw c.copy-in-DeleteUser.ensures at c.in_err-delete_user-in-DeleteUser.ensures.ended).ends db held tt))
 
-pub returns-in-DeleteUser-clause-index : goal.returns-in-DeleteUser-clause-index
-returns-in-DeleteUser-clause-index g c = λ db held acts form fits ended.
-    let made = (rw c.copy-in-DeleteUser.ensures at c.delete_user.ensures.ends) db held in
-    Indexes-ends db _ c.delete_user.result c.args.index.now c.args.store.now c.delete_user.new.store (g.B.Eeprom.chip c.args.bench.now) (g.B.Eeprom.chip c.delete_user.new.bench)
-    c.requires.index made c.delete_user.ensures.goes_on c.delete_user.ensures.rows ended
+pub returns-in_err-delete_user-in-DeleteUser-clause-index : goal.returns-in_err-delete_user-in-DeleteUser-clause-index
+returns-in_err-delete_user-in-DeleteUser-clause-index g c = λ db held acts form fits ended. (rw c.copy-in-DeleteUser.ensures at c.delete_user.ensures.ended).index db held tt
+    (no_fault-on c.from_residual.result c.delete_user.result c.in_err-delete_user-in-DeleteUser.field-0.0 c.from_residual.ensures.1 c.in_err-delete_user-in-DeleteUser.was ended)
+
+pub returns-in_ok-delete_user-in-DeleteUser-clause-ends : goal.returns-in_ok-delete_user-in-DeleteUser-clause-ends
+unfolding edits_of
+returns-in_ok-delete_user-in-DeleteUser-clause-ends g c = λ db cursor held acts form fits.
+    rw c.in-DeleteUser.is ((rw c.copy-in-DeleteUser.ensures at c.in_ok-delete_user-in-DeleteUser.ensures.ended).ends db held tt)
+
+pub returns-in_ok-delete_user-in-DeleteUser-clause-index : goal.returns-in_ok-delete_user-in-DeleteUser-clause-index
+returns-in_ok-delete_user-in-DeleteUser-clause-index g c = λ db held acts form fits ended.
+    (rw c.copy-in-DeleteUser.ensures at c.in_ok-delete_user-in-DeleteUser.ensures.ended).index db held tt (λ wrong. cc)
+
+pub returns-in_ok-delete_user-in-DeleteUser-clause-gone : goal.returns-in_ok-delete_user-in-DeleteUser-clause-gone
+returns-in_ok-delete_user-in-DeleteUser-clause-gone g c = λ db name held deletes.
+    let same : c.in-DeleteUser.name ≡ name = (let other = sym c.in-DeleteUser.is ∙ deletes in cc) in
+    sym (subst (λ (n : List ℕ). stamp_named db n ≡ Some c.in_ok-delete_user-in-DeleteUser.field-0) same ((rw c.copy-in-DeleteUser.ensures at c.in_ok-delete_user-in-DeleteUser.ensures.gone) db held))

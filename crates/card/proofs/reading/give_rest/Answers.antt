@@ -4,6 +4,7 @@ use Rattle.scql_model.specs.Moves.{chosen}
 use Rattle.scql_model.specs.Contents.{Contents}
 use Rattle.scql_model.specs.Rights.{seen_stamped}
 use Rattle.scql_base.specs.declared.records.Object.{Object}
+use Rattle.record_table.proofs.Stopped.{IfOk-stop_answer}
 use Rattle.db_read.proofs.Sighted.{asked-Err}
 use Rattle.scql_base.specs.declared.cursor.Cursor.{Cursor}
 use Rattle.card.specs.Reading.{move_to}
@@ -17,12 +18,12 @@ pub returns-in_default-clause-moves : goal.returns-in_default-clause-moves
 returns-in_default-clause-moves g c = λ db held.
     rw c.requires.empty (more-without_cursor db c.args.actor (reading_in c.args.session.now) c.args.le c.in_default.is)
 
-pub returns-in-Err-Refused-clause-moves : goal.returns-in-Err-Refused-clause-moves
-returns-in-Err-Refused-clause-moves g c = λ db held.
+pub returns-in-Err-clause-moves : goal.returns-in-Err-clause-moves
+returns-in-Err-clause-moves g c = λ db held. IfOk-stop_answer c.in-Err.stop c.answer.result _ c.answer.ensures (λ word is.
     let cursor = c.in-Some.cursor in
-    let stops = rw c.in-Err-Refused.field-0-is at (c.in-Err-Refused.ensures.refused db held) in
-    rw c.requires.empty (more-refused db c.args.actor (reading_in c.args.session.now) c.args.le cursor c.in-Some.is c.in-Err-Refused.word
-    (asked-Err db c.args.actor (seen_stamped db c.args.actor cursor.object) (λ (x : Object) (contents : Contents). Ok (chosen contents cursor)) c.in-Err-Refused.word stops.0))
+    let stops = rw is at (c.in-Err.ensures.refused db held) in
+    rw c.requires.empty (more-refused db c.args.actor (reading_in c.args.session.now) c.args.le cursor c.in-Some.is word
+    (asked-Err db c.args.actor (seen_stamped db c.args.actor cursor.object) (λ (x : Object) (contents : Contents). Ok (chosen contents cursor)) word stops.0)))
 
 pub returns-in-Ok-clause-moves : goal.returns-in-Ok-clause-moves
 returns-in-Ok-clause-moves g c = λ db held.
@@ -34,9 +35,9 @@ returns-in-Ok-clause-moves g c = λ db held.
 pub returns-in_default-clause-octets_read : goal.returns-in_default-clause-octets_read
 returns-in_default-clause-octets_read g c = λ db held. nothing-read _ _
 
-pub returns-in-Err-Refused-clause-octets_read : goal.returns-in-Err-Refused-clause-octets_read
-returns-in-Err-Refused-clause-octets_read g c = λ db held.
-    rw c.in-Some.is (asked-read db c.args.actor c.in-Some.cursor c.args.le _ _ (rw c.in-Err-Refused.field-0-is at (c.in-Err-Refused.ensures.octets_read db held)))
+pub returns-in-Err-clause-octets_read : goal.returns-in-Err-clause-octets_read
+returns-in-Err-clause-octets_read g c = λ db held. IfOk-stop_answer c.in-Err.stop c.answer.result _ c.answer.ensures (λ word is.
+    rw c.in-Some.is (asked-read db c.args.actor c.in-Some.cursor c.args.le _ _ (rw is at (c.in-Err.ensures.octets_read db held))))
 
 pub returns-in-Ok-clause-octets_read : goal.returns-in-Ok-clause-octets_read
 returns-in-Ok-clause-octets_read g c = λ db held. rw c.in-Some.is (asked-read db c.args.actor c.in-Some.cursor c.args.le _ _ (c.in-Ok.ensures.octets_read db held))

@@ -24,7 +24,7 @@ returns-in_err-commit-clause-performs g c = λ m at.
     let old = g.B.Eeprom.chip c.args.bench.now in
     let new = g.B.Eeprom.chip c.commit.new.bench in
     let has = own-has m.transaction c.args.self.now.transaction c.args.channel at.held.transaction (sym c.has_transaction.ensures ∙ c.if-not-has_transaction.false) in
-    Performs-half_committed c.args.self.now c.commit.new.self c.args.self.now.index old new m c.args.channel has.0 c.requires.ready at has.1 has.2
+    Performs-half_committed c.args.self.now c.commit.new.self.store c.args.self.now.index old new m c.args.channel has.0 c.requires.ready at has.1 has.2
     (subst (λ (kept : Kept). Commits kept.store old new) c.self.view_is c.commit.ensures.moments) c.from_residual.result _ (err-ok _ _ c.from_residual.result c.from_residual.ensures.1)
 
 pub returns-clause-performs : goal.returns-clause-performs
@@ -33,12 +33,12 @@ returns-clause-performs g c = λ m at.
     let new = g.B.Eeprom.chip c.commit.new.bench in
     let ensures = c.in_ok-commit.ensures in
     let has = own-has m.transaction c.args.self.now.transaction c.args.channel at.held.transaction (sym c.has_transaction.ensures ∙ c.if-not-has_transaction.false) in
-    Performs-committed c.args.self.now c.commit.new.self c.commit-2.new.self old new m c.args.channel has.0 c.requires.ready at has.1 has.2
+    Performs-committed c.args.self.now c.commit.new.self.store c.commit.new.self.index old new m c.args.channel has.0 c.requires.ready at has.1 has.2
     (subst (λ (kept : Kept). Commits kept.store old new) c.self.view_is c.commit.ensures.moments) c.drop_pending.new.self
-    (subst (λ (kept : Kept). Becomes (IsCommitted kept.store c.commit.new.self) old.image new.image) c.self.view_is ensures.done) ensures.told
+    (subst (λ (kept : Kept). Becomes (IsCommitted kept.store c.commit.new.self.store) old.image new.image) c.self.view_is ensures.done) ensures.told
     (ensures.cells ∙ ap (λ (kept : Kept). kept.store.chains.cells) c.self.view_is) (ensures.rows ∙ ap (λ (kept : Kept). kept.store.row_limit) c.self.view_is)
     (subst (λ (kept : Kept). Becomes (RisesBy (4 + 6 * entries kept.store)) old.written new.written) c.self.view_is ensures.octets_written)
-    (c.drop_pending.ensures ∙ ap (λ (kept : Kept). changing_session without_pending (record kept { store = c.commit.new.self; index = c.commit-2.new.self; transaction = None }) c.args.channel) c.self.view_is)
+    (c.drop_pending.ensures ∙ ap (λ (kept : Kept). changing_session without_pending (record kept { store = c.commit.new.self.store; index = c.commit.new.self.index; transaction = None }) c.args.channel) c.self.view_is)
 
 pub returns-clause-ready : goal.returns-clause-ready
 returns-clause-ready g c =
@@ -47,12 +47,12 @@ returns-clause-ready g c =
     let ensures = c.in_ok-commit.ensures in
     let store = c.args.self.now.store in
     let commits = subst (λ (kept : Kept). Commits kept.store old new) c.self.view_is c.commit.ensures.moments in
-    let done_now = subst (λ (kept : Kept). Becomes (IsCommitted kept.store c.commit.new.self) old.image new.image) c.self.view_is ensures.done in
+    let done_now = subst (λ (kept : Kept). Becomes (IsCommitted kept.store c.commit.new.self.store) old.image new.image) c.self.view_is ensures.done in
     let cells = ensures.cells ∙ ap (λ (kept : Kept). kept.store.chains.cells) c.self.view_is in
     let rows = ensures.rows ∙ ap (λ (kept : Kept). kept.store.row_limit) c.self.view_is in
-    let ended : Kept = record c.args.self.now { store = c.commit.new.self; index = c.commit-2.new.self; transaction = None } in
+    let ended : Kept = record c.args.self.now { store = c.commit.new.self.store; index = c.commit.new.self.index; transaction = None } in
     StandsOver-sessions ended c.drop_pending.new.self new new _
-    (c.drop_pending.ensures ∙ ap (λ (kept : Kept). changing_session without_pending (record kept { store = c.commit.new.self; index = c.commit-2.new.self; transaction = None }) c.args.channel) c.self.view_is) refl
-    (StandsOver-ended c.args.self.now ended Working old new c.requires.ready c.requires.ready.works c.requires.ready.live refl ensures.ended (over-committed store c.commit.new.self old new c.requires.ready.over commits done_now cells) ensures.told
-    (slots-committed store c.commit.new.self old new c.requires.ready.over done_now ensures.told) cells rows
-    (c.commit-2.ensures.committed ∙ ap (λ (kept : Kept). let i : Index = record { cells = kept.index.cells; begun = false; committed = kept.index.working; working = kept.index.working } in i) c.self.view_is))
+    (c.drop_pending.ensures ∙ ap (λ (kept : Kept). changing_session without_pending (record kept { store = c.commit.new.self.store; index = c.commit.new.self.index; transaction = None }) c.args.channel) c.self.view_is) refl
+    (StandsOver-ended c.args.self.now ended Working old new c.requires.ready c.requires.ready.works c.requires.ready.live refl ensures.ended (over-committed store c.commit.new.self.store old new c.requires.ready.over commits done_now cells) ensures.told
+    (slots-committed store c.commit.new.self.store old new c.requires.ready.over done_now ensures.told) cells rows
+    (c.in_ok-commit.ensures.index ∙ ap (λ (kept : Kept). let i : Index = record { cells = kept.index.cells; begun = false; committed = kept.index.working; working = kept.index.working } in i) c.self.view_is))

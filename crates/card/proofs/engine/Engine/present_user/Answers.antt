@@ -12,14 +12,14 @@ use Rattle.card.proofs.engine.Engine.present_user.Goals as goal
 pub returns-in-Unknown-clause-step : goal.returns-in-Unknown-clause-step
 returns-in-Unknown-clause-step g c = λ m at.
     let old = g.B.Eeprom.chip c.args.bench.now in
-    let rest : IsAtRest c.self.inside.store old m.committed = subst (λ (kept : Kept). IsAtRest kept.store old m.committed) (sym c.self.view_is) (IsAtRest-at c.args.self.now old m c.requires.ready at) in
+    let rest : IsAtRest c.self.inside.tables.store old m.committed = subst (λ (kept : Kept). IsAtRest kept.store old m.committed) (sym c.self.view_is) (IsAtRest-at c.args.self.now old m c.requires.ready at) in
     HoldsAnswer-unknown c.args.self.now old (g.B.Eeprom.chip c.present.new.bench) m c.args.channel c.args.name c.in_ok-present.field-0 at.held (none-of m.transaction c.args.self.now.transaction at.held.transaction c.requires.closed) c.in_ok-present.ensures.frame.same
     (c.in_ok-present.ensures.presented m.committed rest) not_found (ap session_presented c.in-Unknown.is)
 
 pub returns-clause-step : goal.returns-clause-step
 returns-clause-step g c = λ m at.
     let old = g.B.Eeprom.chip c.args.bench.now in
-    let rest : IsAtRest c.self.inside.store old m.committed = subst (λ (kept : Kept). IsAtRest kept.store old m.committed) (sym c.self.view_is) (IsAtRest-at c.args.self.now old m c.requires.ready at) in
+    let rest : IsAtRest c.self.inside.tables.store old m.committed = subst (λ (kept : Kept). IsAtRest kept.store old m.committed) (sym c.self.view_is) (IsAtRest-at c.args.self.now old m c.requires.ready at) in
     let presented = c.in_ok-present.ensures.presented m.committed rest in
     elim c.match-branch-2.branch [
       | in-Public w ↦ HoldsAnswer-presented c.args.self.now old (g.B.Eeprom.chip c.present.new.bench) m c.args.channel c.args.name c.in_ok-present.field-0 at.held (none-of m.transaction c.args.self.now.transaction at.held.transaction c.requires.closed) c.in_ok-present.ensures.frame.same presented

@@ -33,7 +33,7 @@ use Rattle.card.proofs.engine.Engine.read.Goals as goal
 abbrev now : (g : _) → After-read g → Kept
 now g c = record c.args.self.now { found = c.actor_reading.new.self.found }
 
-view : (g : _) (c : After-read g) → record { store = c.self.inside.store; index = c.self.inside.index; sessions = sessions_of c.self.inside.sessions.value c.self.inside.chains.value; transaction = c.self.inside.transaction; found = c.self.inside.found.value; live = c.self.inside.live } ≡ now g c
+view : (g : _) (c : After-read g) → record { store = c.self.inside.tables.store; index = c.self.inside.tables.index; sessions = sessions_of c.self.inside.sessions.value c.self.inside.chains.value; transaction = c.self.inside.transaction; found = c.self.inside.found.value; live = c.self.inside.live } ≡ now g c
 view g c = c.self.view_is ∙ c.in_ok-actor.ensures.kept
 
 -- its session
@@ -43,13 +43,13 @@ session-there g c =
 
 -- what its side holds
 held-there : (g : _) (c : After-read g) (db : Database) → IsHeld c.args.self.now.store (side_of c.args.self.now.transaction c.args.command.now.channel) (g.B.Eeprom.chip c.args.bench.now) db
-    → IsHeld c.self.inside.store c.side-side.result (g.B.Eeprom.chip c.actor_reading.new.bench) db
+    → IsHeld c.self.inside.tables.store c.side-side.result (g.B.Eeprom.chip c.actor_reading.new.bench) db
 held-there g c db held =
     let channel = c.args.command.now.channel in
     let old = g.B.Eeprom.chip c.args.bench.now in
     let before = subst (λ (kept : Kept). IsHeld kept.store (side_of kept.transaction channel) old db) (sym c.in_ok-actor.ensures.kept) held in
     let inside = subst (λ (kept : Kept). IsHeld kept.store (side_of c.actor_reading.new.self.transaction channel) old db) (sym c.self.view_is) before in
-    subst (λ (chip : Chip). IsHeld c.self.inside.store c.side-side.result chip db) (sym c.in_ok-actor.ensures.frame.same) (subst (λ (side : Side). IsHeld c.self.inside.store side old db) (sym c.side-side.ensures) inside)
+    subst (λ (chip : Chip). IsHeld c.self.inside.tables.store c.side-side.result chip db) (sym c.in_ok-actor.ensures.frame.same) (subst (λ (side : Side). IsHeld c.self.inside.tables.store side old db) (sym c.side-side.ensures) inside)
 
 -- what was found is right for its cursor
 right-there : (g : _) (c : After-read g) (db : Database) → IsHeld c.args.self.now.store (side_of c.args.self.now.transaction c.args.command.now.channel) (g.B.Eeprom.chip c.args.bench.now) db
@@ -65,10 +65,10 @@ right-there g c db held =
 
 -- the session that has read
 set-there : (g : _) (c : After-read g) → c.read.new.session.user ≡ c.in-Some.session.user
-    → record { store = c.self.inside.store; index = c.self.inside.index; sessions = sessions_of (slice_set c.self.inside.sessions.value c.from.result (Some c.read.new.session)) c.self.inside.chains.value; transaction = c.self.inside.transaction; found = c.self.inside.found.value; live = c.self.inside.live }
+    → record { store = c.self.inside.tables.store; index = c.self.inside.tables.index; sessions = sessions_of (slice_set c.self.inside.sessions.value c.from.result (Some c.read.new.session)) c.self.inside.chains.value; transaction = c.self.inside.transaction; found = c.self.inside.found.value; live = c.self.inside.live }
     ≡ changing_session (reading_so (reading_in c.read.new.session)) (now g c) c.args.command.now.channel
 set-there g c user =
-    rw c.from.ensures (card-changed (reading_so (reading_in c.read.new.session)) c.self.inside.store c.self.inside.index c.self.inside.transaction c.self.inside.found.value c.self.inside.live c.self.inside.sessions.value c.self.inside.chains.value c.args.command.now.channel
+    rw c.from.ensures (card-changed (reading_so (reading_in c.read.new.session)) c.self.inside.tables.store c.self.inside.tables.index c.self.inside.transaction c.self.inside.found.value c.self.inside.live c.self.inside.sessions.value c.self.inside.chains.value c.args.command.now.channel
     c.in-Some.session c.read.new.session (now g c) (view g c) (λ chain. reads-so c.read.new.session c.in-Some.session user chain) (session-there g c))
 
 pub returns-in_err-actor-clause-performs : goal.returns-in_err-actor-clause-performs
@@ -104,7 +104,7 @@ returns-clause-performs g c = λ m from.
     let cursors = of_database db session.cursor (subst (λ (reading : Reading). IfSome reading.cursor (StandsOn db)) seen (from.valid.readings channel).cursor) in
     let reads = reads-command command c.requires.formed c.requires.reads in
     let moves = c.in_ok-word.ensures.moves db (held-there g w db held) cursors (right-there g w db held) in
-    let kept : Kept = record { store = c.self.inside.store; index = c.self.inside.index; sessions = sessions_of (slice_set c.self.inside.sessions.value c.from.result (Some after)) c.self.inside.chains.value; transaction = c.self.inside.transaction; found = c.self.inside.found.value; live = c.self.inside.live } in
+    let kept : Kept = record { store = c.self.inside.tables.store; index = c.self.inside.tables.index; sessions = sessions_of (slice_set c.self.inside.sessions.value c.from.result (Some after)) c.self.inside.chains.value; transaction = c.self.inside.transaction; found = c.self.inside.found.value; live = c.self.inside.live } in
     rw (c.deref_mut.ensures.value, c.deref_mut-4.ensures.value) (Performs-found m _ _ c.read.new.reply.body c.in_ok-word.word kept _ old _
     (Performs-unwritten args kept old _ m _ _ c.read.new.reply.body (Ok c.in_ok-word.word) c.requires.ready.stands from (search rules)
     (subst (λ (chip : Chip). HoldsAnswer (answered m (carried_out m command)) (replied c.read.new.reply.body c.in_ok-word.word) kept chip) (search rules)
@@ -122,7 +122,7 @@ returns-clause-ready g c =
     let after = c.read.new.session in
     let w = (goal.at.returns-clause-ready g c).After-read in
     let found : Found = record { last = Some (record { channel = channel; actor = c.in_ok-actor.actor }); scan = c.read.new.scan } in
-    let kept : Kept = record { store = c.self.inside.store; index = c.self.inside.index; sessions = sessions_of (slice_set c.self.inside.sessions.value c.from.result (Some after)) c.self.inside.chains.value; transaction = c.self.inside.transaction; found = c.self.inside.found.value; live = c.self.inside.live } in
+    let kept : Kept = record { store = c.self.inside.tables.store; index = c.self.inside.tables.index; sessions = sessions_of (slice_set c.self.inside.sessions.value c.from.result (Some after)) c.self.inside.chains.value; transaction = c.self.inside.transaction; found = c.self.inside.found.value; live = c.self.inside.live } in
     rw (c.deref_mut.ensures.value, c.deref_mut-4.ensures.value) (subst (λ (chip : Chip). IsReady (record kept { found = found }) chip) (search rules) (subst (λ (kept : Kept). IsReady (record kept { found = found }) old) (sym (set-there g w c.in_ok-word.ensures.user))
     (IsReady-read (now g w) old channel (reading_in after) c.in_ok-actor.actor c.read.new.scan (StandsOver-found args c.actor_reading.new.self.found old c.requires.ready.stands)
     (λ db held. c.in_ok-actor.ensures.actor db held) (λ db held. c.in_ok-word.ensures.right db (held-there g w db held) (right-there g w db held)))))

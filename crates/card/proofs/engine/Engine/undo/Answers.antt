@@ -9,5 +9,5 @@ use Rattle.card.proofs.engine.Engine.undo.Goals as goal
 pub returns-clause-holds : goal.returns-clause-holds
 returns-clause-holds c = λ chip m at.
     HoldsMachine-undone c.args.self.now _ chip m at
-    (subst (λ (kept : Kept). (image : List ℕ) → contents c.rollback.new.self Committed image ≡ contents kept.store Committed image) c.self.view_is c.rollback.ensures.committed)
+    (subst (λ (kept : Kept). (image : List ℕ) → contents c.rollback.new.self.store Committed image ≡ contents kept.store Committed image) c.self.view_is c.rollback.ensures.committed)
     (c.rollback.ensures.rows ∙ ap (λ (kept : Kept). kept.store.row_limit) c.self.view_is) (ap (λ (kept : Kept). kept.sessions) c.self.view_is) refl

@@ -23,7 +23,7 @@ returns-in_default-clause-performs g c = λ m from.
 user : (g : _) (c : After-verify g) (m : Machine) → IsAt c.args.self.now (g.B.Eeprom.chip c.args.bench.now) m → IsUnproved m c.args.channel c.in-Some.user
 user g c m from = unproved-there c.args.self.now (g.B.Eeprom.chip c.args.bench.now) m c.args.channel from.held c.in-Some.user (sym c.in-Some.is ∙ c.unproved_user.ensures)
 
-holds : (g : _) (c : After-verify g) (m : Machine) → IsAt c.args.self.now (g.B.Eeprom.chip c.args.bench.now) m → HoldsSecret c.self.inside.store (g.B.Eeprom.chip c.args.bench.now) m.committed c.in-Some.user
+holds : (g : _) (c : After-verify g) (m : Machine) → IsAt c.args.self.now (g.B.Eeprom.chip c.args.bench.now) m → HoldsSecret c.self.inside.tables.store (g.B.Eeprom.chip c.args.bench.now) m.committed c.in-Some.user
 holds g c m from =
     subst (λ (kept : Kept). HoldsSecret kept.store (g.B.Eeprom.chip c.args.bench.now) m.committed c.in-Some.user) (sym c.self.view_is)
     (secret-held c.args.self.now (g.B.Eeprom.chip c.args.bench.now) m c.args.channel c.in-Some.user c.args.secret.now c.requires.ready from c.requires.closed (user g c m from))
@@ -74,7 +74,7 @@ pub returns-clause-ready : goal.returns-clause-ready
 returns-clause-ready g c =
     let old = g.B.Eeprom.chip c.args.bench.now in
     let new = g.B.Eeprom.chip c.verify.new.bench in
-    let before : Kept = record { store = c.self.inside.store; index = c.self.inside.index; sessions = sessions_of c.self.inside.sessions.value c.self.inside.chains.value; transaction = c.self.inside.transaction; found = c.self.inside.found.value; live = c.self.inside.live } in
+    let before : Kept = record { store = c.self.inside.tables.store; index = c.self.inside.tables.index; sessions = sessions_of c.self.inside.sessions.value c.self.inside.chains.value; transaction = c.self.inside.transaction; found = c.self.inside.found.value; live = c.self.inside.live } in
     let ready : StandsOver before old = subst (λ (kept : Kept). StandsOver kept old) (sym c.self.view_is) c.requires.ready in
     let next = StandsOver-verified before c.verify.new.store old new ready (ap (λ (kept : Kept). kept.transaction) c.self.view_is ∙ c.requires.closed) c.in_ok-word.ensures.goes_on c.in_ok-word.ensures.holds c.in_ok-word.ensures.rows in
     subst (λ (kept : Kept). StandsOver kept new) (sym (settles g c))

@@ -37,7 +37,7 @@ rows limit own most is = omega (arith, most, is)
 
 -- the card once octets were taken
 abbrev after_take : (g : _) → After-take g → Kept
-after_take g c = record { store = c.self.inside.store; index = c.self.inside.index; sessions = sessions_of c.self.inside.sessions.value c.take.new.self; transaction = c.self.inside.transaction; found = c.self.inside.found.value; live = c.self.inside.live }
+after_take g c = record { store = c.self.inside.tables.store; index = c.self.inside.tables.index; sessions = sessions_of c.self.inside.sessions.value c.take.new.self; transaction = c.self.inside.transaction; found = c.self.inside.found.value; live = c.self.inside.live }
 
 -- what they are
 abbrev form : (g : _) → After-take g → Form
@@ -56,7 +56,7 @@ bounds g c m at =
 
 at-taken : (g : _) (c : After-take g) (m : Machine) → IsAt c.args.self.now (g.B.Eeprom.chip c.args.bench.now) m → IsAt (after_take g c) (g.B.Eeprom.chip c.args.bench.now) (taken_at m (form g c))
 at-taken g c m at =
-    IsAt-taken c.self.inside.store c.self.inside.index c.self.inside.transaction c.self.inside.found.value c.self.inside.live c.self.inside.sessions.value c.self.inside.chains.value c.take.new.self c.args.self.now (g.B.Eeprom.chip c.args.bench.now) m (form g c) at c.self.view_is (rw c.deref_mut.ensures.value at c.take.ensures.chains)
+    IsAt-taken c.self.inside.tables.store c.self.inside.tables.index c.self.inside.transaction c.self.inside.found.value c.self.inside.live c.self.inside.sessions.value c.self.inside.chains.value c.take.new.self c.args.self.now (g.B.Eeprom.chip c.args.bench.now) m (form g c) at c.self.view_is (rw c.deref_mut.ensures.value at c.take.ensures.chains)
 
 -- nothing is written for what is no command, nor said
 unwritten : (g : _) (c : After-take g) (m : Machine) (answer : Answer) (word : StatusWord) (after : Kept) → IsAt c.args.self.now (g.B.Eeprom.chip c.args.bench.now) m
@@ -124,7 +124,7 @@ ready-taken : (g : _) (c : After-take g) → IsReady (after_take g c) (g.B.Eepro
 ready-taken g c =
     let chip = g.B.Eeprom.chip c.args.bench.now in
     let same = ap length (rw c.deref_mut.ensures.value at c.take.ensures.chains) ∙ length-after c.self.inside.chains.value (form g c) in
-    let before : Kept = record { store = c.self.inside.store; index = c.self.inside.index; sessions = sessions_of c.self.inside.sessions.value c.self.inside.chains.value; transaction = c.self.inside.transaction; found = c.self.inside.found.value; live = c.self.inside.live } in
+    let before : Kept = record { store = c.self.inside.tables.store; index = c.self.inside.tables.index; sessions = sessions_of c.self.inside.sessions.value c.self.inside.chains.value; transaction = c.self.inside.transaction; found = c.self.inside.found.value; live = c.self.inside.live } in
     IsReady-sessions before chip (sessions_of c.self.inside.sessions.value c.take.new.self)
     (λ channel. ap (option_and_then proved_stamp) (parts-unseen (λ (s : machine.Session). s.user) (λ chain next s. refl) c.self.inside.sessions.value c.self.inside.chains.value c.take.new.self channel same))
     (λ channel. parts-unseen (λ (s : machine.Session). s.reading.cursor) (λ chain next s. refl) c.self.inside.sessions.value c.self.inside.chains.value c.take.new.self channel same)
