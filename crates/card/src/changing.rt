@@ -173,10 +173,23 @@ fn make<B: Eeprom>(
     match operation {
         Operation::Update { changes } => {
             update(
-                &mut tables.store, bench, actor, cursor, changes, &mut tables.index, scan,
+                &mut tables.store,
+                bench,
+                actor,
+                cursor,
+                changes,
+                &mut tables.index,
+                scan,
             )
         }
-        Operation::Delete => delete(&mut tables.store, bench, actor, cursor, &mut tables.index, scan),
+        Operation::Delete => delete(
+            &mut tables.store,
+            bench,
+            actor,
+            cursor,
+            &mut tables.index,
+            scan,
+        ),
         operation => make_without_cursor(tables, bench, actor, operation, gone),
     }
 }
@@ -211,14 +224,22 @@ fn make_without_cursor<B: Eeprom>(
 {
     match operation {
         Operation::CreateTable { name, columns } => {
-            create_table(&mut tables.store, bench, actor, name.copy(), columns, &mut tables.index)
+            create_table(
+                &mut tables.store,
+                bench,
+                actor,
+                name.copy(),
+                columns,
+                &mut tables.index,
+            )
         }
         Operation::CreateView {
             name,
             base,
             columns,
             conditions,
-        } => create_view(&mut tables.store,
+        } => create_view(
+            &mut tables.store,
             bench,
             actor,
             name.copy(),
@@ -228,10 +249,29 @@ fn make_without_cursor<B: Eeprom>(
             &mut tables.index,
         ),
         Operation::CreateDictionary { name, subject } => {
-            create_dictionary(&mut tables.store, bench, actor, name.copy(), *subject, &mut tables.index)
+            create_dictionary(
+                &mut tables.store,
+                bench,
+                actor,
+                name.copy(),
+                *subject,
+                &mut tables.index,
+            )
         }
-        Operation::DropTable { name } => drop_table(&mut tables.store, bench, actor, name.copy(), &mut tables.index),
-        Operation::DropView { name } => drop_view(&mut tables.store, bench, actor, name.copy(), &mut tables.index),
+        Operation::DropTable { name } => drop_table(
+            &mut tables.store,
+            bench,
+            actor,
+            name.copy(),
+            &mut tables.index,
+        ),
+        Operation::DropView { name } => drop_view(
+            &mut tables.store,
+            bench,
+            actor,
+            name.copy(),
+            &mut tables.index,
+        ),
         Operation::Grant {
             privileges,
             object,

@@ -420,15 +420,7 @@ impl Engine {
                 scan,
                 gone,
             )?,
-            Some(_) => change_within(
-                tables,
-                bench,
-                user,
-                known,
-                &session.cursor,
-                operation,
-                scan,
-            )?,
+            Some(_) => change_within(tables, bench, user, known, &session.cursor, operation, scan)?,
         };
         self.settle(channel, word);
         Ok(word)
