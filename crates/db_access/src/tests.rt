@@ -1,12 +1,8 @@
-// Users are made, presented and verified over a card's image in memory.
-ghost use Rattle.std.specs.Prelude.{◌≡◌, IsTrue, OnOk, false};
-ghost use Rattle.record_store.specs.Held.{IsOver};
-
-use crate::{Presented, create_user, present, verify};
-use eeprom::{Eeprom, FaultPlan, MemBench};
+// Users are presented and verified over a card's image in memory.
+use crate::{Presented, present, verify};
+use eeprom::{FaultPlan, MemBench};
 use record_store::{Side, Store};
-use record_table::Stop;
-use scql_base::{Actor, Name, Octets, Profile, StatusWord};
+use scql_base::Name;
 use std::alloc::{AllocError, Global};
 use std::test::Fail;
 use user_table::find_stamp;
@@ -16,10 +12,8 @@ const COUNTER: [u8; 5] = [0x00, 0, 0, 0, 2];
 
 const OWNER: [u8; 18] = *b"\x01\x00\x00\x00\x01\x00\x00\x00\x01\x01\x03\x05OWNER\x00";
 
-const BY_OWNER: Actor = Actor::User {
-    stamp: 1,
-    profile: Profile::DbO,
-};
+/// A user of stamp 2 with profile 03 and a secret.
+const ANNA: [u8; 21] = *b"\x01\x00\x00\x00\x02\x00\x00\x00\x01\x03\x03\x04ANNA\x041234";
 
 // An EEPROM with an image, where nothing fails.
 fn bench_of(alloc: Global, image: Vec<u8>) -> Result<MemBench, AllocError> {
@@ -40,54 +34,12 @@ fn made(alloc: Global) -> Result<MemBench, AllocError> {
     Ok(bench)
 }
 
-// Begins a transaction, and makes a user of profile 03 who has a secret.
-fn make_user<B: Eeprom>(
-    store: &mut Store,
-    bench: &mut B,
-    actor: Actor,
-    name: Name,
-) -> Result<(), Stop>
-    requires idle { store.old.begun ≡ false }
-    requires over { IsOver store.old (B.chip bench.old) }
-    ensures begun { OnOk result (IsTrue store.new.begun) }
-    ensures over { OnOk result (IsOver store.new (B.chip bench.new)) }
-{
-    store.begin();
-    match Octets::of(b"1234") {
-        Some(secret) => create_user(store, bench, actor, name, Profile::Dbbu, &secret),
-        None => Err(Stop::Fault),
-    }
-}
-
-// The word that refuses a user of this name, or none.
-fn word_for(alloc: Global, actor: Actor, name: &[u8]) -> Result<Option<StatusWord>, AllocError> {
-    let mut bench = made(alloc)?;
-    let (Ok(mut store), Some(name)) = (Store::open(alloc, &mut bench), Name::read(name)) else {
-        return Ok(None);
-    };
-    match make_user(&mut store, &mut bench, actor, name) {
-        Err(Stop::Refused { word }) => Ok(Some(word)),
-        _ => Ok(None),
-    }
-}
-
-#[test]
-fn users_are_refused(rt: HostRuntime) -> Result<(), Fail> {
-    let alloc = rt.alloc();
-    let by_public = word_for(alloc, Actor::Public, Name::OWNER)?;
-    assert!(rt; by_public == Some(StatusWord::SECURITY_NOT_SATISFIED));
-    let taken = word_for(alloc, BY_OWNER, Name::OWNER)?;
-    assert!(rt; taken == Some(StatusWord::ALREADY_EXISTS));
-    let public = word_for(alloc, BY_OWNER, Name::PUBLIC)?;
-    assert!(rt; public == Some(StatusWord::ALREADY_EXISTS));
-    Ok(())
-}
-
-// The image with a user ANNA, committed.
+// The image with a user ANNA beside OWNER, who made it, committed.
 fn with_anna(alloc: Global) -> Result<MemBench, AllocError> {
     let mut bench = made(alloc)?;
-    if let (Ok(mut store), Some(anna)) = (Store::open(alloc, &mut bench), Name::read(b"ANNA")) {
-        if let Ok(()) = make_user(&mut store, &mut bench, BY_OWNER, anna) {
+    if let Ok(mut store) = Store::open(alloc, &mut bench) {
+        store.begin();
+        if let Ok(_slot) = store.put(&mut bench, None, &ANNA) {
             // Where this fails there is no such user.
             let _committed = store.commit(&mut bench);
         }
