@@ -1,8 +1,12 @@
 // Users are presented and verified over a card's image in memory.
+ghost use Rattle.std.specs.Prelude.{◌≡◌, IsTrue, OnOk, false};
+ghost use Rattle.record_store.specs.Held.{IsOver};
+
 use crate::{Presented, present, verify};
-use eeprom::{FaultPlan, MemBench};
-use record_store::{Side, Store};
-use scql_base::Name;
+use eeprom::{Eeprom, FaultPlan, MemBench};
+use record_store::{Side, Store, StoreRefusal};
+use record_table::add;
+use scql_base::{Name, Octets, Profile, User};
 use std::alloc::{AllocError, Global};
 use std::test::Fail;
 use user_table::find_stamp;
@@ -11,9 +15,6 @@ use user_table::find_stamp;
 const COUNTER: [u8; 5] = [0x00, 0, 0, 0, 2];
 
 const OWNER: [u8; 18] = *b"\x01\x00\x00\x00\x01\x00\x00\x00\x01\x01\x03\x05OWNER\x00";
-
-/// A user of stamp 2 with profile 03 and a secret.
-const ANNA: [u8; 21] = *b"\x01\x00\x00\x00\x02\x00\x00\x00\x01\x03\x03\x04ANNA\x041234";
 
 // An EEPROM with an image, where nothing fails.
 fn bench_of(alloc: Global, image: Vec<u8>) -> Result<MemBench, AllocError> {
@@ -34,12 +35,34 @@ fn made(alloc: Global) -> Result<MemBench, AllocError> {
     Ok(bench)
 }
 
-// The image with a user ANNA beside OWNER, who made it, committed.
+// Begins a transaction, and puts a user into an empty slot.
+fn add_user<B: Eeprom>(store: &mut Store, bench: &mut B, user: &User) -> Result<u16, StoreRefusal>
+    requires idle { store.old.begun ≡ false }
+    requires over { IsOver store.old (B.chip bench.old) }
+    ensures begun { OnOk result (IsTrue store.new.begun) }
+    ensures over { OnOk result (IsOver store.new (B.chip bench.new)) }
+{
+    store.begin();
+    add(store, bench, user)
+}
+
+// ANNA, a user of stamp 2 with profile 03 and a secret, whom OWNER made.
+fn anna() -> Option<User> {
+    Some(User {
+        stamp: 2,
+        name: Name::read(b"ANNA")?,
+        profile: Profile::Dbbu,
+        owner: 1,
+        secret: Octets::of(b"1234")?,
+        tries: User::ALL_TRIES,
+    })
+}
+
+// The image with ANNA beside OWNER, committed.
 fn with_anna(alloc: Global) -> Result<MemBench, AllocError> {
     let mut bench = made(alloc)?;
-    if let Ok(mut store) = Store::open(alloc, &mut bench) {
-        store.begin();
-        if let Ok(_slot) = store.put(&mut bench, None, &ANNA) {
+    if let (Ok(mut store), Some(anna)) = (Store::open(alloc, &mut bench), anna()) {
+        if let Ok(_slot) = add_user(&mut store, &mut bench, &anna) {
             // Where this fails there is no such user.
             let _committed = store.commit(&mut bench);
         }
