@@ -291,20 +291,31 @@ FUNCTION = re.compile(r"\s*(?:pub(?:\(crate\))? )?(?:final )?(?:const )?fn (\w+)
 
 
 def functions():
-    """The clauses of each function, for each place where one of its name stands."""
+    """The clauses of each function, and the fields of the records that they name, for each place where one of its name stands."""
     found = {}
     for path in sorted(CRATES.glob("*/src/**/*.rt")):
         if path.name == "tests.rt" or "tests" in path.parts:
             continue
-        name = None
+        name, crate, ensures = None, path.relative_to(CRATES).parts[0], False
         for line in path.read_text(encoding="utf-8").splitlines():
             begins, clause = FUNCTION.match(line), CLAUSE.match(line)
+            ensures = line.lstrip().startswith("ensures ") or (ensures and not clause and line.lstrip() != "{")
             if begins:
                 name = begins[1]
-                found.setdefault(name, []).append((path.relative_to(CRATES).parts[0], set()))
+                found.setdefault(name, []).append((crate, set()))
             elif clause and name:
                 found[name][-1][1].add(clause[1])
+            if name and ensures:
+                for word in set(re.findall(r"\w+", line)) & records(crate).keys():
+                    found[name][-1][1].update(records(crate)[word])
     return found
+
+
+@functools.lru_cache(maxsize=None)
+def records(crate):
+    """The fields of each record of a crate's definitions: what a clause says that names it."""
+    texts = "\n".join(path.read_text(encoding="utf-8") for path in (CRATES / crate / "specs").rglob("*.antt"))
+    return {name: re.findall(r"^  pub (\w+) :", fields, re.M) for name, fields in re.findall(r"^pub record (\w+)\b.*? where\n((?:  .*\n)+)", texts + "\n", re.M)}
 
 
 def names_in(text):

@@ -19,8 +19,9 @@ use Rattle.scql_model.specs.ReadingCommands.{reading_command}
 use Rattle.scql_model.specs.Step.{changed_to, changed, reading_done, operated, carried_out}
 use Rattle.apdu_chain.proofs.CarriedOut.{carried_out-free, committed-base, octets_carried_out-free}
 use Rattle.card.specs.Answering.{committed_at_once}
-use Rattle.card.specs.Changing.{is_changing, new_of, octets_of}
+use Rattle.card.specs.Changing.{new_of, octets_of}
 use Rattle.card.specs.Waiting.{has_own, keeps_waiting}
+use Rattle.card.proofs.OtherCommands.{is_changing}
 
 -- the channel of a transaction tells what it keeps waiting
 pub waiting-at : (w : Waits) (t : Option Transaction) (own : Option ℕ) (channel : ℕ) → option_map (λ (t : Transaction). t.channel) t ≡ own → is_kept_waiting w t channel ≡ keeps_waiting w own channel

@@ -6,6 +6,7 @@ mod Counted
 mod CountedKinds
 mod DeletedSessions
 mod Founding
+mod Ended
 mod FoundAgain
 mod FreeCommands
 mod GatheredSlots

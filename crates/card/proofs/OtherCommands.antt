@@ -1,12 +1,29 @@
 -- An operation changes the database, reads, or has an arm of its own.
-use Rattle.std.proofs.Common.{◌≡◌, ℕ, false, List, refl}
+use Rattle.std.proofs.Common.{◌≡◌, ℕ, Bool, true, false, List, refl}
 use Rattle.scql_base.specs.declared.operation.Operation.{Operation}
 use Rattle.scql_base.specs.declared.operation.Operation.TheVariants as asks
+use Rattle.scql_base.specs.declared.operation.OperationKind.{OperationKind}
+use Rattle.scql_base.specs.declared.operation.OperationKind.TheVariants.{CreateTable, CreateView, CreateDictionary, DropTable, DropView, Grant, Revoke, Insert, Update, Delete, CreateUser, DeleteUser}
 use Rattle.scql_model.specs.Operations.{kind_of}
-use Rattle.card.specs.Changing.{IsChange}
 use Rattle.card.specs.Reading.{is_reading}
 
--- an operation that is none of those
+-- the operations that change the database; DELETE USER changes sessions besides
+abbrev pub is_changing : OperationKind → Bool
+is_changing CreateTable = true
+is_changing CreateView = true
+is_changing CreateDictionary = true
+is_changing DropTable = true
+is_changing DropView = true
+is_changing Grant = true
+is_changing Revoke = true
+is_changing Insert = true
+is_changing Update = true
+is_changing Delete = true
+is_changing CreateUser = true
+is_changing DeleteUser = true
+is_changing kind = false
+
+-- an operation that neither reads nor has an arm of its own
 pub record IsNoneOfThose (operation : Operation) : Type 0 where
   pub not_reading : is_reading (kind_of operation) ≡ false
   pub not_presents : (name : List ℕ) → operation ≡ asks.PresentUser name → ⊥
@@ -18,13 +35,14 @@ pub record IsNoneOfThose (operation : Operation) : Type 0 where
   pub not_commits : operation ≡ asks.Commit → ⊥
   pub not_rolls_back : operation ≡ asks.Rollback → ⊥
 
-pub IsChange-others : (operation : Operation) → IsNoneOfThose operation → IsChange operation
-IsChange-others asks.Begin others = absurd (others.not_begins refl)
-IsChange-others asks.Commit others = absurd (others.not_commits refl)
-IsChange-others asks.Rollback others = absurd (others.not_rolls_back refl)
-IsChange-others (asks.PresentUser name) others = absurd (others.not_presents name refl)
-IsChange-others (asks.DeleteUser name) others = absurd (others.not_deletes name refl)
-IsChange-others (asks.Verify secret) others = absurd (others.not_verifies secret refl)
-IsChange-others (asks.OpenChannel number) others = absurd (others.not_opens number refl)
-IsChange-others (asks.CloseChannel number) others = absurd (others.not_closes number refl)
-IsChange-others operation others = let reads = others.not_reading in cc
+-- it changes the database
+pub changes-others : (operation : Operation) → IsNoneOfThose operation → is_changing (kind_of operation) ≡ true
+changes-others asks.Begin others = absurd (others.not_begins refl)
+changes-others asks.Commit others = absurd (others.not_commits refl)
+changes-others asks.Rollback others = absurd (others.not_rolls_back refl)
+changes-others (asks.PresentUser name) others = absurd (others.not_presents name refl)
+changes-others (asks.DeleteUser name) others = absurd (others.not_deletes name refl)
+changes-others (asks.Verify secret) others = absurd (others.not_verifies secret refl)
+changes-others (asks.OpenChannel number) others = absurd (others.not_opens number refl)
+changes-others (asks.CloseChannel number) others = absurd (others.not_closes number refl)
+changes-others operation others = let reads = others.not_reading in cc

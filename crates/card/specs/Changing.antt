@@ -1,55 +1,46 @@
--- A change of the database of a card: which operations make one, for whom, and what it comes to.
-use Rattle.std.specs.Prelude.{◌≡◌, ◌⊎◌, ◌==◌, ℕ, Bool, true, false, List, [], ◌∷◌, Option, Result, Ok, Err, IfOk, OnOk, option_map, if◌then◌else◌}
+-- A change of the database of a card: of which operations, for whom, and what it comes to.
+use Rattle.std.specs.Prelude.{◌≡◌, ◌⊎◌, ◌==◌, ℕ, Bool, true, false, List, [], ◌∷◌, Option, Result, Ok, Err, IfOk, OnErr, OnOk, option_map, if◌then◌else◌}
 use Rattle.eeprom.specs.Chip.{Chip, Becomes, RisesAtMost}
 use Rattle.eeprom.specs.declared.EepromFault.{EepromFault}
 use Rattle.record_store.specs.Held.{Held}
 use Rattle.record_store.specs.declared.side.Side.{Side}
+use Rattle.record_store.specs.declared.side.Side.TheVariants.{Working}
 use Rattle.scql_base.specs.declared.operation.Operation.{Operation}
+use Rattle.scql_base.specs.declared.operation.Operation.TheVariants as asks
 use Rattle.scql_base.specs.declared.operation.OperationKind.{OperationKind}
-use Rattle.scql_base.specs.declared.operation.OperationKind.TheVariants.{CreateTable, CreateView, CreateDictionary, DropTable, DropView, Grant, Revoke, Insert, Update, Delete, CreateUser, DeleteUser}
+use Rattle.scql_base.specs.declared.operation.OperationKind.TheVariants.{Insert, Update, Delete}
 use Rattle.scql_base.specs.declared.records.User.{User}
+use Rattle.scql_base.specs.declared.words.Actor.{Actor}
 use Rattle.scql_base.specs.declared.words.StatusWord.{StatusWord}
 use Rattle.scql_base.specs.Words.{done}
 use Rattle.scql_model.specs.Bound.{or_nothing}
+use Rattle.scql_model.specs.Creating.{IsActorOf}
 use Rattle.scql_model.specs.Database.{Database, user_named}
 use Rattle.scql_model.specs.Edits.{Edit, octets_for, with_edits}
-use Rattle.scql_model.specs.Operations.{kind_of}
 use Rattle.scql_model.specs.Refusals.{◌>>=◌}
+use Rattle.scql_model.specs.WellFormed.{FitsCard, HasForm}
 use Rattle.record_table.specs.Making.{IsHeld, Makes}
 use Rattle.record_table.specs.AtRest.{IsAtRest, LeavesOneOf}
 
--- the operations that change the database; DELETE USER changes sessions besides
-abbrev pub is_changing : OperationKind → Bool
-is_changing CreateTable = true
-is_changing CreateView = true
-is_changing CreateDictionary = true
-is_changing DropTable = true
-is_changing DropView = true
-is_changing Grant = true
-is_changing Revoke = true
-is_changing Insert = true
-is_changing Update = true
-is_changing Delete = true
-is_changing CreateUser = true
-is_changing DeleteUser = true
-is_changing kind = false
-
--- those of them that change the row at a cursor
+-- the operations that change the row at a cursor
 abbrev pub goes_through_cursor : OperationKind → Bool
 goes_through_cursor Update = true
 goes_through_cursor Delete = true
 goes_through_cursor kind = false
 
--- those of them that change rows, and leave users, objects and grants as they are
+-- those that change rows, and leave users, objects and grants as they are
 abbrev pub changes_rows : OperationKind → Bool
 changes_rows Insert = true
 changes_rows Update = true
 changes_rows Delete = true
 changes_rows kind = false
 
--- one of the operations that change the database
-abbrev pub IsChange : Operation → Type 0
-IsChange operation = is_changing (kind_of operation) ≡ true
+-- what an operation may ask of a database that it changes
+pub record MayChange (db : Database) (actor : Actor) (operation : Operation) : Type 0 where
+  -- it acts for PUBLIC, or for a user with the user's profile
+  pub acts : IsActorOf db actor
+  pub form : HasForm operation
+  pub fits : FitsCard db.limit operation
 
 -- the new database of a change with these edits, or the first refusal that applies
 abbrev pub new_of : Database → Result (List Edit) StatusWord → Result Database StatusWord
@@ -96,6 +87,11 @@ ConcludesWithin db edited word before after old new =
 -- the stamp that the user of a name has
 abbrev pub stamp_named : Database → List ℕ → Option ℕ
 stamp_named db name = option_map (λ (u : User). u.stamp) (user_named db.users name)
+
+-- What is told of who goes: where DELETE USER is done, the stamp of the user; and where an operation is stopped, nothing.
+pub record TellsGone {S : Type 0} (store : Held) (chip : Chip) (operation : Operation) (result : Result (Unit {0}) S) (before after : Option ℕ) : Type 0 where
+  pub gone : (db : Database) (name : List ℕ) → IsHeld store Working chip db → operation ≡ asks.DeleteUser name → OnOk result (after ≡ stamp_named db name)
+  pub none : OnErr result (after ≡ before)
 
 -- whose stamp is told once DELETE USER of a name was answered with a word: the user's, if it is done
 abbrev pub gone_after : Database → List ℕ → StatusWord → Option ℕ → Option ℕ

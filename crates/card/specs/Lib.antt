@@ -17,6 +17,7 @@ pub mod Pool
 pub mod Proved
 pub mod ReadCosts
 pub mod Reading
+pub mod Replied
 pub mod Sessions
 pub mod Showing
 pub mod SlotCard

@@ -1,6 +1,6 @@
 // A card, which answers commands over the EEPROM that it was opened on.
-ghost use Rattle.std.specs.Prelude.{◌≡◌, ◌⊎◌, ◌↔◌, ℕ, ◌<◌, ◌≤◌, [], ◌∷◌, None, false, drop, option_map, IfSome, IfOk, OnOk, IsErrOf};
-ghost use Rattle.eeprom.specs.Chip.{Chip, Becomes, Keeps, RisesAtMost};
+ghost use Rattle.std.specs.Prelude.{◌≡◌, ◌↔◌, ℕ, ◌<◌, ◌≤◌, [], ◌∷◌, None, false, drop, option_map, IfSome, IfOk, OnOk, IsErrOf};
+ghost use Rattle.eeprom.specs.Chip.{Chip, Becomes, Keeps};
 ghost use Rattle.eeprom.specs.Fault.{Counts, Rose};
 ghost use Rattle.eeprom.specs.StoreOf.{fewest_cells, image_size, is_gate_open, most_cells};
 ghost use Rattle.cell_store.specs.Reading.{ReadsAtMost};
@@ -10,22 +10,17 @@ ghost use Rattle.record_store.specs.Recovery.{Recovers};
 ghost use Rattle.scql_model.specs.Machine as machine;
 ghost use Rattle.scql_model.specs.Step as stepping;
 ghost use Rattle.scql_model.specs.Opens.{Opens};
-ghost use Rattle.scql_base.specs.Words.{end_reached, memory_failure, tries_left};
+ghost use Rattle.scql_base.specs.Words.{memory_failure};
 ghost use Rattle.scql_model.specs.Database as database;
 ghost use Rattle.scql_model.specs.Database.{Database, fresh};
 ghost use Rattle.eeprom.specs.Image.{overwrite};
 ghost use Rattle.card.specs.Behind.{KeepsBehind, own_cells};
 ghost use Rattle.card.specs.Card.{Kept, IsReady, IsAt, fresh_card};
 ghost use Rattle.record_table.specs.AtRest.{LeavesOneOf};
-ghost use Rattle.card.specs.Answering.{Answers, IsAtAsBefore, LeavesEach};
 ghost use Rattle.card.specs.Counting.{counts_of};
 ghost use Rattle.card.specs.Making.{LeavesMade};
 ghost use Rattle.card.specs.Opening.{ReadsCard};
-ghost use Rattle.card.specs.ReadCosts.{ReadsAnswered, ReadsBound};
-ghost use Rattle.card.specs.Showing.{ReadsShown};
-ghost use Rattle.scql_model.specs.Bound.{octets_bound};
-ghost use Rattle.scql_model.specs.Accepting as accepting;
-ghost use Rattle.scql_model.specs.Accepting.{Accepts, CostsTry, EndsCursor};
+ghost use Rattle.card.specs.Replied.{RepliedTo};
 
 use crate::engine::Engine;
 use crate::opening::open_records;
@@ -109,8 +104,8 @@ impl Card {
     /// Answers a command, and leaves card and EEPROM at the next machine.
     pub fn answer<B: Eeprom>(&mut self, bench: &mut B, command: &[u8], reply: &mut Reply) -> Outcome
         requires ready { IsReady self.old (B.chip bench.old) }
-        ensures step { (m : machine.Machine) → IsAt self.old (B.chip bench.old) m → result ≡ Outcome.Replied
-            → Answers (stepping.step m command.now) reply.new self.new (B.chip bench.new) }
+        ensures replied { (m : machine.Machine) → IsAt self.old (B.chip bench.old) m → result ≡ Outcome.Replied
+            → RepliedTo m command.now reply.new self.new (B.chip bench.old) (B.chip bench.new) (B.octets_read bench.old) (B.octets_read bench.new) }
         ensures ready { result ≡ Outcome.Replied → IsReady self.new (B.chip bench.new) }
         ensures quiet { result ≡ Outcome.Replied → B.faults bench.new ≡ B.faults bench.old }
         // A mute card says so, and answers no more.
@@ -121,34 +116,6 @@ impl Card {
         // A power loss leaves the database as it was, or one that the step commits.
         ensures moments { (m : machine.Machine) → IsAt self.old (B.chip bench.old) m
             → LeavesOneOf (m.committed ∷ (stepping.step m command.now).commits) (B.chip bench.old) (B.chip bench.new) }
-        // Each database that the step commits a power loss may leave at some moment: so also where a secret was right there was one with a try less.
-        ensures in_turn { (m : machine.Machine) → IsAt self.old (B.chip bench.old) m → result ≡ Outcome.Replied
-            → LeavesEach (stepping.step m command.now).commits (B.chip bench.old) (B.chip bench.new) }
-        // What may write no octets, as a command that reads, writes nothing.
-        ensures unwritten { (m : machine.Machine) → IsAt self.old (B.chip bench.old) m → result ≡ Outcome.Replied
-            → octets_bound m command.now ≡ 0 → B.chip bench.new ≡ B.chip bench.old }
-        // A word that doesn't accept the command says that nothing was written and all is as it was, but that its channel may have lost the
-        // parts of a command.
-        ensures refused { (m : machine.Machine) → IsAt self.old (B.chip bench.old) m → result ≡ Outcome.Replied
-            → Accepts reply.new.word ⊎ ((B.chip bench.new ≡ B.chip bench.old) × IsAtAsBefore self.new (B.chip bench.new) m (accepting.channel_named command.now)) }
-        // 6282 says that a cursor came to its end, and nothing else changes.
-        ensures at_its_end { (m : machine.Machine) → IsAt self.old (B.chip bench.old) m → result ≡ Outcome.Replied → reply.new.word ≡ end_reached
-            → EndsCursor m (accepting.channel_named command.now) (stepping.step m command.now) }
-        // 63CX says that a secret was wrong, which costs a try, and nothing else changes.
-        ensures costs_a_try { (m : machine.Machine) (left : ℕ) → IsAt self.old (B.chip bench.old) m → result ≡ Outcome.Replied → reply.new.word ≡ tries_left left
-            → CostsTry m (accepting.channel_named command.now) (stepping.step m command.now) }
-        // No more octets are written than the step's bound.
-        ensures octets_written { (m : machine.Machine) → IsAt self.old (B.chip bench.old) m → result ≡ Outcome.Replied
-            → Becomes (RisesAtMost (octets_bound m command.now)) (B.chip bench.old).written (B.chip bench.new).written }
-        // A reading command is answered from what is shown to its channel.
-        ensures shown { (m : machine.Machine) → IsAt self.old (B.chip bench.old) m → result ≡ Outcome.Replied
-            → ReadsShown m command.now reply.new self.new (B.chip bench.new) }
-        // No more octets are read for a reading command than its bound, where its cursor is on a table or a view,
-        ensures octets_read { (m : machine.Machine) → IsAt self.old (B.chip bench.old) m → result ≡ Outcome.Replied
-            → ReadsBound m command.now (B.octets_read bench.old) (B.octets_read bench.new) }
-        // and no fewer than the row has that it answers: no row is answered out of memory.
-        ensures least { (m : machine.Machine) → IsAt self.old (B.chip bench.old) m → result ≡ Outcome.Replied
-            → ReadsAnswered m command.now (B.octets_read bench.old) (B.octets_read bench.new) }
         // It keeps its number of cells, and nothing is written behind the image, at no moment.
         ensures cells { result ≡ Outcome.Replied → self.new.store.chains.cells ≡ self.old.store.chains.cells }
         ensures behind { Keeps (drop (image_size self.old.store.chains.cells)) (B.chip bench.old) (B.chip bench.new) }

@@ -18,14 +18,15 @@ ghost use Rattle.cursor.specs.Costs.{RisesBetween};
 ghost use Rattle.record_table.specs.Listed.{slots_of};
 ghost use Rattle.record_table.specs.Making.{IsHeld, Ends, GoesOn, is_stop_fault};
 ghost use Rattle.row_index.specs.Index.{Indexes, is_above};
-ghost use Rattle.row_table.specs.Tables.{Stand};
+ghost use Rattle.row_table.specs.Tables.{Ended, EndedBy, Stand};
+ghost use Rattle.db_write.specs.Reached.{IsThrough};
 ghost use Rattle.record_table.specs.AtRest.{IsAtRest};
 ghost use Rattle.card.specs.Card.{HoldsSome};
 ghost use Rattle.card.specs.Acting.{acting};
 ghost use Rattle.db_read.specs.Scan.{IsRightFor};
 ghost use Rattle.db_read.specs.Searched.{user_cells};
 ghost use Rattle.card.specs.Changing as specs;
-ghost use Rattle.card.specs.Changing.{IsChange, Changes, ConcludesWithin, KeepsCatalog, goes_through_cursor, gone_after, stamp_named};
+ghost use Rattle.card.specs.Changing.{Changes, ConcludesWithin, KeepsCatalog, MayChange, TellsGone, goes_through_cursor, gone_after};
 
 use db_access::{create_user, delete_user, grant, revoke};
 use db_define::{create_dictionary, create_table, create_view, drop_table, drop_view};
@@ -33,7 +34,7 @@ use db_read::Scan;
 use db_write::{delete, insert, update};
 use eeprom::{Eeprom, EepromFault};
 use record_store::{Side, Store};
-use record_table::{Stop, find_stamp};
+use record_table::{Stop, find_stamp, refused};
 use row_table::Tables;
 use scql_base::{Actor, Cursor, Operation, StatusWord, User};
 
@@ -65,7 +66,6 @@ pub(crate) fn change<B: Eeprom>(
     requires holds { HoldsSome tables.old.store Committed (B.chip bench.old) }
     requires known { (db : Database) → IsHeld tables.old.store Committed (B.chip bench.old) db → IfSome known (λ actor. actor ≡ acting db user) }
     requires right { (db : Database) → IsHeld tables.old.store Committed (B.chip bench.old) db → IsRightFor db (acting db user) scan.old cursor.now }
-    requires changes { IsChange operation.now }
     requires formed { HasForm operation.now }
     requires fits { FitsCard tables.old.store.row_limit operation.now }
     ensures changes { (db : Database) → IsAtRest tables.old.store (B.chip bench.old) db → IfSome cursor.now (IsCursorOf db)
@@ -111,7 +111,6 @@ pub(crate) fn change_within<B: Eeprom>(
     requires last { (db : Database) → IsHeld tables.old.store Working (B.chip bench.old) db → is_above db.next tables.old.index.committed ≡ true }
     requires known { (db : Database) → IsHeld tables.old.store Working (B.chip bench.old) db → IfSome known (λ actor. actor ≡ acting db user) }
     requires right { (db : Database) → IsHeld tables.old.store Working (B.chip bench.old) db → IsRightFor db (acting db user) scan.old cursor.now }
-    requires changes { IsChange operation.now }
     requires formed { HasForm operation.now }
     requires fits { FitsCard tables.old.store.row_limit operation.now }
     ensures changes { (db : Database) → IsHeld tables.old.store Working (B.chip bench.old) db → IfSome cursor.now (IsCursorOf db)
@@ -150,51 +149,19 @@ fn make<B: Eeprom>(
     requires stand { Stand tables.old (B.chip bench.old) }
     requires last { (db : Database) → IsHeld tables.old.store Working (B.chip bench.old) db → is_above db.next tables.old.index.committed ≡ true }
     requires right { (db : Database) → IsHeld tables.old.store Working (B.chip bench.old) db → IsRightFor db actor scan.old cursor.now }
-    requires changes { IsChange operation.now }
     requires fits { FitsCard tables.old.store.row_limit operation.now }
-    ensures ends { (db : Database) → IsHeld tables.old.store Working (B.chip bench.old) db → IfSome cursor.now (IsCursorOf db) → IsActorOf db actor → HasForm operation.now → FitsCard db.limit operation.now
-        → Ends db (edits_of db actor cursor.now operation.now) result tables.old.store tables.new.store (B.chip bench.old) (B.chip bench.new) }
-    // Whatever the cursor is, it ends as through some cursor.
-    ensures through { (db : Database) → IsHeld tables.old.store Working (B.chip bench.old) db → IsActorOf db actor → HasForm operation.now → FitsCard db.limit operation.now
-        → (through : Option model.Cursor) × Ends db (edits_of db actor through operation.now) result tables.old.store tables.new.store (B.chip bench.old) (B.chip bench.new) }
-    ensures goes_on { ¬ IsErrOf result Stop.Fault → GoesOn tables.old.store tables.new.store (B.chip bench.old) (B.chip bench.new) }
-    ensures index { (db : Database) → IsHeld tables.old.store Working (B.chip bench.old) db → IsActorOf db actor → HasForm operation.now → FitsCard db.limit operation.now
-        → ¬ IsErrOf result Stop.Fault → Indexes tables.new.index tables.new.store (B.chip bench.new) }
-    ensures index_cells { tables.new.index.cells ≡ tables.old.index.cells }
-    ensures index_committed { tables.new.index.committed ≡ tables.old.index.committed }
-    ensures index_begun { IsTrue tables.new.index.begun }
+    ensures ended { EndedBy B.chip B.faults (λ db. MayChange db actor operation.now) (λ db. IsThrough db (λ cursor. edits_of db actor cursor operation.now) cursor.now) bench.old bench.new tables.old tables.new result }
     ensures scan_same { scan.new ≡ scan.old }
-    ensures gone { (db : Database) (name : List ℕ) → IsHeld tables.old.store Working (B.chip bench.old) db → operation.now ≡ asks.DeleteUser name → OnOk result (gone.new ≡ stamp_named db name) }
-    ensures none_gone { OnErr result (gone.new ≡ gone.old) }
-    ensures moments { Keeps store_of (B.chip bench.old) (B.chip bench.new) }
-    ensures behind { Keeps (drop (image_size tables.old.store.chains.cells)) (B.chip bench.old) (B.chip bench.new) }
-    ensures cause { CountsFaults is_stop_fault (B.faults bench.old) (B.faults bench.new) result }
+    ensures gone { TellsGone tables.old.store (B.chip bench.old) operation.now result gone.old gone.new }
 {
     match operation {
-        Operation::Update { changes } => {
-            update(
-                &mut tables.store,
-                bench,
-                actor,
-                cursor,
-                changes,
-                &mut tables.index,
-                scan,
-            )
-        }
-        Operation::Delete => delete(
-            &mut tables.store,
-            bench,
-            actor,
-            cursor,
-            &mut tables.index,
-            scan,
-        ),
+        Operation::Update { changes } => update(tables, bench, actor, cursor, changes, scan),
+        Operation::Delete => delete(tables, bench, actor, cursor, scan),
         operation => make_without_cursor(tables, bench, actor, operation, gone),
     }
 }
 
-// Makes a change that goes through no cursor. The stamp of a user who is deleted is told.
+// Makes a change that goes through no cursor, so that it ends alike whichever it is. The stamp of a user who is deleted is told.
 fn make_without_cursor<B: Eeprom>(
     tables: &mut Tables,
     bench: &mut B,
@@ -205,33 +172,14 @@ fn make_without_cursor<B: Eeprom>(
     requires begun { IsTrue tables.old.store.begun }
     requires stand { Stand tables.old (B.chip bench.old) }
     requires last { (db : Database) → IsHeld tables.old.store Working (B.chip bench.old) db → is_above db.next tables.old.index.committed ≡ true }
-    requires changes { IsChange operation.now }
     requires no_cursor { goes_through_cursor (kind_of operation.now) ≡ false }
     requires fits { FitsCard tables.old.store.row_limit operation.now }
-    ensures ends { (db : Database) (cursor : Option model.Cursor) → IsHeld tables.old.store Working (B.chip bench.old) db → IsActorOf db actor → HasForm operation.now → FitsCard db.limit operation.now
-        → Ends db (edits_of db actor cursor operation.now) result tables.old.store tables.new.store (B.chip bench.old) (B.chip bench.new) }
-    ensures goes_on { ¬ IsErrOf result Stop.Fault → GoesOn tables.old.store tables.new.store (B.chip bench.old) (B.chip bench.new) }
-    ensures index { (db : Database) → IsHeld tables.old.store Working (B.chip bench.old) db → IsActorOf db actor → HasForm operation.now → FitsCard db.limit operation.now
-        → ¬ IsErrOf result Stop.Fault → Indexes tables.new.index tables.new.store (B.chip bench.new) }
-    ensures index_cells { tables.new.index.cells ≡ tables.old.index.cells }
-    ensures index_committed { tables.new.index.committed ≡ tables.old.index.committed }
-    ensures index_begun { IsTrue tables.new.index.begun }
-    ensures gone { (db : Database) (name : List ℕ) → IsHeld tables.old.store Working (B.chip bench.old) db → operation.now ≡ asks.DeleteUser name → OnOk result (gone.new ≡ stamp_named db name) }
-    ensures none_gone { OnErr result (gone.new ≡ gone.old) }
-    ensures moments { Keeps store_of (B.chip bench.old) (B.chip bench.new) }
-    ensures behind { Keeps (drop (image_size tables.old.store.chains.cells)) (B.chip bench.old) (B.chip bench.new) }
-    ensures cause { CountsFaults is_stop_fault (B.faults bench.old) (B.faults bench.new) result }
+    ensures ended { (cursor : Option model.Cursor) → Ended B.chip B.faults (λ db. MayChange db actor operation.now) (λ db. edits_of db actor cursor operation.now) bench.old bench.new tables.old tables.new result }
+    ensures gone { TellsGone tables.old.store (B.chip bench.old) operation.now result gone.old gone.new }
 {
     match operation {
         Operation::CreateTable { name, columns } => {
-            create_table(
-                &mut tables.store,
-                bench,
-                actor,
-                name.copy(),
-                columns,
-                &mut tables.index,
-            )
+            create_table(tables, bench, actor, name.copy(), columns)
         }
         Operation::CreateView {
             name,
@@ -239,39 +187,19 @@ fn make_without_cursor<B: Eeprom>(
             columns,
             conditions,
         } => create_view(
-            &mut tables.store,
+            tables,
             bench,
             actor,
             name.copy(),
             base.copy(),
             columns,
             conditions,
-            &mut tables.index,
         ),
         Operation::CreateDictionary { name, subject } => {
-            create_dictionary(
-                &mut tables.store,
-                bench,
-                actor,
-                name.copy(),
-                *subject,
-                &mut tables.index,
-            )
+            create_dictionary(tables, bench, actor, name.copy(), *subject)
         }
-        Operation::DropTable { name } => drop_table(
-            &mut tables.store,
-            bench,
-            actor,
-            name.copy(),
-            &mut tables.index,
-        ),
-        Operation::DropView { name } => drop_view(
-            &mut tables.store,
-            bench,
-            actor,
-            name.copy(),
-            &mut tables.index,
-        ),
+        Operation::DropTable { name } => drop_table(tables, bench, actor, name.copy()),
+        Operation::DropView { name } => drop_view(tables, bench, actor, name.copy()),
         Operation::Grant {
             privileges,
             object,
@@ -306,7 +234,7 @@ fn make_without_cursor<B: Eeprom>(
             *gone = Some(delete_user(tables, bench, actor, name.copy())?);
             Ok(())
         }
-        _ => unreachable!(),
+        _ => refused(StatusWord::INSTRUCTION_NOT_SUPPORTED),
     }
 }
 

@@ -12,7 +12,7 @@ ghost use Rattle.scql_model.specs.Step as stepping;
 ghost use Rattle.scql_model.specs.Database.{Database};
 ghost use Rattle.card.specs.Card.{Kept, FindsAgain, IsReady, IsAt, StandsOver};
 ghost use Rattle.card.specs.Answering.{HoldsAnswer, LeavesFirstOfTwo, Performs, changing_session, settled, with_session, with_session_for};
-ghost use Rattle.card.specs.Changing.{IsChange, gone_after};
+ghost use Rattle.card.specs.Changing.{gone_after};
 ghost use Rattle.card.specs.Changing as changing;
 ghost use Rattle.card.specs.Counting.{counts_of};
 ghost use Rattle.card.specs.ReadCosts.{ReadsAsked, ReadsFor};
@@ -381,7 +381,6 @@ impl Engine {
         requires there { is_open self.old.sessions channel ≡ true }
         requires found { FindsAgain self.old (B.chip bench.old) }
         requires mine { keeps_waiting for_others self.old.transaction channel ≡ false }
-        requires changes { IsChange operation.now }
         requires formed { HasForm operation.now }
         requires fits { FitsCard self.old.store.row_limit operation.now }
         ensures performs { (m : machine.Machine) → IsAt self.old (B.chip bench.old) m

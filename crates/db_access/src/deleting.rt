@@ -27,7 +27,7 @@ use row_table::Tables;
 use scql_base::{Actor, Grant, Name, Object, Profile, StatusWord, User};
 use user_table::find_name;
 
-/// Deletes a user whom the actor owns and whom nothing needs, on the working side, and the grants to it. AnswersNamed the stamp that it had.
+/// Deletes a user whom the actor owns and whom nothing needs, on the working side, and the grants to it. Answers the stamp that it had.
 pub fn delete_user<B: Eeprom>(
     tables: &mut Tables,
     bench: &mut B,

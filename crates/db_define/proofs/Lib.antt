@@ -1,9 +1,6 @@
-pub mod IndexKept
 pub mod Layers
 pub mod ObjectDropped
 pub mod ObjectLeft
 pub mod ObjectMade
-pub mod RemovedRows
-pub mod RowsLeft
 pub mod TableLeft
 pub mod ViewMade

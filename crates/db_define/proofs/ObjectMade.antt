@@ -1,5 +1,5 @@
 -- An object is made: which it is, or the first refusal.
-use Rattle.std.proofs.Common.{◌≡◌, ℕ, true, false, List, [], ◌∷◌, length, None, Ok, Err, refl, arith}
+use Rattle.std.proofs.Common.{◌≡◌, ℕ, true, false, List, [], ◌∷◌, length, None, Result, Ok, Err, refl, sym, ap, subst, ◌∙◌, arith}
 use Rattle.std.specs.List.{flat_map, list_any}
 use Rattle.std.proofs.lemmas.List.{length-append}
 use Rattle.scql_base.specs.Lists.{AreNames}
@@ -12,6 +12,7 @@ use Rattle.scql_base.specs.declared.records.Object.{Object}
 use Rattle.scql_base.specs.declared.records.ObjectKind.{ObjectKind}
 use Rattle.scql_base.specs.declared.records.ObjectKind.TheVariants.{Table, Dictionary}
 use Rattle.scql_base.specs.declared.words.Actor.{Actor}
+use Rattle.scql_base.specs.declared.words.StatusWord.{StatusWord}
 use Rattle.scql_base.specs.declared.words.Subject.{Subject}
 use Rattle.scql_model.specs.Changing.{edits_of}
 use Rattle.scql_model.specs.Creating.{IsActorOf}
@@ -59,6 +60,15 @@ creates-not db actor name kind may = rw may refl
 pub creates : (db : Database) (actor : Actor) (name : List ℕ) (kind : ObjectKind) → makes_objects actor ≡ true → named_anew db (new_object db actor name kind) ≡ object_created db actor name kind
 unfolding object_created
 creates db actor name kind may = rw may refl
+
+-- the object that is made is the one that was asked for, and the database with it is valid
+pub of-anew : (db : Database) (outcome : Result (List Edit) StatusWord) (asked made : Object) → named_anew db asked ≡ outcome → list_any (has_name asked.name) db.objects ≡ false → asked.stamp ≡ db.next → made ≡ asked
+    → ((edits : List Edit) → outcome ≡ Ok edits → IsValidWith db edits) → ((made.stamp ≡ db.next) × IsValidWith db (making db (of_object made))) × (outcome ≡ Ok (making db (of_object made)))
+of-anew db outcome asked made is free next same valid =
+    let edits = sym is ∙ names db asked free in (
+      (ap (λ (o : Object). o.stamp) same ∙ next, subst (λ (o : Object). IsValidWith db (making db (of_object o))) (sym same) (valid (making db (of_object asked)) edits)),
+      edits ∙ ap (λ (o : Object). Ok (making db (of_object o))) (sym same),
+    )
 
 -- the database with an operation's edits is valid, where there is room
 pub valid-edits : (db : Database) (actor : Actor) (operation : Operation) (edits : List Edit) → IsValid db → IsActorOf db actor → HasForm operation → FitsCard db.limit operation

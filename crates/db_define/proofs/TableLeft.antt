@@ -1,5 +1,5 @@
 -- What is left where a table is dropped, with the grants on it and its rows.
-use Rattle.std.proofs.Common.{◌≡◌, ℕ, ◌+◌, ◌≤◌, false, not, ◌==◌, ◌||◌, List, ◌++◌, length, count_by, get_or, None, Some, Ok, sym, ap, subst, ◌∙◌, arith}
+use Rattle.std.proofs.Common.{◌≡◌, ℕ, ◌+◌, ◌≤◌, false, not, ◌==◌, ◌||◌, List, ◌++◌, length, count_by, get_or, None, Some, sym, ap, subst, ◌∙◌, arith}
 use Rattle.std.specs.Prelude.{IfSome}
 use Rattle.std.specs.List.{filter, sum_by}
 use Rattle.std.proofs.lemmas.List.{length-append, length-map}
@@ -23,7 +23,11 @@ use Rattle.catalog_codec.specs.Catalog.{object_kind, grant_kind, row_kind}
 use Rattle.record_table.specs.EditableLaws.{IsEditable-row}
 use Rattle.record_table.specs.Listed.{at_slot, slots_of}
 use Rattle.record_table.specs.Making.{IsHeld, Makes}
-use Rattle.db_define.specs.Dependent.{is_in, is_on}
+use Rattle.row_table.specs.Found.{is_in}
+use Rattle.db_define.specs.Dependent.{is_on}
+use Rattle.db_define.specs.Dropped.{IsToDrop}
+use Rattle.db_define.specs.declared.dropped.Dropped.TheVariants.{Table}
+use Rattle.db_define.specs.declared.dropped.ToDrop.{ToDrop}
 use Rattle.record_table.specs.Swept.{all_without, has_passing}
 use Rattle.record_table.specs.Touching.{Touches}
 use Rattle.record_table.proofs.LeftRecords.{Holds-without_rows, count-passing}
@@ -73,27 +77,27 @@ module _ (db : Database) (o : Object) (slot : ℕ) (slots : Slots) (holds : Hold
       (Touches-all_removed row_kind of_row IsEditable-row (is_in o.stamp) db.next (slots_without_grants slot o.stamp slots) db.rows mid new (Holds-granted db o slot slots holds valid at).rows valid.rows.rises swept)
 
 -- A store from which a table was taken with the grants on it, and then its rows, has made the edits.
-pub Makes-table_dropped : (db : Database) (actor : Actor) (name : List ℕ) (o : Object) (slot : ℕ) (old mid new : Held) (chip : Chip) → IsHeld old Working chip db → table_dropped db actor name ≡ Ok (dropping_edits db o)
-    → IfSome (slots_of old Working chip) (λ slots. Some o ≡ at_slot object_kind slot slots)
-    → IfSome (slots_of old Working chip) (λ slots. slots_of mid Working chip ≡ Some (slots_without_grants slot o.stamp slots))
-    → IfSome (slots_of mid Working chip) (λ slots. slots_of new Working chip ≡ Some (all_without row_kind (is_in o.stamp) slots))
+pub Makes-table_dropped : (db : Database) (actor : Actor) (name : List ℕ) (found : ToDrop) (old mid new : Held) (chip : Chip) (held : IsHeld old Working chip db) (there : IsToDrop Table old chip actor name found held.slots)
+    → IfSome (slots_of old Working chip) (λ slots. slots_of mid Working chip ≡ Some (slots_without_grants found.slot found.stamp slots))
+    → IfSome (slots_of mid Working chip) (λ slots. slots_of new Working chip ≡ Some (all_without row_kind (is_in found.stamp) slots))
     → new.chains.cells ≡ old.chains.cells → new.row_limit ≡ old.row_limit → slots_of new Committed chip ≡ slots_of old Committed chip
-    → IfSome (slots_of old Working chip) (λ slots. entries mid ≤ entries old + 1 + count_by (has_passing grant_kind (is_on o.stamp)) (slots_without_object slot slots))
-    → IfSome (slots_of mid Working chip) (λ slots. entries new ≤ entries mid + count_by (has_passing row_kind (is_in o.stamp)) slots)
-    → IfSome (slots_of old Working chip) (λ slots. ChangesWhere (λ s. s == slot || has_passing grant_kind (is_on o.stamp) (get_or slots s None)) old mid)
-    → IfSome (slots_of mid Working chip) (λ slots. ChangesWhere (λ s. has_passing row_kind (is_in o.stamp) (get_or slots s None)) mid new)
-    → Makes db (dropping_edits db o) old new chip chip
-Makes-table_dropped db actor name o slot old mid new chip held is found one two cells limit committed few_1 few_2 only_1 only_2 =
+    → IfSome (slots_of old Working chip) (λ slots. entries mid ≤ entries old + 1 + count_by (has_passing grant_kind (is_on found.stamp)) (slots_without_object found.slot slots))
+    → IfSome (slots_of mid Working chip) (λ slots. entries new ≤ entries mid + count_by (has_passing row_kind (is_in found.stamp)) slots)
+    → IfSome (slots_of old Working chip) (λ slots. ChangesWhere (λ s. s == found.slot || has_passing grant_kind (is_on found.stamp) (get_or slots s None)) old mid)
+    → IfSome (slots_of mid Working chip) (λ slots. ChangesWhere (λ s. has_passing row_kind (is_in found.stamp) (get_or slots s None)) mid new)
+    → Makes db (dropping_edits db there.object) old new chip chip
+Makes-table_dropped db actor name found old mid new chip held there one two cells limit committed few_1 few_2 only_1 only_2 =
+    let o = there.object in
+    let slot = found.slot in
     let slots = held.slots in
-    let granted = slots_without_grants slot o.stamp slots in
-    let at = sym (of-told old chip slots (λ slots. Some o ≡ at_slot object_kind slot slots) held.told found) in
-    let told = of-told old chip slots (λ slots. slots_of mid Working chip ≡ Some (slots_without_grants slot o.stamp slots)) held.told one in
-    let grants = of-told old chip slots (λ slots. entries mid ≤ entries old + 1 + count_by (has_passing grant_kind (is_on o.stamp)) (slots_without_object slot slots)) held.told few_1 in
-    let rows = of-told mid chip granted (λ slots. entries new ≤ entries mid + count_by (has_passing row_kind (is_in o.stamp)) slots) told few_2 in
-    let of_grants = of-told old chip slots (λ slots. ChangesWhere (λ s. s == slot || has_passing grant_kind (is_on o.stamp) (get_or slots s None)) old mid) held.told only_1 in
-    let of_rows = of-told mid chip granted (λ slots. ChangesWhere (λ s. has_passing row_kind (is_in o.stamp) (get_or slots s None)) mid new) told only_2 in
-    Makes-left db (dropping_edits db o) (table_dropped db actor name) (slots_left slot o.stamp slots) old new chip held (table_dropped-keeps db actor name held.valid) is
-    (Holds-left db o slot slots held.holds held.valid at) (takes_none db o) (less-left db o slot slots held.holds held.valid at)
-    (of-told mid chip granted (λ slots. slots_of new Working chip ≡ Some (all_without row_kind (is_in o.stamp) slots)) told two) cells limit committed
-    (omega (arith, grants, rows, count-grants db o slot slots held.holds held.valid at, count-rows db o slot slots held.holds held.valid at, count-touched db o))
-    (Touches-left db o slot slots held.holds held.valid at old mid new of_grants of_rows)
+    let granted = slots_without_grants slot found.stamp slots in
+    let told_1 = of-told old chip slots (λ slots. slots_of mid Working chip ≡ Some (slots_without_grants slot found.stamp slots)) held.told one in
+    let told_2 = of-told mid chip granted (λ slots. slots_of new Working chip ≡ Some (all_without row_kind (is_in found.stamp) slots)) told_1 two in
+    let grants = of-told old chip slots (λ slots. entries mid ≤ entries old + 1 + count_by (has_passing grant_kind (is_on found.stamp)) (slots_without_object slot slots)) held.told few_1 in
+    let rows = of-told mid chip granted (λ slots. entries new ≤ entries mid + count_by (has_passing row_kind (is_in found.stamp)) slots) told_1 few_2 in
+    let of_grants = of-told old chip slots (λ slots. ChangesWhere (λ s. s == slot || has_passing grant_kind (is_on found.stamp) (get_or slots s None)) old mid) held.told only_1 in
+    let of_rows = of-told mid chip granted (λ slots. ChangesWhere (λ s. has_passing row_kind (is_in found.stamp) (get_or slots s None)) mid new) told_1 only_2 in
+    Makes-left db (dropping_edits db o) (table_dropped db actor name) (slots_left slot o.stamp slots) old new chip held (table_dropped-keeps db actor name held.valid) (there.drops db held)
+    (Holds-left db o slot slots held.holds held.valid there.at) (takes_none db o) (less-left db o slot slots held.holds held.valid there.at) (rw there.stamp told_2) cells limit committed
+    (omega (arith, rw (sym there.stamp) at grants, rw (sym there.stamp) at rows, count-grants db o slot slots held.holds held.valid there.at, count-rows db o slot slots held.holds held.valid there.at, count-touched db o))
+    (Touches-left db o slot slots held.holds held.valid there.at old mid new (rw there.stamp of_grants) (rw there.stamp of_rows))

@@ -1,9 +1,8 @@
--- The records that depend on an object: views, grants and rows.
+-- The records that depend on an object: views and grants.
 use Rattle.std.specs.Prelude.{ℕ, ◌==◌, Bool, false}
 use Rattle.scql_base.specs.declared.records.Grant.{Grant}
 use Rattle.scql_base.specs.declared.records.ObjectKind.{ObjectKind}
 use Rattle.scql_base.specs.declared.records.ObjectKind.TheVariants.{View}
-use Rattle.scql_base.specs.declared.records.RowRecord.{RowRecord}
 
 -- a view rests on the object of a stamp
 abbrev pub is_view_on : ℕ → ObjectKind → Bool
@@ -13,7 +12,3 @@ is_view_on stamp kind = false
 -- a grant is on the object of a stamp
 abbrev pub is_on : ℕ → Grant → Bool
 is_on stamp g = g.object == stamp
-
--- a row is in the table of a stamp
-abbrev pub is_in : ℕ → RowRecord → Bool
-is_in stamp r = r.table == stamp

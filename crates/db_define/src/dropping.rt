@@ -1,5 +1,5 @@
 // What the operations have in common that drop objects.
-ghost use Rattle.std.specs.Prelude.{◌≡◌, ◌<◌, ◌≤◌, ◌+◌, ◌==◌, ◌||◌, Some, None, Ok, Err, IsTrue, IfOk, IfErr, IfSome, IsSome, OnOk, count_by, slice_index_or, slice_set};
+ghost use Rattle.std.specs.Prelude.{◌≡◌, ◌<◌, ◌≤◌, ◌+◌, ◌==◌, ◌||◌, Some, None, Err, IsTrue, IfOk, IfErr, IfSome, OnOk, count_by, slice_index_or, slice_set};
 ghost use Rattle.std.specs.List.{list_any};
 ghost use Rattle.eeprom.specs.Fault.{each_error};
 ghost use Rattle.eeprom.specs.Frame.{Reads};
@@ -8,43 +8,43 @@ ghost use Rattle.record_store.specs.Transaction.{ChangesWhere, entries};
 ghost use Rattle.record_store.specs.declared.side.Side.TheVariants.{Committed, Working};
 ghost use Rattle.scql_model.specs.Database.{Database};
 ghost use Rattle.scql_base.specs.declared.records.Object.{Object};
-ghost use Rattle.catalog_codec.specs.Catalog.{grant_kind, object_kind};
-ghost use Rattle.record_table.specs.Listed.{at_slot, slots_of};
+ghost use Rattle.catalog_codec.specs.Catalog.{grant_kind};
+ghost use Rattle.record_table.specs.Listed.{slots_of};
 ghost use Rattle.record_table.specs.Making.{Ends, IsHeld, is_stop_fault};
 ghost use Rattle.db_define.specs.Dependent.{is_on, is_view_on};
 ghost use Rattle.db_define.specs.Dropped as specs;
-ghost use Rattle.db_define.specs.Dropped.{dropping};
+ghost use Rattle.db_define.specs.Dropped.{IsToDrop};
 ghost use Rattle.record_table.specs.Swept.{all_without, has_passing};
 
-use crate::dropped::Dropped;
+use crate::dropped::{Dropped, ToDrop};
 use eeprom::{Eeprom, EepromFault};
 use privilege_table::{find_seen_into, is_owned_by};
 use record_store::{Side, Store, Tag};
 use record_table::{Stop, Wanted, find_into, refused, remove, remove_each};
 use scql_base::{Actor, Grant, Name, Object, ObjectKind, StatusWord};
 
-/// Reads the object of a name that is dropped so into a place: one that the actor owns, and on which no view rests. Its slot is answered, or
-/// the first refusal.
+/// Finds the object of a name that is dropped so: one that the actor owns, and on which no view rests; or the first refusal. It isn't inlined,
+/// so that the object's place stands in no other frame.
+#[inline(never)]
 pub(crate) fn find_to_drop<B: Eeprom>(
     store: &Store,
     bench: &mut B,
     actor: Actor,
     name: Name,
     dropped: Dropped,
-    place: &mut Option<Object>,
-) -> Result<u16, Stop>
+) -> Result<ToDrop, Stop>
     requires over { IsOver store.now (B.chip bench.old) }
-    ensures there { IfOk result (λ slot. slot < store.now.chains.cells) }
-    ensures some { IfOk result (λ _. IsSome place.new) }
-    ensures at { IfOk result (λ slot. IfSome (slots_of store.now Working (B.chip bench.old)) (λ slots. place.new ≡ at_slot object_kind slot slots)) }
-    ensures found { (db : Database) → IsHeld store.now Working (B.chip bench.old) db
-        → IfOk result (λ _. IfSome place.new (λ object. specs.dropped dropped db actor name ≡ Ok (dropping dropped db object))) }
+    ensures there { IfOk result (λ found. found.slot < store.now.chains.cells) }
+    ensures found { IfOk result (λ found. IfSome (slots_of store.now Working (B.chip bench.old)) (IsToDrop dropped store.now (B.chip bench.old) actor name found)) }
     ensures refused { (db : Database) → IsHeld store.now Working (B.chip bench.old) db
         → IfErr result (λ stop. Ends {T = Unit {0}} db (specs.dropped dropped db actor name) (Err stop) store.now store.now (B.chip bench.old) (B.chip bench.new)) }
     ensures frame { Reads is_stop_fault B.chip B.faults bench.old bench.new result }
 {
-    let slot = find_seen_into(store, bench, Side::Working, actor, name, place)?;
-    let Some(object) = place else {
+    let mut place = None;
+    let Some(slot) = find_seen_into(store, bench, Side::Working, actor, name, &mut place)? else {
+        return refused(StatusWord::NOT_FOUND);
+    };
+    let Some(object) = &place else {
         return refused(StatusWord::NOT_FOUND);
     };
     if !drops(dropped, &object.kind) {
@@ -56,8 +56,10 @@ pub(crate) fn find_to_drop<B: Eeprom>(
     if is_viewed(store, bench, object.stamp)? {
         return refused(StatusWord::CONDITIONS_NOT_SATISFIED);
     }
-    let Some(slot) = slot else { unreachable!() };
-    Ok(slot)
+    Ok(ToDrop {
+        slot,
+        stamp: object.stamp,
+    })
 }
 
 /// Removes the object of a slot, which has this stamp, and the grants on it.

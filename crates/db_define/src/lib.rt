@@ -6,7 +6,6 @@ mod dictionary;
 mod dropped;
 mod dropping;
 mod making;
-mod rows;
 mod table;
 mod view;
 

@@ -1,6 +1,6 @@
 pub mod FoundThrough
+pub mod ReachedThrough
 pub mod RowAssigned
-pub mod RowChanged
 pub mod RowDeleted
 pub mod RowInserted
 pub mod RowReached

@@ -8,11 +8,10 @@ use Rattle.scql_base.specs.declared.operation.Operation.TheVariants.{Insert}
 use Rattle.scql_base.specs.declared.records.Object.{Object}
 use Rattle.scql_base.specs.declared.words.Actor.{Actor}
 use Rattle.scql_model.specs.Database.{Database, IsValid, is_table, weight}
-use Rattle.scql_model.specs.Edits.{Edit, applied, making, with_edits}
+use Rattle.scql_model.specs.Edits.{Edit, applied, making}
 use Rattle.scql_model.specs.Matching.{Values}
 use Rattle.scql_model.specs.Objects.{columns_of}
 use Rattle.scql_model.specs.Records.{of_row}
-use Rattle.scql_model.specs.Refusals.{◌>>=◌}
 use Rattle.scql_model.specs.Rights.{holds, insert_privilege, seen_named}
 use Rattle.scql_model.specs.WellFormed.{FitsCard, HasForm}
 use Rattle.scql_model.specs.Writing.{row_inserted}
@@ -26,22 +25,21 @@ use Rattle.record_table.specs.Making.{IsValidWith}
 pub short-row : (stamp table : ℕ) (values : Values) → IsRow values → FitsChain row_kind (record { stamp = stamp; table = table; row = values })
 short-row stamp table values row = omega (arith, row.size, row_size-spelled values)
 
-pub inserts-none : (db : Database) (actor : Actor) (name : List ℕ) (values : Values) → None ≡ seen_named db actor name → (row_inserted db actor name values >>= with_edits db) ≡ Err not_found
+pub inserts-none : (db : Database) (actor : Actor) (name : List ℕ) (values : Values) → None ≡ seen_named db actor name → row_inserted db actor name values ≡ Err not_found
 unfolding row_inserted
 inserts-none db actor name values seen = rw (sym seen) refl
 
-pub inserts-other : (db : Database) (actor : Actor) (name : List ℕ) (values : Values) (o : Object) → Some o ≡ seen_named db actor name → is_table o.kind ≡ false
-    → (row_inserted db actor name values >>= with_edits db) ≡ Err not_found
+pub inserts-other : (db : Database) (actor : Actor) (name : List ℕ) (values : Values) (o : Object) → Some o ≡ seen_named db actor name → is_table o.kind ≡ false → row_inserted db actor name values ≡ Err not_found
 unfolding row_inserted
 inserts-other db actor name values o seen other = rw (sym seen, other) refl
 
 pub inserts-foreign : (db : Database) (actor : Actor) (name : List ℕ) (values : Values) (o : Object) → Some o ≡ seen_named db actor name → is_table o.kind ≡ true → holds db actor o insert_privilege ≡ false
-    → (row_inserted db actor name values >>= with_edits db) ≡ Err security_not_satisfied
+    → row_inserted db actor name values ≡ Err security_not_satisfied
 unfolding row_inserted
 inserts-foreign db actor name values o seen table foreign = rw (sym seen, table, foreign) refl
 
 pub inserts-misfit : (db : Database) (actor : Actor) (name : List ℕ) (values : Values) (o : Object) → Some o ≡ seen_named db actor name → is_table o.kind ≡ true → holds db actor o insert_privilege ≡ true
-    → (length values ≡ length (columns_of o.kind) → ⊥) → (row_inserted db actor name values >>= with_edits db) ≡ Err wrong_data
+    → (length values ≡ length (columns_of o.kind) → ⊥) → row_inserted db actor name values ≡ Err wrong_data
 unfolding row_inserted
 inserts-misfit db actor name values o seen table may misfit = rw (sym seen, table, may, ne_eqb (length values) (length (columns_of o.kind)) misfit) refl
 

@@ -44,7 +44,8 @@ use Rattle.search_cond.specs.declared.placed.Placed.{Placed}
 use Rattle.views.specs.Resolved.{AreBound}
 use Rattle.scql_model.proofs.KnownNames.{IsKnown, IsKnown-resolved_of, among-within, names-valid}
 use Rattle.db_read.proofs.RowReads.{IsIndexed, indexed-told}
-use Rattle.db_write.specs.Reached.{RestsOn, is_reached, stamp_at, without_conditions}
+use Rattle.db_read.specs.declared.scan.Choice.{Choice}
+use Rattle.db_write.specs.Reached.{FindsRow, HasTable, RestsOn, is_reached, stamp_at, without_conditions}
 
 swap : (a b c : Bool) → (a && (b && c)) ≡ (c && (a && b))
 swap true true true = refl
@@ -126,7 +127,7 @@ conditions-known db c table columns filters valid of rests =
     subst (λ (all : Columns). AreKnown all c.conditions ≡ true) (sym rests.all) (among-within (map (λ (x : Condition). x.column) c.conditions) r.columns r.all known.within parts.1)
 
 -- The row that a cursor reaches.
-pub reaches : (db : Database) (c : Cursor) (table : ℕ) (columns : Columns) (filters : List (List Placed)) (bound : List Placed) (stamp : ℕ) → IsValid db → IsCursorOf db c → RestsOn db.objects c.object table columns filters → Binds bound columns c.conditions
+reaches : (db : Database) (c : Cursor) (table : ℕ) (columns : Columns) (filters : List (List Placed)) (bound : List Placed) (stamp : ℕ) → IsValid db → IsCursorOf db c → RestsOn db.objects c.object table columns filters → Binds bound columns c.conditions
     → stamp_at c.place ≡ Some stamp → option_filter (is_reached table filters bound) (find (has row_kind.key stamp) db.rows) ≡ record_at_cursor db c
 reaches db c table columns filters bound stamp valid of rests binds at =
     let r = rests.is in
@@ -156,25 +157,25 @@ indexed-no-row index store chip stamp o answers stands is =
     (finds-told index store chip Working (has place_stamp stamp) (has row_kind.key stamp) (λ slot row. refl) (λ (place : RowPlace). (place.table, place.slot)) (λ place. refl) o answers stands)
 
 -- the row of a stamp that the slots list is the database's
-pub row-held : (store : Held) (chip : Chip) (db : Database) (stamp : ℕ) (found : Option RowRecord) → IsHeld store Working chip db
+row-held : (store : Held) (chip : Chip) (db : Database) (stamp : ℕ) (found : Option RowRecord) → IsHeld store Working chip db
     → IfSome (slots_of store Working chip) (λ slots. found ≡ find (has row_kind.key stamp) (listed row_kind slots)) → found ≡ find (has row_kind.key stamp) db.rows
 row-held store chip db stamp found held said =
     let here : found ≡ find (has row_kind.key stamp) (listed row_kind held.slots) = subst (λ (o : Option Slots). IfSome o (λ slots. found ≡ find (has row_kind.key stamp) (listed row_kind slots))) held.told said in
     here ∙ ap (find (has row_kind.key stamp)) held.holds.rows
 
 -- so what is found of a stamp, where it is reached, is the row that a cursor reaches
-pub reaches-held : (store : Held) (chip : Chip) (db : Database) (c : Cursor) (table : ℕ) (columns : Columns) (filters : List (List Placed)) (bound : List Placed) (stamp : ℕ) (found : Option RowRecord) → IsHeld store Working chip db → IsCursorOf db c
+reaches-held : (store : Held) (chip : Chip) (db : Database) (c : Cursor) (table : ℕ) (columns : Columns) (filters : List (List Placed)) (bound : List Placed) (stamp : ℕ) (found : Option RowRecord) → IsHeld store Working chip db → IsCursorOf db c
     → RestsOn db.objects c.object table columns filters → Binds bound columns c.conditions → stamp_at c.place ≡ Some stamp → IfSome (slots_of store Working chip) (λ slots. found ≡ find (has row_kind.key stamp) (listed row_kind slots))
     → option_filter (is_reached table filters bound) found ≡ record_at_cursor db c
 reaches-held store chip db c table columns filters bound stamp found held of rests binds at said =
     ap (option_filter (is_reached table filters bound)) (row-held store chip db stamp found held said) ∙ reaches db c table columns filters bound stamp held.valid of rests binds at
 
 -- what is found is left where it passes
-pub left-none : {X : Type 0} (p : X → Bool) (o : Option X) (x : X) → Some x ≡ o → p x ≡ false → None ≡ option_filter p o
-left-none p None x is fails = absurd (none-some x (sym is))
-left-none p (Some y) x is fails = let same : x ≡ y = same_Some x y is in let f = subst (λ z. p z ≡ false) same fails in rw f refl
+left-none : {X : Type 0} (p : X → Bool) (o : Option X) → IfSome o (λ x. p x ≡ false) → None ≡ option_filter p o
+left-none p None fails = refl
+left-none p (Some x) fails = rw fails refl
 
-pub left-some : {X : Type 0} (p : X → Bool) (o : Option X) (x : X) → Some x ≡ o → p x ≡ true → Some x ≡ option_filter p o
+left-some : {X : Type 0} (p : X → Bool) (o : Option X) (x : X) → Some x ≡ o → p x ≡ true → Some x ≡ option_filter p o
 left-some p None x is passes = absurd (none-some x (sym is))
 left-some p (Some y) x is passes = let same : x ≡ y = same_Some x y is in let t = subst (λ z. p z ≡ true) same passes in rw t is
 
@@ -187,7 +188,7 @@ IsCursorOf-without_conditions db c = record { different = refl; named = any (obj
     any (Some o) = refl
 
 -- what a cursor reaches, it reaches without its conditions too
-pub reaches-any : (db : Database) (c : Cursor) (table : ℕ) (columns : Columns) (filters : List (List Placed)) (bound : List Placed) (stamp : ℕ) (r : RowRecord) → IsValid db → RestsOn db.objects c.object table columns filters → stamp_at c.place ≡ Some stamp
+reaches-any : (db : Database) (c : Cursor) (table : ℕ) (columns : Columns) (filters : List (List Placed)) (bound : List Placed) (stamp : ℕ) (r : RowRecord) → IsValid db → RestsOn db.objects c.object table columns filters → stamp_at c.place ≡ Some stamp
     → Some r ≡ find (has row_kind.key stamp) db.rows → is_reached table filters bound r ≡ true → Some r ≡ record_at_cursor db (without_conditions c)
 reaches-any db c table columns filters bound stamp r valid rests at found is =
     let own = and_parts (r.table == table) (passes r.row bound && list_all (passes r.row) filters) is in
@@ -197,7 +198,7 @@ reaches-any db c table columns filters bound stamp r valid rests at found is =
     ∙ reaches db (without_conditions c) table columns filters [] stamp valid (IsCursorOf-without_conditions db c) rests (λ values. refl) at
 
 -- and it is a row of the table on which the object rests
-pub columns-reached : (db : Database) (c : Cursor) (table : ℕ) (columns : Columns) (filters : List (List Placed)) (bound : List Placed) (r : RowRecord) → IsValid db → RestsOn db.objects c.object table columns filters → is_reached table filters bound r ≡ true
+columns-reached : (db : Database) (c : Cursor) (table : ℕ) (columns : Columns) (filters : List (List Placed)) (bound : List Placed) (r : RowRecord) → IsValid db → RestsOn db.objects c.object table columns filters → is_reached table filters bound r ≡ true
     → columns_of_row db r ≡ columns
 columns-reached db c table columns filters bound r valid rests is =
     let known = IsKnown-resolved_of db c.object rests.is valid rests.resolved in
@@ -205,3 +206,28 @@ columns-reached db c table columns filters bound r valid rests is =
     let same : r.table ≡ rests.is.table = eqb-true r.table table own.0 ∙ rests.on in
     let of : Option Object → Columns = (λ found. option_map_or (λ (o : Object). columns_of o.kind) found []) in
     ap (λ (stamp : ℕ). of (object_stamped db.objects stamp)) same ∙ (ap of known.found_table ∙ (known.all ∙ sym rests.all))
+
+-- A cursor reaches none where the row of its stamp isn't there, or isn't reached.
+pub finds-none : {store : Held} {chip : Chip} {db : Database} {c : Cursor} {choice : Choice} {are_bound : Bool} (r : RowRecord) (stamp : ℕ) (found : Option RowRecord) → IsHeld store Working chip db → HasTable db c choice are_bound → are_bound ≡ true
+    → stamp_at c.place ≡ Some stamp → IfSome (slots_of store Working chip) (λ slots. found ≡ find (has row_kind.key stamp) (listed row_kind slots))
+    → IfSome found (λ x. is_reached choice.resolved.table choice.resolved.filters.items choice.conditions x ≡ false) → FindsRow db c choice.resolved.all r None
+finds-none {store} {chip} {db} {c} {choice} {are_bound} r stamp found held table bound at said fails = record {
+  row = λ of. left-none (is_reached choice.resolved.table choice.resolved.filters.items choice.conditions) found fails
+      ∙ reaches-held store chip db c choice.resolved.table choice.resolved.all choice.resolved.filters.items choice.conditions stamp found held of table.rests (table.binds bound) at said;
+  of_object = tt;
+}
+
+-- It reaches the row of its stamp that is.
+pub finds-some : {store : Held} {chip : Chip} {db : Database} {c : Cursor} {choice : Choice} {are_bound : Bool} (r : RowRecord) (stamp slot : ℕ) → IsHeld store Working chip db → HasTable db c choice are_bound → are_bound ≡ true
+    → stamp_at c.place ≡ Some stamp → IfSome (slots_of store Working chip) (λ slots. Some r ≡ find (has row_kind.key stamp) (listed row_kind slots))
+    → is_reached choice.resolved.table choice.resolved.filters.items choice.conditions r ≡ true → FindsRow db c choice.resolved.all r (Some slot)
+finds-some {store} {chip} {db} {c} {choice} {are_bound} r stamp slot held table bound at said passes =
+    let of = choice.resolved in
+    record {
+      row = λ own. left-some (is_reached of.table of.filters.items choice.conditions) (Some r) r refl passes
+          ∙ reaches-held store chip db c of.table of.all of.filters.items choice.conditions stamp (Some r) held own table.rests (table.binds bound) at said;
+      of_object = record {
+        row = reaches-any db c of.table of.all of.filters.items choice.conditions stamp r held.valid table.rests at (row-held store chip db stamp (Some r) held said) passes;
+        all = columns-reached db c of.table of.all of.filters.items choice.conditions r held.valid table.rests passes;
+      };
+    }

@@ -6,8 +6,6 @@ use Rattle.std.specs.Option.{option_map_or}
 use Rattle.std.proofs.lemmas.Bool.{and_parts, cases_Bool, eqb-true, false≢true, le-leb, ltb-false}
 use Rattle.std.proofs.lemmas.Option.{none-some, same_Some}
 use Rattle.std.specs.Result.{IsErrAnd}
-use Rattle.eeprom.specs.Chip.{Chip}
-use Rattle.record_store.specs.Held.{Held}
 use Rattle.scql_base.specs.Row.{IsRow, is_narrow, row_size}
 use Rattle.scql_base.specs.Words.{conditions_not_satisfied, not_found, record_not_found, wrong_data}
 use Rattle.scql_base.specs.declared.cursor.Cursor.{Cursor}
@@ -18,12 +16,11 @@ use Rattle.scql_base.specs.declared.words.Actor.{Actor}
 use Rattle.scql_base.specs.declared.words.StatusWord.{StatusWord}
 use Rattle.scql_model.specs.Database.{Database, IsValid, are_among, is_table, object_stamped, weight}
 use Rattle.scql_model.specs.Defining.{is_table_or_view}
-use Rattle.scql_model.specs.Edits.{Edit, applied, changing, with_edits}
+use Rattle.scql_model.specs.Edits.{Edit, applied, changing}
 use Rattle.scql_model.specs.Matching.{Columns, Values}
 use Rattle.scql_model.specs.Moves.{opened}
 use Rattle.scql_model.specs.Objects.{StampedRow, columns_of}
 use Rattle.scql_model.specs.Records.{is_count_of_columns, is_row, of_row}
-use Rattle.scql_model.specs.Refusals.{◌>>=◌}
 use Rattle.scql_model.specs.Rights.{update_privilege}
 use Rattle.scql_model.specs.Rules.{has_table}
 use Rattle.scql_model.specs.WellFormed.{HasForm}
@@ -34,11 +31,12 @@ use Rattle.scql_model.proofs.ChangeLaws.{AreMade-with_edits}
 use Rattle.scql_model.proofs.KeepsRows.{updated-keeps}
 use Rattle.scql_model.proofs.LongerLists.{find-all}
 use Rattle.catalog_codec.specs.Catalog.{row_kind}
-use Rattle.record_table.specs.Making.{Ends, IsValidWith}
+use Rattle.record_table.specs.Making.{IsValidWith}
 use Rattle.record_table.specs.declared.stop.Stop.{Stop}
 use Rattle.record_table.specs.declared.stop.Stop.TheVariants.{Refused, Fault}
 use Rattle.db_write.specs.Assigned.{within_limit}
-use Rattle.db_write.specs.Reached.{AnswersEdits, HasObject, IsStopOf}
+use Rattle.db_write.specs.Reached.{AnswersEdits, HasObject, IsStopOf, IsThrough}
+use Rattle.db_write.proofs.ReachedThrough.{IsReached}
 
 pub updates-closed : (db : Database) (actor : Actor) (cursor : Option Cursor) (assignments : List Assignment) → opened cursor ≡ Err conditions_not_satisfied → row_updated db actor cursor assignments ≡ Err conditions_not_satisfied
 unfolding row_updated
@@ -65,21 +63,20 @@ pub updates-unnamed : (db : Database) (actor : Actor) (cursor : Option Cursor) (
 unfolding row_updated
 updates-unnamed db actor cursor assignments c o ready written unnamed = rw (ready, written, unnamed) refl
 
-pub updates-none : (db : Database) (actor : Actor) (cursor : Option Cursor) (assignments : List Assignment) (c : Cursor) (o : Object) → opened cursor ≡ Ok c → written_through db actor update_privilege c ≡ Ok o
-    → named assignments (columns_of o.kind) ≡ true → None ≡ record_at_cursor db c → row_updated db actor cursor assignments ≡ Err record_not_found
+pub updates-none : (db : Database) (actor : Actor) (cursor : Option Cursor) (assignments : List Assignment) (c : Cursor) (o : Object) → IsReached db actor update_privilege cursor c o None → named assignments (columns_of o.kind) ≡ true
+    → row_updated db actor cursor assignments ≡ Err record_not_found
 unfolding row_updated
-updates-none db actor cursor assignments c o ready written names none = rw (ready, written, names, sym none) refl
+updates-none db actor cursor assignments c o is names = rw (is.ready, is.written, names, sym is.there) refl
 
-pub updates-long : (db : Database) (actor : Actor) (cursor : Option Cursor) (assignments : List Assignment) (c : Cursor) (o : Object) (r : RowRecord) → opened cursor ≡ Ok c → written_through db actor update_privilege c ≡ Ok o
-    → named assignments (columns_of o.kind) ≡ true → Some r ≡ record_at_cursor db c → nat_le (row_size (row_after db assignments r).row) db.limit ≡ false → row_updated db actor cursor assignments ≡ Err wrong_data
+updates-long : (db : Database) (actor : Actor) (cursor : Option Cursor) (assignments : List Assignment) (c : Cursor) (o : Object) (r : RowRecord) → IsReached db actor update_privilege cursor c o (Some r) → named assignments (columns_of o.kind) ≡ true
+    → nat_le (row_size (row_after db assignments r).row) db.limit ≡ false → row_updated db actor cursor assignments ≡ Err wrong_data
 unfolding row_updated
-updates-long db actor cursor assignments c o r ready written names there long = rw (ready, written, names, sym there, long) refl
+updates-long db actor cursor assignments c o r is names long = rw (is.ready, is.written, names, sym is.there, long) refl
 
-pub updates : (db : Database) (actor : Actor) (cursor : Option Cursor) (assignments : List Assignment) (c : Cursor) (o : Object) (r : RowRecord) → opened cursor ≡ Ok c → written_through db actor update_privilege c ≡ Ok o
-    → named assignments (columns_of o.kind) ≡ true → Some r ≡ record_at_cursor db c → nat_le (row_size (row_after db assignments r).row) db.limit ≡ true
-    → row_updated db actor cursor assignments ≡ Ok (changing (of_row (row_after db assignments r)) ∷ [])
+updates : (db : Database) (actor : Actor) (cursor : Option Cursor) (assignments : List Assignment) (c : Cursor) (o : Object) (r : RowRecord) → IsReached db actor update_privilege cursor c o (Some r) → named assignments (columns_of o.kind) ≡ true
+    → nat_le (row_size (row_after db assignments r).row) db.limit ≡ true → row_updated db actor cursor assignments ≡ Ok (changing (of_row (row_after db assignments r)) ∷ [])
 unfolding row_updated
-updates db actor cursor assignments c o r ready written names there within = rw (ready, written, names, sym there, within) refl
+updates db actor cursor assignments c o r is names within = rw (is.ready, is.written, names, sym is.there, within) refl
 
 -- the record of a cursor's row is found by its stamp
 row-found : (db : Database) (c : Cursor) (r : RowRecord) → Some r ≡ record_at_cursor db c → (stamp : ℕ) × (find (λ (s : RowRecord). s.stamp == stamp) db.rows ≡ Some r)
@@ -90,7 +87,7 @@ row-found db c r there = go (row_at_place (contents_of db c.object) c c.place) (
     go (Some s) is = (s.stamp, is)
 
 -- in a valid database a row has as many values as its table has columns
-pub as-many : (db : Database) (c : Cursor) (r : RowRecord) → IsValid db → Some r ≡ record_at_cursor db c → length (columns_of_row db r) ≡ length r.row
+as-many : (db : Database) (c : Cursor) (r : RowRecord) → IsValid db → Some r ≡ record_at_cursor db c → length (columns_of_row db r) ≡ length r.row
 as-many db c r valid there =
     let found = row-found db c r there in
     of_table (object_stamped db.objects r.table) (find-all (has_table db.objects) (λ (s : RowRecord). s.stamp == found.0) db.rows r valid.rows.tables found.1)
@@ -101,7 +98,7 @@ as-many db c r valid there =
     of_table (Some o) is = eqb-true (length (columns_of o.kind)) (length r.row) (and_parts (is_table o.kind && nat_lt o.stamp r.stamp) (length (columns_of o.kind) == length r.row) is).1
 
 -- the row after changes is within the limits of its kind, where its values are a row
-pub fits-after : (db : Database) (c : Cursor) (assignments : List Assignment) (r : RowRecord) → IsValid db → Some r ≡ record_at_cursor db c → IsRow (row_after db assignments r).row → row_kind.form.fits (row_after db assignments r) ≡ true
+fits-after : (db : Database) (c : Cursor) (assignments : List Assignment) (r : RowRecord) → IsValid db → Some r ≡ record_at_cursor db c → IsRow (row_after db assignments r).row → row_kind.form.fits (row_after db assignments r) ≡ true
 fits-after db c assignments r valid there is =
     let found = row-found db c r there in
     let new = (row_after db assignments r).row in
@@ -114,14 +111,14 @@ fits-after db c assignments r valid there is =
     rw (a.0, b.0, as_many, e.0, is.widths, le-leb (row_size new) 1020 is.size) refl
 
 -- a row that is kept within a limit, or is not
-pub kept-within : (limit : ℕ) (values row : Values) → Some row ≡ within_limit limit values → (nat_le (row_size values) limit ≡ true) × (row ≡ values)
+kept-within : (limit : ℕ) (values row : Values) → Some row ≡ within_limit limit values → (nat_le (row_size values) limit ≡ true) × (row ≡ values)
 kept-within limit values row is =
     elim (cases_Bool (nat_le (row_size values) limit)) [
       | inl t ↦ (t, same_Some row values (is ∙ rw t refl))
       | inr f ↦ absurd (none-some row (let wrong : Some row ≡ None = is ∙ rw f refl in sym wrong))
     ]
 
-pub not_within : (limit : ℕ) (values : Values) → None ≡ within_limit limit values → nat_le (row_size values) limit ≡ false
+not_within : (limit : ℕ) (values : Values) → None ≡ within_limit limit values → nat_le (row_size values) limit ≡ false
 not_within limit values is =
     elim (cases_Bool (nat_le (row_size values) limit)) [
       | inl t ↦ absurd (none-some values (let wrong : None ≡ Some values = is ∙ rw t refl in wrong))
@@ -129,14 +126,14 @@ not_within limit values is =
     ]
 
 -- what is kept of the row after changes within the card's limit is the model's row
-pub after-kept : (db : Database) (assignments : List Assignment) (r : RowRecord) (columns : Columns) (limit : ℕ) (row : Values) → columns_of_row db r ≡ columns → limit ≡ db.limit → length (columns_of_row db r) ≡ length r.row
+after-kept : (db : Database) (assignments : List Assignment) (r : RowRecord) (columns : Columns) (limit : ℕ) (row : Values) → columns_of_row db r ≡ columns → limit ≡ db.limit → length (columns_of_row db r) ≡ length r.row
     → (length columns ≡ length r.row → Some row ≡ within_limit limit (all_assigned assignments columns r.row)) → (nat_le (row_size (row_after db assignments r).row) db.limit ≡ true) × (row ≡ (row_after db assignments r).row)
 after-kept db assignments r columns limit row same is many kept =
     kept-within db.limit (all_assigned assignments (columns_of_row db r) r.row) row
     (kept (ap length (sym same) ∙ many)
     ∙ (ap (λ (n : ℕ). within_limit n (all_assigned assignments columns r.row)) is ∙ ap (λ (all : Columns). within_limit db.limit (all_assigned assignments all r.row)) (sym same)))
 
-pub after-long : (db : Database) (assignments : List Assignment) (r : RowRecord) (columns : Columns) (limit : ℕ) → columns_of_row db r ≡ columns → limit ≡ db.limit → length (columns_of_row db r) ≡ length r.row
+after-long : (db : Database) (assignments : List Assignment) (r : RowRecord) (columns : Columns) (limit : ℕ) → columns_of_row db r ≡ columns → limit ≡ db.limit → length (columns_of_row db r) ≡ length r.row
     → (length columns ≡ length r.row → None ≡ within_limit limit (all_assigned assignments columns r.row)) → nat_le (row_size (row_after db assignments r).row) db.limit ≡ false
 after-long db assignments r columns limit same is many none =
     not_within db.limit (all_assigned assignments (columns_of_row db r) r.row)
@@ -148,28 +145,18 @@ pub Answers-stopped : {X : Type 0} (edits : X → List Edit) (outcome : Result (
 Answers-stopped edits outcome (Ok x) stop gives stopped = absurd gives
 Answers-stopped edits outcome (Err given) stop gives stopped = subst (IsStopOf outcome) (sym gives) stopped
 
--- so the operation ends, before anything was done
-pub Ends-before : (db : Database) (outcome : Result (List Edit) StatusWord) (result : Result (Unit {0}) Stop) (stop : Stop) (store : Held) (before after : Chip) → IsErrAnd result (λ given. given ≡ stop) → IsStopOf outcome stop → after ≡ before
-    → Ends db outcome result store store before after
-Ends-before db outcome (Ok x) stop store before after gives stopped still = absurd gives
-Ends-before db outcome (Err given) (Refused word) store before after gives stopped still =
-    subst (λ stop. Ends {T = Unit {0}} db outcome (Err stop) store store before after) (sym gives) (ap (λ (o : Result (List Edit) StatusWord). o >>= with_edits db) stopped, refl, still)
-Ends-before db outcome (Err given) Fault store before after gives stopped still = subst (λ stop. Ends {T = Unit {0}} db outcome (Err stop) store store before after) (sym gives) tt
-
 -- the database with the row is valid, where there is room
-pub valid-updated : (db : Database) (actor : Actor) (cursor : Option Cursor) (assignments : List Assignment) (edits : List Edit) → IsValid db → HasForm (Update assignments) → row_updated db actor cursor assignments ≡ Ok edits → IsValidWith db edits
-valid-updated db actor cursor assignments edits valid form is = λ room.
+pub valid-updated : (db : Database) (actor : Actor) (cursor : Option Cursor) (assignments : List Assignment) (outcome : Result (List Edit) StatusWord) (edits : List Edit) → IsValid db → HasForm (Update assignments)
+    → IsThrough db (λ cursor. row_updated db actor cursor assignments) cursor outcome → outcome ≡ Ok edits → IsValidWith db edits
+valid-updated db actor cursor assignments outcome edits valid form through is = λ room.
     let new = applied db edits in
     let made = AreMade-with_edits db edits new (rw room refl) in
-    (updated-keeps db actor cursor assignments valid form).each edits is (record { stamps_left = made.stamps_left; room = ltb-false new.cells (weight new) made.room })
+    (updated-keeps db actor through.through.0 assignments valid form).each edits (sym through.through.1 ∙ is) (record { stamps_left = made.stamps_left; room = ltb-false new.cells (weight new) made.room })
 
--- what was found of the row that is updated: it is at a cursor of an object, its table has these columns, and the card has this limit
-pub record IsUpdated (db : Database) (actor : Actor) (cursor : Option Cursor) (assignments : List Assignment) (c : Cursor) (o : Object) (r : RowRecord) (columns : Columns) (limit : ℕ) : Type 0 where
+-- what was found for an update of a row: the object has the columns that are named, the row's table has these columns, and the card has this limit
+pub record IsUpdated (db : Database) (assignments : List Assignment) (o : Object) (r : RowRecord) (columns : Columns) (limit : ℕ) : Type 0 where
   pub valid : IsValid db
-  pub ready : opened cursor ≡ Ok c
-  pub written : written_through db actor update_privilege c ≡ Ok o
   pub names : named assignments (columns_of o.kind) ≡ true
-  pub there : Some r ≡ record_at_cursor db c
   pub all : columns_of_row db r ≡ columns
   pub most : limit ≡ db.limit
 
@@ -177,26 +164,27 @@ abbrev pub with_values : RowRecord → Values → RowRecord
 with_values r values = record { stamp = r.stamp; table = r.table; row = values }
 
 -- the row that was kept is the model's row after the changes
-pub kept-after : (db : Database) (actor : Actor) (cursor : Option Cursor) (assignments : List Assignment) (c : Cursor) (o : Object) (r : RowRecord) (columns : Columns) (limit : ℕ) (row : Values) → IsUpdated db actor cursor assignments c o r columns limit
+kept-after : (db : Database) (assignments : List Assignment) (c : Cursor) (o : Object) (r : RowRecord) (columns : Columns) (limit : ℕ) (row : Values) → IsUpdated db assignments o r columns limit → Some r ≡ record_at_cursor db c
     → (length columns ≡ length r.row → Some row ≡ within_limit limit (all_assigned assignments columns r.row)) → (nat_le (row_size (row_after db assignments r).row) db.limit ≡ true) × (with_values r row ≡ row_after db assignments r)
-kept-after db actor cursor assignments c o r columns limit row is kept =
-    let after = after-kept db assignments r columns limit row is.all is.most (as-many db c r is.valid is.there) kept in
+kept-after db assignments c o r columns limit row is there kept =
+    let after = after-kept db assignments r columns limit row is.all is.most (as-many db c r is.valid there) kept in
     (after.0, ap (with_values r) after.1)
 
-pub updates-kept : (db : Database) (actor : Actor) (cursor : Option Cursor) (assignments : List Assignment) (c : Cursor) (o : Object) (r : RowRecord) (columns : Columns) (limit : ℕ) (row : Values) (new : RowRecord) → IsUpdated db actor cursor assignments c o r columns limit
-    → (length columns ≡ length r.row → Some row ≡ within_limit limit (all_assigned assignments columns r.row)) → new ≡ with_values r row → row_updated db actor cursor assignments ≡ Ok (changing (of_row new) ∷ [])
-updates-kept db actor cursor assignments c o r columns limit row new is kept same =
-    let after = kept-after db actor cursor assignments c o r columns limit row is kept in
-    updates db actor cursor assignments c o r is.ready is.written is.names is.there after.0
+pub updates-kept : (db : Database) (actor : Actor) (cursor : Option Cursor) (assignments : List Assignment) (c : Cursor) (o : Object) (r : RowRecord) (columns : Columns) (limit : ℕ) (row : Values) (new : RowRecord) → IsUpdated db assignments o r columns limit
+    → (length columns ≡ length r.row → Some row ≡ within_limit limit (all_assigned assignments columns r.row)) → new ≡ with_values r row → IsReached db actor update_privilege cursor c o (Some r)
+    → row_updated db actor cursor assignments ≡ Ok (changing (of_row new) ∷ [])
+updates-kept db actor cursor assignments c o r columns limit row new is kept same reached =
+    let after = kept-after db assignments c o r columns limit row is reached.there kept in
+    updates db actor cursor assignments c o r reached is.names after.0
     ∙ ap (λ (x : RowRecord). Ok (changing (of_row x) ∷ [])) (sym (same ∙ after.1))
 
-pub fits-kept : (db : Database) (actor : Actor) (cursor : Option Cursor) (assignments : List Assignment) (c : Cursor) (o : Object) (r : RowRecord) (columns : Columns) (limit : ℕ) (row : Values) (new : RowRecord) → IsUpdated db actor cursor assignments c o r columns limit
+pub fits-kept : (db : Database) (assignments : List Assignment) (c : Cursor) (o : Object) (r : RowRecord) (columns : Columns) (limit : ℕ) (row : Values) (new : RowRecord) → IsUpdated db assignments o r columns limit → Some r ≡ record_at_cursor db c
     → (length columns ≡ length r.row → Some row ≡ within_limit limit (all_assigned assignments columns r.row)) → new ≡ with_values r row → IsRow new.row → row_kind.form.fits new ≡ true
-fits-kept db actor cursor assignments c o r columns limit row new is kept same row_is =
-    let after = same ∙ (kept-after db actor cursor assignments c o r columns limit row is kept).1 in
-    subst (λ (x : RowRecord). row_kind.form.fits x ≡ true) (sym after) (fits-after db c assignments r is.valid is.there (subst (λ (x : RowRecord). IsRow x.row) after row_is))
+fits-kept db assignments c o r columns limit row new is there kept same row_is =
+    let after = same ∙ (kept-after db assignments c o r columns limit row is there kept).1 in
+    subst (λ (x : RowRecord). row_kind.form.fits x ≡ true) (sym after) (fits-after db c assignments r is.valid there (subst (λ (x : RowRecord). IsRow x.row) after row_is))
 
-pub updates-not_kept : (db : Database) (actor : Actor) (cursor : Option Cursor) (assignments : List Assignment) (c : Cursor) (o : Object) (r : RowRecord) (columns : Columns) (limit : ℕ) → IsUpdated db actor cursor assignments c o r columns limit
-    → (length columns ≡ length r.row → None ≡ within_limit limit (all_assigned assignments columns r.row)) → row_updated db actor cursor assignments ≡ Err wrong_data
-updates-not_kept db actor cursor assignments c o r columns limit is none =
-    updates-long db actor cursor assignments c o r is.ready is.written is.names is.there (after-long db assignments r columns limit is.all is.most (as-many db c r is.valid is.there) none)
+pub updates-not_kept : (db : Database) (actor : Actor) (cursor : Option Cursor) (assignments : List Assignment) (c : Cursor) (o : Object) (r : RowRecord) (columns : Columns) (limit : ℕ) → IsUpdated db assignments o r columns limit
+    → (length columns ≡ length r.row → None ≡ within_limit limit (all_assigned assignments columns r.row)) → IsReached db actor update_privilege cursor c o (Some r) → row_updated db actor cursor assignments ≡ Err wrong_data
+updates-not_kept db actor cursor assignments c o r columns limit is none reached =
+    updates-long db actor cursor assignments c o r reached is.names (after-long db assignments r columns limit is.all is.most (as-many db c r is.valid reached.there) none)

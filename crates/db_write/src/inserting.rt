@@ -1,5 +1,5 @@
 // INSERT.
-ghost use Rattle.std.specs.Prelude.{◌≡◌, true, Ok, Err, IsTrue, IfOk, IfErr, length};
+ghost use Rattle.std.specs.Prelude.{◌≡◌, true, IsTrue, length};
 ghost use Rattle.eeprom.specs.Frame.{Reads};
 ghost use Rattle.record_store.specs.Held.{IsOver};
 ghost use Rattle.record_store.specs.declared.side.Side.TheVariants.{Working};
@@ -14,8 +14,9 @@ ghost use Rattle.scql_model.specs.Writing.{row_inserted};
 ghost use Rattle.catalog_codec.specs.Catalog.{row_kind};
 ghost use Rattle.catalog_codec.specs.Kinds.{FitsChain};
 ghost use Rattle.row_index.specs.Index.{is_above};
-ghost use Rattle.record_table.specs.Making.{Ends, IsHeld, is_stop_fault};
+ghost use Rattle.record_table.specs.Making.{IsHeld, is_stop_fault};
 ghost use Rattle.row_table.specs.Tables.{Ended, Stand};
+ghost use Rattle.db_write.specs.Reached.{AnswersEdits};
 
 use eeprom::Eeprom;
 use object_table::find_name_into;
@@ -55,9 +56,7 @@ fn find_table<B: Eeprom>(
 ) -> Result<u32, Stop>
     requires over { IsOver store.now (B.chip bench.old) }
     ensures found { (db : Database) → IsHeld store.now Working (B.chip bench.old) db
-        → IfOk result (λ table. row_inserted db actor name row.now ≡ Ok (making db (of_row (record { stamp = db.next; table = table; row = row.now })))) }
-    ensures refused { (db : Database) → IsHeld store.now Working (B.chip bench.old) db
-        → IfErr result (λ stop. Ends {T = Unit {0}} db (row_inserted db actor name row.now) (Err stop) store.now store.now (B.chip bench.old) (B.chip bench.new)) }
+        → AnswersEdits (λ table. making db (of_row (record { stamp = db.next; table = table; row = row.now }))) (row_inserted db actor name row.now) result }
     ensures frame { Reads is_stop_fault B.chip B.faults bench.old bench.new result }
 {
     let mut place = None;

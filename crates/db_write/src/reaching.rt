@@ -1,5 +1,5 @@
 // The row that a cursor reaches.
-ghost use Rattle.std.specs.Prelude.{◌≡◌, ◌<◌, Ok, Err, Some, IfErr, IfOk, IfSome, IsTrue, MatchOption, option_map, true};
+ghost use Rattle.std.specs.Prelude.{◌≡◌, Ok, Err, IfOk, IfSome, MatchOption, MatchResult};
 ghost use Rattle.std.specs.List.{list_all};
 ghost use Rattle.eeprom.specs.Fault.{each_error};
 ghost use Rattle.eeprom.specs.Frame.{Reads};
@@ -7,19 +7,16 @@ ghost use Rattle.record_store.specs.Held.{IsOver};
 ghost use Rattle.record_store.specs.declared.side.Side.TheVariants.{Working};
 ghost use Rattle.scql_base.specs.Words.{conditions_not_satisfied};
 ghost use Rattle.scql_base.specs.declared.words.Actor as model;
-ghost use Rattle.scql_model.specs.Cursors.{IsCursorOf};
 ghost use Rattle.scql_model.specs.Database.{Database, object_stamped};
 ghost use Rattle.scql_model.specs.Moves as moves;
-ghost use Rattle.scql_model.specs.Writing.{record_at_cursor, written_through};
-ghost use Rattle.catalog_codec.specs.Catalog.{row_kind};
+ghost use Rattle.scql_model.specs.Writing.{written_through};
 ghost use Rattle.privilege_table.specs.Rights.{privilege_bit};
-ghost use Rattle.record_table.specs.Listed.{at_slot, slots_of};
 ghost use Rattle.record_table.specs.Making.{IsHeld, is_stop_fault};
-ghost use Rattle.row_index.specs.Index.{Indexes};
-ghost use Rattle.search_cond.specs.Bound.{Binds, passes};
+ghost use Rattle.row_table.specs.Tables.{Stand};
+ghost use Rattle.search_cond.specs.Bound.{passes};
 ghost use Rattle.db_read.specs.Reader.{GoesOn};
 ghost use Rattle.db_read.specs.Scan.{IsRight, found_in};
-ghost use Rattle.db_write.specs.Reached.{HasObject, IsRowOfObject, IsStopOf, IsWritten, RestsOn, is_reached};
+ghost use Rattle.db_write.specs.Reached.{FindsRow, HasTable, IsChosen, IsInSlot, IsStopOf, IsWritten, is_reached};
 ghost use Rattle.db_write.specs.Reached as reached;
 
 use db_read::{Choice, Reader, RowRoom, is_table_or_view, resolve, row_in};
@@ -28,7 +25,7 @@ use object_table::find_stamp_into;
 use privilege_table::{Privilege, rights_on};
 use record_store::{Side, Store};
 use record_table::{Stop, refused};
-use row_index::RowIndex;
+use row_table::Tables;
 use scql_base::{Actor, Cursor, Place, Row, RowRecord, StatusWord};
 use search_cond::{Bound, bind_into, meets_each};
 
@@ -66,8 +63,8 @@ pub(crate) fn find_written<B: Eeprom>(
 ) -> Result<(), Stop>
     requires over { IsOver store.now (B.chip bench.old) }
     requires right { (db : Database) → IsHeld store.now Working (B.chip bench.old) db → IsRight db actor (found_in is_found.old choice.old) cursor.now }
-    ensures written { (db : Database) → IsHeld store.now Working (B.chip bench.old) db → IfOk result (λ _. IsWritten db actor (privilege_bit privilege) cursor.now choice.new.object) }
-    ensures refused { (db : Database) → IsHeld store.now Working (B.chip bench.old) db → IfErr result (IsStopOf (written_through db actor (privilege_bit privilege) cursor.now)) }
+    ensures written { (db : Database) → IsHeld store.now Working (B.chip bench.old) db
+        → MatchResult result (λ _. IsWritten db actor (privilege_bit privilege) cursor.now is_found.new choice.new) (IsStopOf (written_through db actor (privilege_bit privilege) cursor.now)) }
     ensures same { found_in is_found.new choice.new ≡ found_in is_found.old choice.old }
     ensures frame { Reads is_stop_fault B.chip B.faults bench.old bench.new result }
 {
@@ -118,24 +115,17 @@ fn find_object<B: Eeprom>(
 
 /// The slot of the row at which a cursor on the chosen object stands, where the row is among the cursor's rows. It is read into a place.
 pub(crate) fn find_row<B: Eeprom>(
-    store: &Store,
+    tables: &Tables,
     bench: &mut B,
     cursor: &Cursor,
-    index: &RowIndex,
     is_found: bool,
     choice: &mut Choice,
     room: &mut RowRoom,
 ) -> Result<Option<u16>, EepromFault>
-    requires over { IsOver store.now (B.chip bench.old) }
-    requires index { Indexes index.now store.now (B.chip bench.old) }
-    requires right { (db : Database) → IsHeld store.now Working (B.chip bench.old) db → (actor : model.Actor) × IsRight db actor (found_in is_found choice.old) cursor.now }
-    requires object { (db : Database) → IsHeld store.now Working (B.chip bench.old) db → HasObject db cursor.now choice.old.object }
-    ensures there { IfOk result (λ slot. IfSome slot (λ slot. slot < store.now.chains.cells)) }
-    ensures at { IfOk result (λ slot. IfSome slot (λ slot. IfSome (slots_of store.now Working (B.chip bench.old)) (λ slots. Some room.new.row ≡ at_slot row_kind slot slots))) }
-    ensures row { (db : Database) → IsHeld store.now Working (B.chip bench.old) db → IsCursorOf db cursor.now
-        → IfOk result (λ slot. option_map (λ _. room.new.row) slot ≡ record_at_cursor db cursor.now) }
-    ensures of_object { (db : Database) → IsHeld store.now Working (B.chip bench.old) db
-        → IfOk result (λ slot. IfSome slot (λ _. IsRowOfObject db cursor.now room.new.row choice.new.resolved.all)) }
+    requires stand { Stand tables.now (B.chip bench.old) }
+    requires chosen { (db : Database) → IsHeld tables.now.store Working (B.chip bench.old) db → IsChosen db cursor.now is_found choice.old }
+    ensures at { IfOk result (λ slot. IfSome slot (IsInSlot tables.now (B.chip bench.old) room.new.row)) }
+    ensures finds { (db : Database) → IsHeld tables.now.store Working (B.chip bench.old) db → IfOk result (FindsRow db cursor.now choice.new.resolved.all room.new.row) }
     ensures same { found_in is_found choice.new ≡ found_in is_found choice.old }
     ensures frame { Reads each_error B.chip B.faults bench.old bench.new result }
 {
@@ -143,15 +133,15 @@ pub(crate) fn find_row<B: Eeprom>(
         return Ok(None);
     };
     let mut reader = Reader {
-        store,
-        index,
+        store: &tables.store,
+        index: &tables.index,
         bench,
         side: Side::Working,
     };
     if !find_table(&mut reader, cursor, is_found, choice)? {
         return Ok(None);
     }
-    let Some((_, slot)) = index.find(Side::Working, stamp) else {
+    let Some((_, slot)) = tables.index.find(Side::Working, stamp) else {
         return Ok(None);
     };
     if !row_in(&mut reader, slot, room)? {
@@ -171,12 +161,7 @@ fn find_table<B: Eeprom>(
     choice: &mut Choice,
 ) -> Result<bool, EepromFault>
     requires over { IsOver reader.old.store.now (B.chip reader.old.bench.now) }
-    ensures rests { (db : Database) (actor : model.Actor) → IsHeld reader.old.store.now reader.old.side (B.chip reader.old.bench.now) db → IsRight db actor (found_in is_found choice.old) cursor.now → HasObject db cursor.now choice.old.object
-        → IfOk result (λ _. RestsOn db.objects cursor.now.object choice.new.resolved.table choice.new.resolved.all choice.new.resolved.filters.items) }
-    ensures binds { (db : Database) (actor : model.Actor) → IsHeld reader.old.store.now reader.old.side (B.chip reader.old.bench.now) db → IsRight db actor (found_in is_found choice.old) cursor.now → HasObject db cursor.now choice.old.object
-        → IfOk result (λ bound. IsTrue bound → Binds choice.new.conditions choice.new.resolved.all cursor.now.conditions) }
-    // A cursor's conditions are on columns of its object.
-    ensures bound { (db : Database) → IsHeld reader.old.store.now reader.old.side (B.chip reader.old.bench.now) db → HasObject db cursor.now choice.old.object → IsCursorOf db cursor.now → IfOk result (λ bound. bound ≡ true) }
+    ensures found { (db : Database) → IsHeld reader.old.store.now reader.old.side (B.chip reader.old.bench.now) db → IsChosen db cursor.now is_found choice.old → IfOk result (HasTable db cursor.now choice.new) }
     ensures same { found_in is_found choice.new ≡ found_in is_found choice.old }
     ensures goes_on { GoesOn reader.old reader.new }
     ensures frame { Reads each_error B.chip B.faults reader.old.bench.now reader.new.bench.now result }

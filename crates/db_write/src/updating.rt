@@ -1,43 +1,35 @@
 // UPDATE.
-ghost use Rattle.std.specs.Prelude.{◌≡◌, ◌<◌, ◌≤◌, [], ◌∷◌, Option, IfOk, IfSome, IsTrue, IsErrOf, drop, length, map, option_map, true};
+ghost use Rattle.std.specs.Prelude.{◌≡◌, ◌≤◌, [], ◌∷◌, List, Result, IfOk, IfSome, IsTrue, length, map, option_map, true};
 ghost use Rattle.std.specs.List.{list_any};
 ghost use Rattle.std.specs.Str.{bytes_eq};
-ghost use Rattle.eeprom.specs.Chip.{Keeps};
-ghost use Rattle.eeprom.specs.Fault.{CountsFaults};
 ghost use Rattle.eeprom.specs.Frame.{Reads};
-ghost use Rattle.eeprom.specs.StoreOf.{store_of, image_size};
-ghost use Rattle.record_store.specs.Held.{IsOver};
 ghost use Rattle.record_store.specs.declared.side.Side.TheVariants.{Working};
 ghost use Rattle.scql_base.specs.Row.{IsRow};
 ghost use Rattle.scql_base.specs.declared.row.TheConstants.Row.{LARGEST};
-ghost use Rattle.scql_base.specs.declared.cursor.Cursor as model;
 ghost use Rattle.scql_base.specs.declared.operation.Operation.TheVariants as operation;
-ghost use Rattle.scql_model.specs.Cursors.{IsCursorOf};
+ghost use Rattle.scql_base.specs.declared.words.StatusWord as words;
 ghost use Rattle.scql_model.specs.Database.{Database, are_among};
 ghost use Rattle.scql_model.specs.Defining.{is_table_or_view};
-ghost use Rattle.scql_model.specs.Edits.{changing};
+ghost use Rattle.scql_model.specs.Edits.{Edit, changing};
 ghost use Rattle.scql_model.specs.Objects.{columns_of};
 ghost use Rattle.scql_model.specs.Records.{of_row};
 ghost use Rattle.scql_model.specs.WellFormed.{HasForm};
 ghost use Rattle.scql_model.specs.Writing.{Assignment, all_assigned, row_updated};
 ghost use Rattle.catalog_codec.specs.Catalog.{row_kind};
 ghost use Rattle.catalog_codec.specs.Kinds.{FitsChain};
-ghost use Rattle.record_table.specs.Listed.{slots_of};
-ghost use Rattle.record_table.specs.Making.{Ends, GoesOn, IsHeld, is_stop_fault};
-ghost use Rattle.row_index.specs.Index.{Indexes};
+ghost use Rattle.record_table.specs.Making.{IsHeld, is_stop_fault};
+ghost use Rattle.row_table.specs.Tables.{EndedBy, Stand};
 ghost use Rattle.db_read.specs.Scan.{IsRightFor};
-ghost use Rattle.row_table.specs.Found.{HasRowLike};
 ghost use Rattle.db_write.specs.Assigned.{within_limit};
-ghost use Rattle.db_write.specs.Reached.{AnswersEdits};
+ghost use Rattle.db_write.specs.Reached.{AnswersEdits, IsThrough, MayReplace};
 
 use crate::assigning::row_after;
 use crate::reaching::{find_row, find_written, opened};
 use db_read::Scan;
 use eeprom::Eeprom;
 use privilege_table::Privilege;
-use record_store::Store;
-use record_table::{Stop, change, refused};
-use row_index::RowIndex;
+use record_table::{Stop, refused};
+use row_table::Tables;
 use scql_base::{
     Actor, Cursor, NameList, Object, ObjectKind, PackedChanges, Row, RowRecord, StatusWord,
 };
@@ -45,30 +37,18 @@ use scql_base::{
 /// UPDATE: gives named columns of the row at which a cursor stands new values. The row keeps its stamp, its table and its slot, and so the index stands as it did.
 /// What a scan has found isn't looked for again.
 pub fn update<B: Eeprom>(
-    store: &mut Store,
+    tables: &mut Tables,
     bench: &mut B,
     actor: Actor,
     cursor: &Option<Cursor>,
     changes: &PackedChanges,
-    index: &mut RowIndex,
     scan: &mut Scan,
 ) -> Result<(), Stop>
-    requires begun { IsTrue store.old.begun }
-    requires over { IsOver store.old (B.chip bench.old) }
-    requires index { Indexes index.old store.old (B.chip bench.old) }
-    requires right { (db : Database) → IsHeld store.old Working (B.chip bench.old) db → IsRightFor db actor scan.old cursor.now }
-    ensures ends { (db : Database) → IsHeld store.old Working (B.chip bench.old) db → IfSome cursor.now (IsCursorOf db) → HasForm (operation.Update changes.now)
-        → Ends db (row_updated db actor cursor.now changes.now) result store.old store.new (B.chip bench.old) (B.chip bench.new) }
-    // Whatever the cursor is, it ends as through some cursor.
-    ensures through { (db : Database) → IsHeld store.old Working (B.chip bench.old) db → HasForm (operation.Update changes.now)
-        → (through : Option model.Cursor) × Ends db (row_updated db actor through changes.now) result store.old store.new (B.chip bench.old) (B.chip bench.new) }
-    ensures goes_on { ¬ IsErrOf result Stop.Fault → GoesOn store.old store.new (B.chip bench.old) (B.chip bench.new) }
-    ensures moments { Keeps store_of (B.chip bench.old) (B.chip bench.new) }
-    ensures behind { Keeps (drop (image_size store.old.chains.cells)) (B.chip bench.old) (B.chip bench.new) }
-    ensures cause { CountsFaults is_stop_fault (B.faults bench.old) (B.faults bench.new) result }
-    ensures index { (db : Database) → IsHeld store.old Working (B.chip bench.old) db → HasForm (operation.Update changes.now)
-        → ¬ IsErrOf result Stop.Fault → Indexes index.new store.new (B.chip bench.new) }
-    ensures index_same { index.new ≡ index.old }
+    requires begun { IsTrue tables.old.store.begun }
+    requires stand { Stand tables.old (B.chip bench.old) }
+    requires right { (db : Database) → IsHeld tables.old.store Working (B.chip bench.old) db → IsRightFor db actor scan.old cursor.now }
+    ensures ended { EndedBy B.chip B.faults (λ db. HasForm (operation.Update changes.now)) (λ db. IsThrough db (λ cursor. row_updated db actor cursor changes.now) cursor.now)
+        bench.old bench.new tables.old tables.new result }
     ensures scan_same { scan.new ≡ scan.old }
 {
     let mut updated = RowRecord {
@@ -76,43 +56,27 @@ pub fn update<B: Eeprom>(
         table: 0,
         row: Row::new(),
     };
-    let slot = find_updated(
-        store,
-        bench,
-        actor,
-        cursor,
-        changes,
-        index,
-        scan,
-        &mut updated,
-    )?;
-    change(store, bench, slot, &updated)?;
-    Ok(())
+    let slot = find_updated(tables, bench, actor, cursor, changes, scan, &mut updated)?;
+    tables.change_row(bench, slot, &updated)
 }
 
 // The slot of the row at which a cursor stands, or the first refusal. The row as it is after the changes is put into an empty place.
 fn find_updated<B: Eeprom>(
-    store: &Store,
+    tables: &Tables,
     bench: &mut B,
     actor: Actor,
     cursor: &Option<Cursor>,
     changes: &PackedChanges,
-    index: &RowIndex,
     scan: &mut Scan,
     updated: &mut RowRecord,
 ) -> Result<u16, Stop>
-    requires over { IsOver store.now (B.chip bench.old) }
-    requires index { Indexes index.now store.now (B.chip bench.old) }
-    requires right { (db : Database) → IsHeld store.now Working (B.chip bench.old) db → IsRightFor db actor scan.old cursor.now }
+    requires stand { Stand tables.now (B.chip bench.old) }
+    requires right { (db : Database) → IsHeld tables.now.store Working (B.chip bench.old) db → IsRightFor db actor scan.old cursor.now }
     requires empty { updated.old.row ≡ [] }
-    ensures there { IfOk result (λ slot. slot < store.now.chains.cells) }
-    ensures like { IfOk result (λ slot. IfSome (slots_of store.now Working (B.chip bench.old)) (HasRowLike updated.new slot)) }
-    ensures short { IfOk result (λ _. FitsChain row_kind updated.new) }
-    ensures fits { (db : Database) → IsHeld store.now Working (B.chip bench.old) db → IfOk result (λ _. row_kind.form.fits updated.new ≡ true) }
-    ensures updated { (db : Database) → IsHeld store.now Working (B.chip bench.old) db → IfSome cursor.now (IsCursorOf db)
-        → AnswersEdits (λ _. changing (of_row updated.new) ∷ []) (row_updated db actor cursor.now changes.now) result }
-    ensures through { (db : Database) → IsHeld store.now Working (B.chip bench.old) db
-        → (through : Option model.Cursor) × AnswersEdits (λ _. changing (of_row updated.new) ∷ []) (row_updated db actor through changes.now) result }
+    ensures at { IfOk result (MayReplace tables.now (B.chip bench.old) updated.new) }
+    ensures fits { (db : Database) → IsHeld tables.now.store Working (B.chip bench.old) db → IfOk result (λ _. row_kind.form.fits updated.new ≡ true) }
+    ensures updated { (db : Database) → IsHeld tables.now.store Working (B.chip bench.old) db
+        → (outcome : Result (List Edit) words.StatusWord) × IsThrough db (λ cursor. row_updated db actor cursor changes.now) cursor.now outcome × AnswersEdits (λ _. changing (of_row updated.new) ∷ []) outcome result }
     ensures scan_same { scan.new ≡ scan.old }
     ensures frame { Reads is_stop_fault B.chip B.faults bench.old bench.new result }
 {
@@ -124,6 +88,7 @@ fn find_updated<B: Eeprom>(
         choice,
         room,
     } = scan;
+    let store = &tables.store;
     find_written(
         store,
         bench,
@@ -136,7 +101,7 @@ fn find_updated<B: Eeprom>(
     if !are_columns(&choice.object, changes) {
         return refused(StatusWord::NOT_FOUND);
     }
-    let Some(slot) = find_row(store, bench, cursor, index, *is_found, choice, room)? else {
+    let Some(slot) = find_row(tables, bench, cursor, *is_found, choice, room)? else {
         return refused(StatusWord::RECORD_NOT_FOUND);
     };
     let limit = store.row_limit();

@@ -39,27 +39,6 @@ impl Wanted<Object> for Named {
     }
 }
 
-/// Finds the object of a stamp.
-pub fn find_stamp<B: Eeprom>(
-    store: &Store,
-    bench: &mut B,
-    side: Side,
-    stamp: u32,
-) -> Result<Option<Found<Object>>, EepromFault>
-    requires over { IsOver store.now (B.chip bench.old) }
-    ensures there { IfOk result (λ found. IfSome found (λ found. found.slot < store.now.chains.cells)) }
-    ensures at { IfOk result (λ found. IfSome found (λ found. IfSome (slots_of store.now side (B.chip bench.old))
-        (λ slots. Some found.value ≡ at_slot object_kind found.slot slots))) }
-    ensures found { IfOk result (λ found. IfSome (slots_of store.now side (B.chip bench.old))
-        (λ slots. Rises object_kind.key (listed object_kind slots) → option_map (λ found. found.value) found ≡ object_stamped (listed object_kind slots) stamp)) }
-    ensures octets_read { IfOk result (λ _. IfSome (slots_of store.now side (B.chip bench.old))
-        (λ slots. Becomes (RisesAtMost (cell_size * cells_tagged object_kind (Some (by.Stamp stamp)) slots)) (B.octets_read bench.old) (B.octets_read bench.new))) }
-    ensures rises { IfOk result (λ _. NeverFalls (slots_of store.now side (B.chip bench.old)) (B.octets_read bench.old) (B.octets_read bench.new)) }
-    ensures frame { Reads each_error B.chip B.faults bench.old bench.new result }
-{
-    record_table::find_stamp(store, bench, side, stamp)
-}
-
 /// Finds the object of a stamp and reads it into a place, where there is one: its slot is answered. Where there is none the place is empty.
 pub fn find_stamp_into<B: Eeprom>(
     store: &Store,
@@ -81,31 +60,6 @@ pub fn find_stamp_into<B: Eeprom>(
     ensures frame { Reads each_error B.chip B.faults bench.old bench.new result }
 {
     record_table::find_stamp_into(store, bench, side, stamp, place)
-}
-
-/// Finds the object of a name: of several that of the lowest slot.
-pub fn find_name<B: Eeprom>(
-    store: &Store,
-    bench: &mut B,
-    side: Side,
-    name: Name,
-) -> Result<Option<Found<Object>>, EepromFault>
-    requires over { IsOver store.now (B.chip bench.old) }
-    ensures there { IfOk result (λ found. IfSome found (λ found. found.slot < store.now.chains.cells)) }
-    ensures at { IfOk result (λ found. IfSome found (λ found. IfSome (slots_of store.now side (B.chip bench.old))
-        (λ slots. Some found.value ≡ at_slot object_kind found.slot slots))) }
-    ensures some { IfOk result (λ found. IfSome (slots_of store.now side (B.chip bench.old))
-        (λ slots. is_some found ≡ list_any (has_name name) (listed object_kind slots))) }
-    ensures first { IfOk result (λ found. IfSome (slots_of store.now side (B.chip bench.old))
-        (λ slots. option_map (λ found. found.value) found ≡ find (has_name name) (in_slots object_kind slots))) }
-    ensures found { IfOk result (λ found. IfSome (slots_of store.now side (B.chip bench.old))
-        (λ slots. count_by (has_name name) (listed object_kind slots) ≤ 1 → option_map (λ found. found.value) found ≡ object_named (listed object_kind slots) name)) }
-    ensures octets_read { IfOk result (λ _. IfSome (slots_of store.now side (B.chip bench.old))
-        (λ slots. Becomes (RisesAtMost (cell_size * cells_tagged object_kind (Some (by.Name (tags.name_tag name))) slots)) (B.octets_read bench.old) (B.octets_read bench.new))) }
-    ensures rises { IfOk result (λ _. NeverFalls (slots_of store.now side (B.chip bench.old)) (B.octets_read bench.old) (B.octets_read bench.new)) }
-    ensures frame { Reads each_error B.chip B.faults bench.old bench.new result }
-{
-    find_by(store, bench, side, &Named(name))
 }
 
 /// Finds the object of a name and reads it into a place, where there is one: of several that of the lowest slot, which is answered.
@@ -134,24 +88,4 @@ pub fn find_name_into<B: Eeprom>(
     ensures frame { Reads each_error B.chip B.faults bench.old bench.new result }
 {
     find_into(store, bench, side, &Named(name), place)
-}
-
-/// The object of the least greater stamp.
-pub fn next_after<B: Eeprom>(
-    store: &Store,
-    bench: &mut B,
-    side: Side,
-    stamp: u32,
-) -> Result<Option<Found<Object>>, EepromFault>
-    requires over { IsOver store.now (B.chip bench.old) }
-    ensures there { IfOk result (λ next. IfSome next (λ next. next.slot < store.now.chains.cells)) }
-    ensures at { IfOk result (λ next. IfSome next (λ next. IfSome (slots_of store.now side (B.chip bench.old))
-        (λ slots. Some next.value ≡ at_slot object_kind next.slot slots))) }
-    ensures next { IfOk result (λ next. IfSome (slots_of store.now side (B.chip bench.old))
-        (λ slots. Rises object_kind.key (listed object_kind slots) → option_map (λ next. next.value) next ≡ find (is_after object_kind.key stamp) (listed object_kind slots))) }
-    ensures octets_read { IfOk result (λ _. IfSome (slots_of store.now side (B.chip bench.old))
-        (λ slots. Becomes (RisesAtMost (cell_size * cells_marked object_kind slots)) (B.octets_read bench.old) (B.octets_read bench.new))) }
-    ensures frame { Reads each_error B.chip B.faults bench.old bench.new result }
-{
-    record_table::next_after(store, bench, side, stamp)
 }

@@ -40,26 +40,6 @@ impl Wanted<Grant> for Pair {
     }
 }
 
-/// Finds the grant of a stamp.
-pub fn find_stamp<B: Eeprom>(
-    store: &Store,
-    bench: &mut B,
-    side: Side,
-    stamp: u32,
-) -> Result<Option<Found<Grant>>, EepromFault>
-    requires over { IsOver store.now (B.chip bench.old) }
-    ensures there { IfOk result (λ found. IfSome found (λ found. found.slot < store.now.chains.cells)) }
-    ensures at { IfOk result (λ found. IfSome found (λ found. IfSome (slots_of store.now side (B.chip bench.old))
-        (λ slots. Some found.value ≡ at_slot grant_kind found.slot slots))) }
-    ensures found { IfOk result (λ found. IfSome (slots_of store.now side (B.chip bench.old))
-        (λ slots. Rises grant_kind.key (listed grant_kind slots) → option_map (λ found. found.value) found ≡ find (has grant_kind.key stamp) (listed grant_kind slots))) }
-    ensures octets_read { IfOk result (λ _. IfSome (slots_of store.now side (B.chip bench.old))
-        (λ slots. Becomes (RisesAtMost (cell_size * cells_tagged grant_kind (Some (by.Stamp stamp)) slots)) (B.octets_read bench.old) (B.octets_read bench.new))) }
-    ensures frame { Reads each_error B.chip B.faults bench.old bench.new result }
-{
-    record_table::find_stamp(store, bench, side, stamp)
-}
-
 /// Finds the grant on an object to one user, or to PUBLIC where that is 0: of several that of the lowest slot.
 pub fn find_pair<B: Eeprom>(
     store: &Store,
@@ -83,24 +63,4 @@ pub fn find_pair<B: Eeprom>(
     ensures frame { Reads each_error B.chip B.faults bench.old bench.new result }
 {
     find_by(store, bench, side, &Pair { object, grantee })
-}
-
-/// The grant of the least greater stamp.
-pub fn next_after<B: Eeprom>(
-    store: &Store,
-    bench: &mut B,
-    side: Side,
-    stamp: u32,
-) -> Result<Option<Found<Grant>>, EepromFault>
-    requires over { IsOver store.now (B.chip bench.old) }
-    ensures there { IfOk result (λ next. IfSome next (λ next. next.slot < store.now.chains.cells)) }
-    ensures at { IfOk result (λ next. IfSome next (λ next. IfSome (slots_of store.now side (B.chip bench.old))
-        (λ slots. Some next.value ≡ at_slot grant_kind next.slot slots))) }
-    ensures next { IfOk result (λ next. IfSome (slots_of store.now side (B.chip bench.old))
-        (λ slots. Rises grant_kind.key (listed grant_kind slots) → option_map (λ next. next.value) next ≡ find (is_after grant_kind.key stamp) (listed grant_kind slots))) }
-    ensures octets_read { IfOk result (λ _. IfSome (slots_of store.now side (B.chip bench.old))
-        (λ slots. Becomes (RisesAtMost (cell_size * cells_marked grant_kind slots)) (B.octets_read bench.old) (B.octets_read bench.new))) }
-    ensures frame { Reads each_error B.chip B.faults bench.old bench.new result }
-{
-    record_table::next_after(store, bench, side, stamp)
 }

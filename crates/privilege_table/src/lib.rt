@@ -5,9 +5,8 @@ mod finding;
 mod privileges;
 mod rights;
 
-pub use finding::{find_pair, find_stamp, next_after};
+pub use finding::find_pair;
 pub use privileges::held;
-pub use record_table::{add, change, remove};
 pub use rights::{
     Privilege, Rights, actor_stamp, find_seen, find_seen_into, is_owned_by, rights_on,
 };

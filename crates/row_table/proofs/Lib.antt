@@ -1,4 +1,7 @@
 pub mod Endings
 pub mod Followed
 pub mod FoundRows
+pub mod RemovedRows
+pub mod RowsChanged
+pub mod RowsLeft
 pub mod RowsMade

@@ -1,20 +1,28 @@
 -- A store with the index of its rows, as one value: when the two stand together, and what an operation leaves of them.
-use Rattle.std.specs.Prelude.{◌≡◌, true, ℕ, ◌+◌, ◌*◌, false, List, Result, IsErrOf, OnOk, is_some, drop}
+use Rattle.std.specs.Prelude.{◌≡◌, true, ℕ, ◌+◌, ◌*◌, ◌≤◌, false, not, List, [], ◌∷◌, count_by, Some, None, Result, IfSome, IsErrOf, OnOk, is_some, drop, slice_index_or}
+use Rattle.std.specs.List.{filter}
 use Rattle.eeprom.specs.Chip.{Chip, Becomes, Keeps, RisesBy}
 use Rattle.eeprom.specs.Fault.{Counts, CountsFaults}
+use Rattle.eeprom.specs.Slots.{without}
 use Rattle.eeprom.specs.StoreOf.{store_of, image_size}
 use Rattle.record_store.specs.Held.{IsOver, contents}
-use Rattle.record_store.specs.Transaction.{begun_from, entries}
+use Rattle.record_store.specs.Transaction.{ChangesWhere, begun_from, entries}
 use Rattle.record_store.specs.Transaction as store
 use Rattle.record_store.specs.declared.side.Side.TheVariants.{Committed, Working}
 use Rattle.scql_base.specs.declared.words.StatusWord.{StatusWord}
 use Rattle.scql_model.specs.Database.{Database}
-use Rattle.scql_model.specs.Edits.{Edit}
-use Rattle.record_table.specs.Listed.{slots_of}
-use Rattle.record_table.specs.Making.{Ends, GoesOn, IsHeld, is_stop_fault}
+use Rattle.scql_base.specs.declared.records.RowRecord.{RowRecord}
+use Rattle.scql_model.specs.Edits.{Edit, removing}
+use Rattle.scql_model.specs.Records.{of_row}
+use Rattle.catalog_codec.specs.Catalog.{row_kind}
+use Rattle.record_table.specs.Listed.{at_slot, slots_of}
+use Rattle.record_table.specs.Making.{Ends, GoesOn, IsHeld, IsValidWith, Makes, is_stop_fault}
+use Rattle.record_table.specs.Swept.{all_without, has_passing}
 use Rattle.record_table.specs.declared.stop.Stop.{Stop}
 use Rattle.record_table.specs.declared.stop.Stop.TheVariants.{Refused, Fault}
 use Rattle.row_index.specs.Index.{Indexes}
+use Rattle.row_index.specs.Places.{is_in_table, place_slot}
+use Rattle.row_table.specs.Found.{is_in}
 use Rattle.row_table.specs.declared.tables.Tables.{Tables}
 
 -- The tables stand over an EEPROM: their store does, their index has the rows of both sides, and both are in a transaction or neither is.
@@ -23,10 +31,10 @@ pub record Stand (tables : Tables) (chip : Chip) : Type 0 where
   pub index : Indexes tables.index tables.store chip
   pub together : tables.index.begun ≡ tables.store.begun
 
--- How an operation ends on the working side of a transaction: `may` is what it asks of the database, and `edits` what it does to it, or its first refusal.
-pub record Ended {S T : Type 0} (chip : S → Chip) (faults : S → ℕ) (may : Database → Type 0) (edits : Database → Result (List Edit) StatusWord) (before after : S) (old new : Tables) (result : Result T Stop) : Type 0 where
+-- How an operation ends on the working side of a transaction: `may` is what it asks of the database, and `edits` says what it does to it, or its first refusal.
+pub record EndedBy {S T : Type 0} (chip : S → Chip) (faults : S → ℕ) (may : Database → Type 0) (edits : Database → Result (List Edit) StatusWord → Type 0) (before after : S) (old new : Tables) (result : Result T Stop) : Type 0 where
   -- The database has the edits; or the first refusal is answered, and nothing was done.
-  pub ends : (db : Database) → IsHeld old.store Working (chip before) db → may db → Ends db (edits db) result old.store new.store (chip before) (chip after)
+  pub ends : (db : Database) → IsHeld old.store Working (chip before) db → may db → (outcome : Result (List Edit) StatusWord) × edits db outcome × Ends db outcome result old.store new.store (chip before) (chip after)
   -- The store goes on, whatever its EEPROM tells,
   pub goes_on : ¬ IsErrOf result Fault → GoesOn old.store new.store (chip before) (chip after)
   -- with an index of its rows, which is in a transaction as it was, and has the committed rows that it had.
@@ -42,6 +50,34 @@ pub record Ended {S T : Type 0} (chip : S → Chip) (faults : S → ℕ) (may : 
   pub behind : Keeps (drop (image_size old.store.chains.cells)) (chip before) (chip after)
   -- A fault of the EEPROM was counted.
   pub cause : CountsFaults is_stop_fault (faults before) (faults after) result
+
+-- so of an operation whose edits the database alone says
+abbrev pub Ended : {S T : Type 0} → (S → Chip) → (S → ℕ) → (Database → Type 0) → (Database → Result (List Edit) StatusWord) → S → S → Tables → Tables → Result T Stop → Type 0
+Ended {S} {T} chip faults may edits before after old new result = EndedBy chip faults may (λ db outcome. outcome ≡ edits db) before after old new result
+
+-- A row is taken out of its slot, in memory alone.
+pub record RemovesRow (slot : ℕ) (old new : Tables) : Type 0 where
+  -- The database is without it, and what is committed stays.
+  pub makes : (chip : Chip) (db : Database) (row : RowRecord) → Stand old chip → IsHeld old.store Working chip db → IfSome (slots_of old.store Working chip) (λ slots. Some row ≡ at_slot row_kind slot slots)
+      → IsValidWith db (removing (of_row row) ∷ []) → Makes db (removing (of_row row) ∷ []) old.store new.store chip chip
+  pub committed : (chip : Chip) → Stand old chip → slots_of new.store Committed chip ≡ slots_of old.store Committed chip
+  pub goes_on : (chip : Chip) → Stand old chip → GoesOn old.store new.store chip chip
+  -- The index is without its place.
+  pub index : (chip : Chip) → Stand old chip → Indexes new.index new.store chip
+  pub places : new.index ≡ record { cells = old.index.cells; begun = true; committed = old.index.committed; working = without place_slot slot old.index.working }
+
+-- All rows of a table are taken out of their slots, in memory alone.
+pub record RemovesRows (table : ℕ) (old new : Tables) : Type 0 where
+  -- No slot has a row of the table, and what is committed stays.
+  pub removed : (chip : Chip) → Stand old chip → IfSome (slots_of old.store Working chip) (λ slots. slots_of new.store Working chip ≡ Some (all_without row_kind (is_in table) slots))
+  pub committed : (chip : Chip) → Stand old chip → slots_of new.store Committed chip ≡ slots_of old.store Committed chip
+  pub goes_on : (chip : Chip) → Stand old chip → GoesOn old.store new.store chip chip
+  -- Only slots of these rows changed, each of which is an entry at most of a commit.
+  pub only : (chip : Chip) → Stand old chip → IfSome (slots_of old.store Working chip) (λ slots. ChangesWhere (λ slot. has_passing row_kind (is_in table) (slice_index_or slots slot None)) old.store new.store)
+  pub entries : (chip : Chip) → Stand old chip → IfSome (slots_of old.store Working chip) (λ slots. entries new.store ≤ entries old.store + count_by (has_passing row_kind (is_in table)) slots)
+  -- The index is without their places.
+  pub index : (chip : Chip) → Stand old chip → Indexes new.index new.store chip
+  pub places : new.index ≡ record { cells = old.index.cells; begun = true; committed = old.index.committed; working = filter (λ place. not (is_in_table table place)) old.index.working }
 
 -- A transaction begins: both sides have what is committed.
 pub record Begins (old new : Tables) : Type 0 where

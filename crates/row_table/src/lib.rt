@@ -1,10 +1,6 @@
-//! The rows of all tables in the slots of a store, found by an index.
+//! A store with the index of its rows, as one value.
 #![tactic(auto)]
 
-mod changing;
-mod finding;
 mod tables;
 
-pub use changing::{add, change, remove};
-pub use finding::{find_stamp, next_after};
 pub use tables::Tables;

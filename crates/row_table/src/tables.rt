@@ -9,11 +9,12 @@ ghost use Rattle.catalog_codec.specs.Kinds.{FitsChain, HaveOtherMarks};
 ghost use Rattle.record_table.specs.Listed.{at_slot, slots_of};
 ghost use Rattle.record_table.specs.Making.{IsHeld, IsValidWith};
 ghost use Rattle.row_index.specs.Index.{is_above};
-ghost use Rattle.row_table.specs.Tables.{Begins, Commits, Ended, RollsBack, Stand};
+ghost use Rattle.row_table.specs.Found.{HasRowLike};
+ghost use Rattle.row_table.specs.Tables.{Begins, Commits, Ended, RemovesRow, RemovesRows, RollsBack, Stand};
 
 use catalog_codec::Counter;
 use eeprom::{Eeprom, EepromFault};
-use record_store::{Found, Store};
+use record_store::{Found, Side, Store};
 use record_table::{Editable, Stop};
 use row_index::RowIndex;
 use scql_base::RowRecord;
@@ -116,5 +117,48 @@ impl Tables {
         ensures { Ended B.chip B.faults (λ db. IsValidWith db (changing (R.any value.now) ∷ [])) (λ db. Ok (changing (R.any value.now) ∷ [])) bench.old bench.new self.old self.new result }
     {
         record_table::change_in_place(&mut self.store, bench, slot, value)
+    }
+
+    /// Puts a row in the place of the one of its stamp and its table, so the index stands as it did. Where there is no room for it nothing is written.
+    pub fn change_row<B: Eeprom>(
+        &mut self,
+        bench: &mut B,
+        slot: u16,
+        row: &RowRecord,
+    ) -> Result<(), Stop>
+        requires begun { IsTrue self.old.store.begun }
+        requires stand { Stand self.old (B.chip bench.old) }
+        requires spelled { FitsChain row_kind row.now }
+        requires there { slot < self.old.store.chains.cells }
+        requires same { IfSome (slots_of self.old.store Working (B.chip bench.old)) (HasRowLike row.now slot) }
+        ensures { Ended B.chip B.faults (λ db. (row_kind.form.fits row.now ≡ true) × IsValidWith db (changing (of_row row.now) ∷ [])) (λ db. Ok (changing (of_row row.now) ∷ []))
+            bench.old bench.new self.old self.new result }
+    {
+        record_table::change_in_place(&mut self.store, bench, slot, row)
+    }
+
+    /// Takes the row out of a slot, and its place out of the index.
+    pub fn remove_row(&mut self, slot: u16)
+        requires begun { IsTrue self.old.store.begun }
+        requires index_begun { IsTrue self.old.index.begun }
+        requires there { slot < self.old.store.chains.cells }
+        ensures { RemovesRow slot self.old self.new }
+    {
+        record_table::remove(&mut self.store, slot);
+        self.index.removed(slot);
+    }
+
+    /// Takes each row of a table out of its slot, and its place out of the index.
+    pub fn remove_rows(&mut self, table: u32)
+        requires begun { IsTrue self.old.store.begun }
+        requires index_begun { IsTrue self.old.index.begun }
+        requires index_cells { self.old.index.cells ≡ self.old.store.chains.cells }
+        ensures { RemovesRows table self.old self.new }
+    {
+        let Tables { store, index } = self;
+        for slot in index.rows_of(Side::Working, table) {
+            record_table::remove(store, *slot);
+        }
+        index.table_removed(table);
     }
 }

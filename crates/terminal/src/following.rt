@@ -40,7 +40,7 @@ impl Room {
     }
 }
 
-/// AfterOutput a piece of output.
+/// Gives a piece of output.
 pub(crate) fn give<L: Desk>(desk: &mut L, octets: &[u8]) -> Result<(), Failure>
     ensures printed { OnOk result (Prints octets.now (L.given desk.old) (L.given desk.new)) }
     ensures cut { OnErr result (IsStart octets.now (L.given desk.old) (L.given desk.new)) }

@@ -80,23 +80,3 @@ pub fn find_name<B: Eeprom>(
 {
     find_by(store, bench, side, &Named(name))
 }
-
-/// The user of the least greater stamp.
-pub fn next_after<B: Eeprom>(
-    store: &Store,
-    bench: &mut B,
-    side: Side,
-    stamp: u32,
-) -> Result<Option<Found<User>>, EepromFault>
-    requires over { IsOver store.now (B.chip bench.old) }
-    ensures there { IfOk result (λ next. IfSome next (λ next. next.slot < store.now.chains.cells)) }
-    ensures at { IfOk result (λ next. IfSome next (λ next. IfSome (slots_of store.now side (B.chip bench.old))
-        (λ slots. Some next.value ≡ at_slot user_kind next.slot slots))) }
-    ensures next { IfOk result (λ next. IfSome (slots_of store.now side (B.chip bench.old))
-        (λ slots. Rises user_kind.key (listed user_kind slots) → option_map (λ next. next.value) next ≡ find (is_after user_kind.key stamp) (listed user_kind slots))) }
-    ensures octets_read { IfOk result (λ _. IfSome (slots_of store.now side (B.chip bench.old))
-        (λ slots. Becomes (RisesAtMost (cell_size * cells_marked user_kind slots)) (B.octets_read bench.old) (B.octets_read bench.new))) }
-    ensures frame { Reads each_error B.chip B.faults bench.old bench.new result }
-{
-    record_table::next_after(store, bench, side, stamp)
-}

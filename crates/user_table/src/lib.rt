@@ -3,8 +3,7 @@
 
 mod finding;
 
-pub use finding::{find_name, find_stamp, next_after};
-pub use record_table::{add, change, remove};
+pub use finding::{find_name, find_stamp};
 
 #[cfg(test)]
 mod tests;

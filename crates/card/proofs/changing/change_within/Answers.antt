@@ -23,6 +23,8 @@ use Rattle.row_index.specs.Index.{Indexes}
 use Rattle.db_read.specs.Scan.{IsRightFor}
 use Rattle.row_table.specs.Tables.{Stand}
 use Rattle.card.specs.Acting.{acting}
+use Rattle.card.specs.Changing.{MayChange}
+use Rattle.card.proofs.Ended.{ends-as}
 use Rattle.card.proofs.CatalogKept.{catalog-kept, catalog-made, same-catalog}
 use Rattle.card.proofs.ChangingOperations.{IsActorOf-acting}
 use Rattle.card.proofs.IndexedStore.{HoldsSome-changed, Indexes-held}
@@ -45,35 +47,36 @@ acts-made g c db held = subst (IsActorOf db) (sym (c.in_ok-actor.ensures.actor d
 fits-made : (g : _) (c : After-make g) (db : Database) → IsHeld c.args.tables.now.store Working (g.B.Eeprom.chip c.args.bench.now) db → FitsCard db.limit c.args.operation.now
 fits-made g c db held = subst (λ (limit : ℕ). FitsCard limit c.args.operation.now) (sym held.limit) c.requires.fits
 
+may-made : (g : _) (c : After-make g) (db : Database) → IsHeld c.args.tables.now.store Working (g.B.Eeprom.chip c.args.bench.now) db → MayChange db c.in_ok-actor.actor c.args.operation.now
+may-made g c db held = record { acts = acts-made g c db held; form = c.requires.formed; fits = fits-made g c db held }
+
 -- It ended as through the cursor that it was given, where that is one of the database,
 ended : (g : _) (c : After-make g) (db : Database) → IsHeld c.args.tables.now.store Working (g.B.Eeprom.chip c.args.bench.now) db → IfSome c.args.cursor.now (IsCursorOf db) → EndsThrough g c db c.args.cursor.now
 ended g c db held of =
-    subst (λ actor. Ends db (edits_of db actor c.args.cursor.now c.args.operation.now) c.make.result c.args.tables.now.store c.make.new.tables.store (g.B.Eeprom.chip c.actor_known.new.bench) (g.B.Eeprom.chip c.make.new.bench))
-    (c.in_ok-actor.ensures.actor db held) (c.make.ensures.ends db (held-made g c db held) of (acts-made g c db held) c.requires.formed (fits-made g c db held))
+    let ends = c.make.ensures.ended.ends db (held-made g c db held) (may-made g c db held) in
+    ends-as db _ _ c.make.result _ _ _ _ (ends.1.given of ∙ ap (λ actor. edits_of db actor c.args.cursor.now c.args.operation.now) (c.in_ok-actor.ensures.actor db held)) ends.2
 
 -- and as through some cursor in any case.
 through : (g : _) (c : After-make g) (db : Database) → IsHeld c.args.tables.now.store Working (g.B.Eeprom.chip c.args.bench.now) db → (cursor : Option Cursor) × EndsThrough g c db cursor
 through g c db held =
-    let ends = c.make.ensures.through db (held-made g c db held) (acts-made g c db held) c.requires.formed (fits-made g c db held) in (
-      ends.0,
-      subst (λ actor. Ends db (edits_of db actor ends.0 c.args.operation.now) c.make.result c.args.tables.now.store c.make.new.tables.store (g.B.Eeprom.chip c.actor_known.new.bench) (g.B.Eeprom.chip c.make.new.bench))
-          (c.in_ok-actor.ensures.actor db held) ends.1,
-    )
+    let ends = c.make.ensures.ended.ends db (held-made g c db held) (may-made g c db held) in
+    let some = ends.1.through in
+    (some.0, ends-as db _ _ c.make.result _ _ _ _ (some.1 ∙ ap (λ actor. edits_of db actor some.0 c.args.operation.now) (c.in_ok-actor.ensures.actor db held)) ends.2)
 
 -- the index stands for what was made, where nothing failed
 followed : (g : _) (c : After-make g) → ¬ IsErrOf c.make.result Fault → Indexes c.make.new.tables.index c.make.new.tables.store (g.B.Eeprom.chip c.make.new.bench)
 followed g c whole =
-    let goes_on = c.make.ensures.goes_on whole in
+    let goes_on = c.make.ensures.ended.goes_on whole in
     Indexes-held c.make.new.tables.index c.make.new.tables.store c.args.tables.now.store Working (g.B.Eeprom.chip c.args.bench.now) (g.B.Eeprom.chip c.make.new.bench) c.requires.works
-    (goes_on.told ∙ ap (λ (chip : Chip). is_some chip.image) c.in_ok-actor.ensures.frame.same) (c.make.ensures.index_cells ∙ (c.requires.stand.index.cells ∙ sym goes_on.cells)) (λ db held.
-    c.make.ensures.index db (held-made g c db held) (acts-made g c db held) c.requires.formed (fits-made g c db held) whole)
+    (goes_on.told ∙ ap (λ (chip : Chip). is_some chip.image) c.in_ok-actor.ensures.frame.same) (c.make.ensures.ended.index_cells ∙ (c.requires.stand.index.cells ∙ sym goes_on.cells)) (λ db held.
+    c.make.ensures.ended.index db (held-made g c db held) (may-made g c db held) whole)
 
 -- so the tables stand
 stood : (g : _) (c : After-make g) → ¬ IsErrOf c.make.result Fault → Stand c.make.new.tables (g.B.Eeprom.chip c.make.new.bench)
 stood g c whole = record {
-  over = (c.make.ensures.goes_on whole).over;
+  over = (c.make.ensures.ended.goes_on whole).over;
   index = followed g c whole;
-  together = c.make.ensures.index_begun ∙ sym ((c.make.ensures.goes_on whole).begun ∙ c.requires.begun);
+  together = c.make.ensures.ended.index_begun ∙ (c.requires.stand.together ∙ sym (c.make.ensures.ended.goes_on whole).begun);
 }
 
 -- what is so of an operation that was done, and of one that was refused
@@ -98,14 +101,14 @@ returns-in-Err-clause-changes g c = λ db held of. IfOk-stop_answer c.in-Err.sto
 pub returns-in-Ok-clause-works : goal.returns-in-Ok-clause-works
 returns-in-Ok-clause-works g c =
     HoldsSome-changed c.make.new.tables.store c.args.tables.now.store Working (g.B.Eeprom.chip c.args.bench.now) (g.B.Eeprom.chip c.make.new.bench) c.requires.works
-    ((c.in-Ok.ensures.goes_on (λ wrong. cc)).told ∙ ap (λ (chip : Chip). is_some chip.image) c.in_ok-actor.ensures.frame.same) (λ db held.
+    ((c.in-Ok.ensures.ended.goes_on (λ wrong. cc)).told ∙ ap (λ (chip : Chip). is_some chip.image) c.in_ok-actor.ensures.frame.same) (λ db held.
     let made = of-ok db _ c.make.result _ c.args.tables.now.store c.make.new.tables.store (g.B.Eeprom.chip c.actor_known.new.bench) (g.B.Eeprom.chip c.make.new.bench) c.in-Ok.is (through g (goal.at.returns-in-Ok-clause-works g c).After-make db held).1 in
     (_, made.2.held))
 
 pub returns-in-Err-clause-works : goal.returns-in-Err-clause-works
 returns-in-Err-clause-works g c = IfOk-stop_answer c.in-Err.stop c.answer.result _ c.answer.ensures (λ word is.
     HoldsSome-changed c.make.new.tables.store c.args.tables.now.store Working (g.B.Eeprom.chip c.args.bench.now) (g.B.Eeprom.chip c.make.new.bench) c.requires.works
-    ((c.in-Err.ensures.goes_on (λ wrong. cc)).told ∙ ap (λ (chip : Chip). is_some chip.image) c.in_ok-actor.ensures.frame.same) (λ db held.
+    ((c.in-Err.ensures.ended.goes_on (λ wrong. cc)).told ∙ ap (λ (chip : Chip). is_some chip.image) c.in_ok-actor.ensures.frame.same) (λ db held.
     let refused = of-refused db _ c.make.result word c.args.tables.now.store c.make.new.tables.store (g.B.Eeprom.chip c.actor_known.new.bench) (g.B.Eeprom.chip c.make.new.bench) (c.in-Err.is ∙ ap Err is) (through g (goal.at.returns-in-Err-clause-works g c).After-make db held).1 in
     (db, subst (λ (store : Held). IsHeld store Working (g.B.Eeprom.chip c.make.new.bench) db) (sym refused.1) (subst (λ (chip : Chip). IsHeld c.args.tables.now.store Working chip db) (sym (refused.2 ∙ c.in_ok-actor.ensures.frame.same)) held))))
 
@@ -138,7 +141,7 @@ pub returns-in-Ok-clause-catalog : goal.returns-in-Ok-clause-catalog
 returns-in-Ok-clause-catalog g c = λ rows.
     let new = g.B.Eeprom.chip c.make.new.bench in
     catalog-kept c.make.new.tables.store c.args.tables.now.store Working new (g.B.Eeprom.chip c.args.bench.now) c.requires.works
-    ((c.in-Ok.ensures.goes_on (λ wrong. cc)).told ∙ ap (λ (chip : Chip). is_some chip.image) c.in_ok-actor.ensures.frame.same) (λ db next held after.
+    ((c.in-Ok.ensures.ended.goes_on (λ wrong. cc)).told ∙ ap (λ (chip : Chip). is_some chip.image) c.in_ok-actor.ensures.frame.same) (λ db next held after.
     let ends = through g (goal.at.returns-in-Ok-clause-catalog g c).After-make db held in
     let made = of-ok db _ c.make.result _ c.args.tables.now.store c.make.new.tables.store (g.B.Eeprom.chip c.actor_known.new.bench) new c.in-Ok.is ends.1 in
     catalog-made c.make.new.tables.store Working new db next (acting db c.args.user) ends.0 c.args.operation.now made.0 rows made.1 made.2.held after)
@@ -148,7 +151,7 @@ returns-in-Err-clause-catalog g c = λ rows. IfOk-stop_answer c.in-Err.stop c.an
     let old = g.B.Eeprom.chip c.args.bench.now in
     let new = g.B.Eeprom.chip c.make.new.bench in
     catalog-kept c.make.new.tables.store c.args.tables.now.store Working new old c.requires.works
-    ((c.in-Err.ensures.goes_on (λ wrong. cc)).told ∙ ap (λ (chip : Chip). is_some chip.image) c.in_ok-actor.ensures.frame.same) (λ db next held after.
+    ((c.in-Err.ensures.ended.goes_on (λ wrong. cc)).told ∙ ap (λ (chip : Chip). is_some chip.image) c.in_ok-actor.ensures.frame.same) (λ db next held after.
     let ends = through g (goal.at.returns-in-Err-clause-catalog g c).After-make db held in
     let refused = of-refused db _ c.make.result word c.args.tables.now.store c.make.new.tables.store (g.B.Eeprom.chip c.actor_known.new.bench) new (c.in-Err.is ∙ ap Err is) ends.1 in
     let back = subst (λ (chip : Chip). IsHeld c.args.tables.now.store Working chip next) (refused.2 ∙ c.in_ok-actor.ensures.frame.same) (subst (λ (store : Held). IsHeld store Working new next) refused.1 after) in

@@ -24,11 +24,11 @@ use Rattle.card_run.proofs.commands.answer_command.Goals as goal
 -- what a card says that replies, and to what its image opens
 replied_text : (g : _) (c : After-give g) (m : Machine) → IsAt c.args.card.now (g.B.Eeprom.chip c.args.bench.now) m → c.text.result.now ≡ (content_effect m (command c.args.octets.now)).text
 replied_text g c m at =
-    c.text.ensures ∙ ap reply_text (c.in-Replied.ensures.step m at refl).reply
+    c.text.ensures ∙ ap reply_text (c.in-Replied.ensures.replied m at refl).step.reply
 
 replied_opens : (g : _) (c : After-give g) (m : Machine) → IsAt c.args.card.now (g.B.Eeprom.chip c.args.bench.now) m
     → (image : List ℕ) → (g.B.Eeprom.chip c.answer.new.bench).image ≡ Some image → Opens image (step m c.args.octets.now).machine.committed
-replied_opens g c m at = Opens-at c.answer.new.self (g.B.Eeprom.chip c.answer.new.bench) (step m c.args.octets.now).machine (c.in-Replied.ensures.ready refl) (c.in-Replied.ensures.step m at refl).at
+replied_opens g c m at = Opens-at c.answer.new.self (g.B.Eeprom.chip c.answer.new.bench) (step m c.args.octets.now).machine (c.in-Replied.ensures.ready refl) (c.in-Replied.ensures.replied m at refl).step.at
 
 replied_moments : (g : _) (c : After-give g) (m : Machine) → IsAt c.args.card.now (g.B.Eeprom.chip c.args.bench.now) m
     → (g.B.Eeprom.chip c.give.new.bench).still.mark ≤ (g.B.Eeprom.chip c.answer.new.bench).still.mark + length c.text.result.now
@@ -134,7 +134,7 @@ returns-in-Err-clause-behind g c = mute_behind g (goal.at.returns-in-Err-clause-
 -- the card is as it was, while its reply goes out
 pub returns-in_ok-give-in-Replied-clause-at : goal.returns-in_ok-give-in-Replied-clause-at
 returns-in_ok-give-in-Replied-clause-at g c = λ m at.
-    IsAt-given c.answer.new.self (g.B.Eeprom.chip c.answer.new.bench) (g.B.Eeprom.chip c.give.new.bench) c.give.ensures.image (step m c.args.octets.now).machine (c.in-Replied.ensures.step m at refl).at
+    IsAt-given c.answer.new.self (g.B.Eeprom.chip c.answer.new.bench) (g.B.Eeprom.chip c.give.new.bench) c.give.ensures.image (step m c.args.octets.now).machine (c.in-Replied.ensures.replied m at refl).step.at
 
 pub returns-in_ok-give-in-Replied-clause-ready : goal.returns-in_ok-give-in-Replied-clause-ready
 returns-in_ok-give-in-Replied-clause-ready g c =

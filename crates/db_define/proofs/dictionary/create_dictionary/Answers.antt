@@ -1,18 +1,27 @@
--- A dictionary is made, and the index stands still.
-use Rattle.std.proofs.Common.{sym, ap, subst, ◌∙◌}
-use Rattle.scql_model.specs.Defining.{object_created}
-use Rattle.record_table.specs.Making.{Ends}
-use Rattle.db_define.proofs.IndexKept.{Indexes-ended}
-use Rattle.db_define.proofs.ObjectMade.{valid-dictionary}
+-- The new dictionary is the model's, and so is the database with it.
+use Rattle.std.proofs.Common.{rules, refl, sym, ap, ◌∙◌}
+use Rattle.scql_base.specs.declared.records.ObjectKind.TheVariants.{Dictionary}
+use Rattle.scql_model.specs.Creating.{actor_stamp}
+use Rattle.scql_model.specs.Defining.{new_object, object_created}
+use Rattle.record_table.proofs.Ending.{Ends-stopped}
+use Rattle.row_table.proofs.Endings.{Ended-after, Ended-before}
+use Rattle.db_define.proofs.ObjectMade.{creates, creates-not, of-anew, valid-dictionary}
 use Rattle.db_define.proofs.dictionary.create_dictionary.Goals as goal
 
-pub returns-clause-ends : goal.returns-clause-ends
-returns-clause-ends g c = λ db held acts form.
-    let is = ap (object_created db c.args.actor c.args.name) c.dictionary_of-dictionary.ensures.dictionary in
-    subst (λ outcome. Ends db outcome c.create_object.result c.args.store.now c.create_object.new.store (g.B.Eeprom.chip c.args.bench.now) (g.B.Eeprom.chip c.create_object.new.bench)) is
-    (c.create_object.ensures.ends db held (λ edits made. valid-dictionary db c.args.actor c.args.name c.args.subject edits held.valid acts form (sym is ∙ made)))
+pub returns-then-not-makes_objects : goal.returns-then-not-makes_objects
+returns-then-not-makes_objects g c = Ended-before c.requires.stand refl (search rules) (λ db held may.
+    rw c.refused.ensures (creates-not db c.args.actor c.args.name (Dictionary c.args.subject) (sym c.makes_objects.ensures ∙ c.if-not-makes_objects.true), refl, refl))
 
-pub returns-clause-index : goal.returns-clause-index
-returns-clause-index g c = λ db held acts form.
-    Indexes-ended c.args.index.now db _ c.create_object.result c.args.store.now c.create_object.new.store (g.B.Eeprom.chip c.args.bench.now) (g.B.Eeprom.chip c.create_object.new.bench) c.requires.index
-    (returns-clause-ends g c db held acts form) c.create_object.ensures.rows c.create_object.ensures.goes_on
+pub returns-in_err-counter : goal.returns-in_err-counter
+returns-in_err-counter g c = Ended-before c.requires.stand c.in_err-counter.ensures.frame.same (search rules) (λ db held may.
+    let is = creates db c.args.actor c.args.name (Dictionary c.args.subject) (sym c.makes_objects.ensures ∙ c.if-not-makes_objects.false) in
+    rw (sym is) (Ends-stopped (Unit {0}) db _ c.from_residual.result c.in_err-counter.field-0.0 _ _ _ _ c.from_residual.ensures.1
+    (c.in_err-counter.ensures.refused db (new_object db c.args.actor c.args.name (Dictionary c.args.subject)) held refl)))
+
+pub returns : goal.returns
+returns g c = Ended-after c.make.ensures c.in_ok-counter.ensures.frame.same c.in_ok-counter.ensures.frame.counts.1 (λ db held may.
+    let asked = new_object db c.args.actor c.args.name (Dictionary c.args.subject) in
+    let next = ap (λ counter. counter.value) c.counter.view_is ∙ c.in_ok-counter.ensures.next db held in
+    let same = c.new_dictionary-dictionary.ensures.dictionary ∙ ap (λ stamp. record { stamp = stamp; name = c.args.name; owner = actor_stamp c.args.actor; kind = Dictionary c.args.subject }) next in
+    of-anew db (object_created db c.args.actor c.args.name (Dictionary c.args.subject)) asked c.new_dictionary-dictionary.result (creates db c.args.actor c.args.name (Dictionary c.args.subject) (sym c.makes_objects.ensures ∙ c.if-not-makes_objects.false))
+    (c.in_ok-counter.ensures.free db held) refl same (λ edits is. valid-dictionary db c.args.actor c.args.name c.args.subject edits held.valid may.0 may.1 is))

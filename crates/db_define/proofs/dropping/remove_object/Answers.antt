@@ -1,7 +1,8 @@
 -- The object's slot is emptied, and then those of the grants on it.
 use Rattle.std.proofs.Common.{◌∙◌}
 use Rattle.record_table.proofs.SweptSlots.{emptied-told}
-use Rattle.db_define.proofs.ObjectLeft.{committed-told, granted-entries, granted-only, granted-told}
+use Rattle.row_table.proofs.RowsChanged.{committed-emptied}
+use Rattle.db_define.proofs.ObjectLeft.{granted-entries, granted-only, granted-told}
 use Rattle.db_define.proofs.dropping.remove_object.Goals as goal
 
 pub returns-clause-removed : goal.returns-clause-removed
@@ -13,7 +14,7 @@ returns-clause-removed g c =
 
 pub returns-clause-committed : goal.returns-clause-committed
 returns-clause-committed g c =
-    c.in_ok-remove_each.ensures.committed ∙ committed-told c.args.store.now c.remove.new.store (g.B.Eeprom.chip c.args.bench.now) c.args.slot c.requires.over.stands c.remove.ensures.removed
+    c.in_ok-remove_each.ensures.committed ∙ committed-emptied c.args.store.now c.remove.new.store (g.B.Eeprom.chip c.args.bench.now) c.args.slot c.requires.over.stands c.remove.ensures.removed
 
 pub returns-clause-entries : goal.returns-clause-entries
 returns-clause-entries g c =

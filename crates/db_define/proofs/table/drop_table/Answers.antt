@@ -1,33 +1,46 @@
 -- The table goes with the grants on it, and then its rows, which the index follows.
-use Rattle.std.proofs.Common.{◌∙◌}
-use Rattle.db_define.proofs.IndexKept.{Indexes-ungranted}
+use Rattle.std.proofs.Common.{rules, refl, sym, ap, ◌∙◌}
+use Rattle.record_table.proofs.MadeLeft.{of-told}
+use Rattle.row_index.specs.Index.{Index}
+use Rattle.row_table.specs.Tables.{Stand}
+use Rattle.row_table.specs.declared.tables.Tables.{Tables}
+use Rattle.row_table.proofs.Endings.{EndedBy-in_memory}
+use Rattle.db_define.specs.Dropped.{IsToDrop}
+use Rattle.db_define.specs.declared.dropped.Dropped.TheVariants.{Table}
+use Rattle.db_define.proofs.ObjectLeft.{Indexes-granted}
 use Rattle.db_define.proofs.TableLeft.{Makes-table_dropped, dropping_edits}
 use Rattle.db_define.proofs.table.drop_table.Goals as goal
 
-pub returns-clause-ends : goal.returns-clause-ends
-returns-clause-ends g c = λ db held.
+pub returns : goal.returns
+returns g c =
+    let old = c.args.tables.now in
+    let mid : Tables = record { store = c.remove_object.new.store; index = c.args.tables.now.index } in
+    let new = c.remove_rows.new.self in
     let chip = g.B.Eeprom.chip c.args.bench.now in
-    let o = c.in-Some.table in
-    let slot = c.in_ok-slot.slot in
-    let found = c.in_ok-slot.ensures.frame.same in
-    let object = c.in_ok-remove_object.ensures in
+    let table = c.in_ok-table.table in
+    let found = c.in_ok-table.ensures in
+    let gone = c.in_ok-remove_object.ensures in
     let rows = c.remove_rows.ensures in
-    let is = rw c.in-Some.is at (c.in_ok-slot.ensures.found db held) in
-    let left = rw (object.frame.same, found) at object.removed in
-    let committed = rw (object.frame.same, found) at object.committed in
-    let over = rw (object.frame.same, found) at object.over in
-    let stands = Indexes-ungranted c.args.index.now db o slot c.args.store.now c.remove_object.new.store chip held c.requires.index (rw c.in-Some.is at c.in_ok-slot.ensures.at) left object.cells committed in
-    let makes = Makes-table_dropped db c.args.actor c.args.name o slot c.args.store.now c.remove_object.new.store c.remove_rows.new.store chip held is (rw c.in-Some.is at c.in_ok-slot.ensures.at) left
-    (rows.removed chip over stands) (rows.cells ∙ object.cells) (rows.rows ∙ object.rows) (rows.committed chip over ∙ committed) (rw found at object.entries) (rows.entries chip stands)
-    (rw found at object.only) (rows.only chip stands) in
-    (dropping_edits db o, is, rw (object.frame.same, found) makes)
-
-pub returns-clause-index : goal.returns-clause-index
-returns-clause-index g c = λ db held fine.
-    let chip = g.B.Eeprom.chip c.args.bench.now in
-    let found = c.in_ok-slot.ensures.frame.same in
-    let object = c.in_ok-remove_object.ensures in
-    let over = rw (object.frame.same, found) at object.over in
-    let stands = Indexes-ungranted c.args.index.now db c.in-Some.table c.in_ok-slot.slot c.args.store.now c.remove_object.new.store chip held c.requires.index (rw c.in-Some.is at c.in_ok-slot.ensures.at)
-    (rw (object.frame.same, found) at object.removed) object.cells (rw (object.frame.same, found) at object.committed) in
-    rw (object.frame.same, found) (c.remove_rows.ensures.index chip over stands)
+    let left = rw (gone.frame.same, found.frame.same) at gone.removed in
+    let committed = rw (gone.frame.same, found.frame.same) at gone.committed in
+    let stand : Stand mid chip = record {
+      over = rw (gone.frame.same, found.frame.same) at gone.over;
+      index = Indexes-granted old.index Table c.args.actor c.args.name table old.store mid.store chip c.requires.stand.over.stands c.requires.stand.index found.found left gone.cells committed;
+      together = c.requires.stand.together ∙ sym gone.begun;
+    } in
+    let goes_on = rows.goes_on chip stand in
+    EndedBy-in_memory (gone.frame.same ∙ found.frame.same) (search rules) (λ db held any.
+    let there = of-told old.store chip held.slots (IsToDrop Table old.store chip c.args.actor c.args.name table) held.told found.found in (
+      dropping_edits db there.object,
+      sym (there.drops db held),
+      Makes-table_dropped db c.args.actor c.args.name table old.store mid.store new.store chip held there left (rows.removed chip stand) (goes_on.cells ∙ gone.cells) (goes_on.rows ∙ gone.rows) (rows.committed chip stand ∙ committed)
+          (rw found.frame.same at gone.entries) (rows.entries chip stand) (rw found.frame.same at gone.only) (rows.only chip stand),
+    ))
+    (record { begun = goes_on.begun ∙ gone.begun; cells = goes_on.cells ∙ gone.cells; rows = goes_on.rows ∙ gone.rows; told = refl; over = goes_on.over })
+    (rows.committed chip stand ∙ committed)
+    (record {
+      index = λ db held any. rows.index chip stand;
+      cells = ap (λ (index : Index). index.cells) rows.places;
+      committed = ap (λ (index : Index). index.committed) rows.places;
+      begun = ap (λ (index : Index). index.begun) rows.places ∙ sym (c.requires.stand.together ∙ c.requires.begun);
+    })

@@ -1,29 +1,30 @@
--- The view is made, and the index stands still.
-use Rattle.std.proofs.Common.{sym, subst, ◌∙◌}
+-- The new view is the model's, and so is the database with it.
+use Rattle.std.proofs.Common.{rules, refl, sym, ap, subst, ◌∙◌}
 use Rattle.record_store.specs.declared.side.Side.TheVariants.{Working}
-use Rattle.scql_model.specs.Defining.{view_created}
-use Rattle.record_table.specs.Making.{Ends, IsHeld}
-use Rattle.row_index.specs.Index.{Indexes}
-use Rattle.db_define.proofs.IndexKept.{Indexes-ended}
+use Rattle.scql_base.specs.declared.records.ObjectKind.TheVariants.{View}
+use Rattle.scql_model.specs.Creating.{actor_stamp}
+use Rattle.scql_model.specs.Defining.{new_object, view_created}
+use Rattle.scql_model.specs.ReadingCommands.{wanted_of}
+use Rattle.record_table.specs.Making.{IsHeld}
+use Rattle.record_table.proofs.Ending.{Ends-stopped}
+use Rattle.row_table.proofs.Endings.{Ended-after, Ended-before}
+use Rattle.db_define.proofs.ObjectMade.{of-anew}
 use Rattle.db_define.proofs.ViewMade.{valid-view}
 use Rattle.db_define.proofs.view.create_view.Goals as goal
 
-pub returns-clause-ends : goal.returns-clause-ends
-returns-clause-ends g c = λ db held acts form.
-    let is = c.in_ok-view.ensures.found db c.args.name held in
-    let same = c.in_ok-view.ensures.frame.same in
-    let there = subst (λ chip. IsHeld c.args.store.now Working chip db) (sym same) held in
-    let ends = c.add_named.ensures.ends db there (λ edits made.
-    valid-view db c.args.actor c.args.name c.args.base c.args.columns.now c.args.conditions.now edits held.valid acts form c.requires.short (sym is ∙ made)) in
-    subst (λ chip. Ends db (view_created db c.args.actor c.args.name c.args.base c.args.columns.now c.args.conditions.now) c.add_named.result c.args.store.now c.add_named.new.store chip (g.B.Eeprom.chip c.add_named.new.bench)) same
-    (subst (λ outcome. Ends db outcome c.add_named.result c.args.store.now c.add_named.new.store (g.B.Eeprom.chip c.find_view.new.bench) (g.B.Eeprom.chip c.add_named.new.bench)) is ends)
+pub returns-in_err-counter : goal.returns-in_err-counter
+returns-in_err-counter g c = Ended-before c.requires.stand (c.in_err-counter.ensures.frame.same ∙ c.in_ok-base.ensures.frame.same) (search rules) (λ db held may.
+    let kind = View c.in_ok-base.base.stamp (wanted_of c.in_ok-base.base.columns c.args.columns.now) c.args.conditions.now in
+    let is = c.in_ok-base.ensures.found db c.args.name held in
+    let there = subst (λ chip. IsHeld c.args.tables.now.store Working chip db) (sym c.in_ok-base.ensures.frame.same) held in
+    rw (sym is) (Ends-stopped (Unit {0}) db _ c.from_residual-in_err-counter.result c.in_err-counter.field-0.0 _ _ _ _ c.from_residual-in_err-counter.ensures.1
+    (rw c.in_ok-base.ensures.frame.same at (c.in_err-counter.ensures.refused db (new_object db c.args.actor c.args.name kind) there refl))))
 
-pub returns-clause-index : goal.returns-clause-index
-returns-clause-index g c = λ db held acts form.
-    let is = c.in_ok-view.ensures.found db c.args.name held in
-    let same = c.in_ok-view.ensures.frame.same in
-    let there = subst (λ chip. IsHeld c.args.store.now Working chip db) (sym same) held in
-    let ends = c.add_named.ensures.ends db there (λ edits made.
-    valid-view db c.args.actor c.args.name c.args.base c.args.columns.now c.args.conditions.now edits held.valid acts form c.requires.short (sym is ∙ made)) in
-    Indexes-ended c.args.index.now db _ c.add_named.result c.args.store.now c.add_named.new.store (g.B.Eeprom.chip c.find_view.new.bench) (g.B.Eeprom.chip c.add_named.new.bench)
-    (subst (λ chip. Indexes c.args.index.now c.args.store.now chip) (sym same) c.requires.index) ends c.add_named.ensures.rows c.add_named.ensures.goes_on
+pub returns : goal.returns
+returns g c = Ended-after c.make.ensures (c.in_ok-counter.ensures.frame.same ∙ c.in_ok-base.ensures.frame.same) (c.in_ok-counter.ensures.frame.counts.1 ∙ c.in_ok-base.ensures.frame.counts.1) (λ db held may.
+    let kind = View c.in_ok-base.base.stamp (wanted_of c.in_ok-base.base.columns c.args.columns.now) c.args.conditions.now in
+    let there = subst (λ chip. IsHeld c.args.tables.now.store Working chip db) (sym c.in_ok-base.ensures.frame.same) held in
+    let next = ap (λ counter. counter.value) c.counter.view_is ∙ c.in_ok-counter.ensures.next db there in
+    let same = c.new_view-view.ensures.view ∙ ap (λ stamp. record { stamp = stamp; name = c.args.name; owner = actor_stamp c.args.actor; kind = kind }) next in
+    of-anew db (view_created db c.args.actor c.args.name c.args.base c.args.columns.now c.args.conditions.now) (new_object db c.args.actor c.args.name kind) c.new_view-view.result (c.in_ok-base.ensures.found db c.args.name held)
+    (c.in_ok-counter.ensures.free db there) refl same (λ edits is. valid-view db c.args.actor c.args.name c.args.base c.args.columns.now c.args.conditions.now edits held.valid may.0 may.1 c.requires.short is))

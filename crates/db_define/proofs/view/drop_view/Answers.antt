@@ -1,24 +1,28 @@
 -- The object goes with the grants on it, and the index stands still.
-use Rattle.db_define.proofs.IndexKept.{Indexes-ungranted}
-use Rattle.db_define.proofs.ObjectLeft.{Makes-view_dropped}
+use Rattle.std.proofs.Common.{rules, refl, ◌∙◌}
 use Rattle.scql_model.specs.Defining.{removing_object}
+use Rattle.record_table.proofs.MadeLeft.{of-told}
+use Rattle.row_table.proofs.Endings.{Ended-in_memory}
+use Rattle.db_define.specs.Dropped.{IsToDrop}
+use Rattle.db_define.specs.declared.dropped.Dropped.TheVariants.{View}
+use Rattle.db_define.proofs.ObjectLeft.{KeepsRows-granted, Makes-view_dropped}
 use Rattle.db_define.proofs.view.drop_view.Goals as goal
 
-pub returns-clause-ends : goal.returns-clause-ends
-returns-clause-ends g c = λ db held.
+pub returns : goal.returns
+returns g c =
+    let old = c.args.tables.now.store in
+    let new = c.remove_object.new.store in
     let chip = g.B.Eeprom.chip c.args.bench.now in
-    let o = c.in-Some.view in
-    let found = c.in_ok-slot.ensures.frame.same in
-    let object = c.in_ok-remove_object.ensures in
-    let is = rw c.in-Some.is at (c.in_ok-slot.ensures.found db held) in
-    let makes = Makes-view_dropped db c.args.actor c.args.name o c.in_ok-slot.slot c.args.store.now c.remove_object.new.store chip held is (rw c.in-Some.is at c.in_ok-slot.ensures.at)
-    (rw (object.frame.same, found) at object.removed) object.cells object.rows (rw (object.frame.same, found) at object.committed) (rw found at object.entries) (rw found at object.only) in
-    (removing_object db o, is, rw (object.frame.same, found) makes)
-
-pub returns-clause-index : goal.returns-clause-index
-returns-clause-index g c = λ db held fine.
-    let chip = g.B.Eeprom.chip c.args.bench.now in
-    let found = c.in_ok-slot.ensures.frame.same in
-    let object = c.in_ok-remove_object.ensures in
-    rw (object.frame.same, found) (Indexes-ungranted c.args.index.now db c.in-Some.view c.in_ok-slot.slot c.args.store.now c.remove_object.new.store chip held c.requires.index (rw c.in-Some.is at c.in_ok-slot.ensures.at)
-    (rw (object.frame.same, found) at object.removed) object.cells (rw (object.frame.same, found) at object.committed))
+    let view = c.in_ok-view.view in
+    let found = c.in_ok-view.ensures in
+    let gone = c.in_ok-remove_object.ensures in
+    let left = rw (gone.frame.same, found.frame.same) at gone.removed in
+    let committed = rw (gone.frame.same, found.frame.same) at gone.committed in
+    Ended-in_memory c.requires.stand (gone.frame.same ∙ found.frame.same) (search rules) refl (λ db held any.
+    let there = of-told old chip held.slots (IsToDrop View old chip c.args.actor c.args.name view) held.told found.found in (
+      removing_object db there.object,
+      there.drops db held,
+      Makes-view_dropped db c.args.actor c.args.name view old new chip held there left gone.cells gone.rows committed (rw found.frame.same at gone.entries) (rw found.frame.same at gone.only),
+    ))
+    (record { begun = gone.begun; cells = gone.cells; rows = gone.rows; told = refl; over = rw (gone.frame.same, found.frame.same) at gone.over })
+    (KeepsRows-granted View c.args.actor c.args.name view old new chip c.requires.stand.over.stands found.found left) committed

@@ -1,5 +1,5 @@
 -- The table that is seen and takes the row, or the first refusal.
-use Rattle.std.proofs.Common.{◌≡◌, true, Some, None, refl, sym, ap, subst, ◌∙◌}
+use Rattle.std.proofs.Common.{◌≡◌, true, Some, None, sym, ap, subst, ◌∙◌}
 use Rattle.std.specs.Prelude.{cond}
 use Rattle.record_store.specs.declared.side.Side.TheVariants.{Working}
 use Rattle.scql_model.specs.Database.{Database}
@@ -22,53 +22,37 @@ seen g c db held sees =
     let o = c.in-Some.object in
     sym (ap (λ b. cond b (Some o) None) sees) ∙ seen-held c.args.store.now Working (g.B.Eeprom.chip c.args.bench.now) db c.args.actor c.args.name (Some o) held (rw c.in-Some.is at c.in_ok-find_name_into.ensures.found)
 
-pub returns-in_default-clause-refused : goal.returns-in_default-clause-refused
-returns-in_default-clause-refused g c = λ db held.
-    rw c.refused.ensures (
-      inserts-none db c.args.actor c.args.name c.args.row.now (seen-held c.args.store.now Working (g.B.Eeprom.chip c.args.bench.now) db c.args.actor c.args.name None held (rw c.in_default.is at c.in_ok-find_name_into.ensures.found)),
-      refl,
-      c.in_ok-find_name_into.ensures.frame.same,
-    )
+pub returns-in_default-clause-found : goal.returns-in_default-clause-found
+returns-in_default-clause-found g c = λ db held.
+    rw c.refused.ensures (inserts-none db c.args.actor c.args.name c.args.row.now (seen-held c.args.store.now Working (g.B.Eeprom.chip c.args.bench.now) db c.args.actor c.args.name None held (rw c.in_default.is at c.in_ok-find_name_into.ensures.found)))
 
-pub returns-then-not-see-clause-refused : goal.returns-then-not-see-clause-refused
-returns-then-not-see-clause-refused g c = λ db held.
+pub returns-then-not-see-clause-found : goal.returns-then-not-see-clause-found
+returns-then-not-see-clause-found g c = λ db held.
     let o = c.in-Some.object in
-    let w = (goal.at.returns-then-not-see-clause-refused g c).After-see in
+    let w = (goal.at.returns-then-not-see-clause-found g c).After-see in
     let hidden = (rights g w db held).appears ∙ (sym c.see.ensures ∙ c.if-not-see.true) in
     let none = sym (ap (λ b. cond b (Some o) None) hidden) ∙ seen-held c.args.store.now Working (g.B.Eeprom.chip c.args.bench.now) db c.args.actor c.args.name (Some o) held (rw c.in-Some.is at c.in_ok-find_name_into.ensures.found) in
-    rw c.refused-then-not-see.ensures (inserts-none db c.args.actor c.args.name c.args.row.now none, refl, c.in_ok-rights.ensures.frame.same ∙ c.in_ok-find_name_into.ensures.frame.same)
+    rw c.refused-then-not-see.ensures (inserts-none db c.args.actor c.args.name c.args.row.now none)
 
-pub returns-then-not-is_table-clause-refused : goal.returns-then-not-is_table-clause-refused
-returns-then-not-is_table-clause-refused g c = λ db held.
-    let w = (goal.at.returns-then-not-is_table-clause-refused g c).After-see in
+pub returns-then-not-is_table-clause-found : goal.returns-then-not-is_table-clause-found
+returns-then-not-is_table-clause-found g c = λ db held.
+    let w = (goal.at.returns-then-not-is_table-clause-found g c).After-see in
     let sees = (rights g w db held).appears ∙ (sym c.see.ensures ∙ c.if-not-see.false) in
-    rw c.refused-then-not-is_table.ensures (
-      inserts-other db c.args.actor c.args.name c.args.row.now c.in-Some.object (seen g w db held sees) (sym c.is_table.ensures ∙ c.if-not-is_table.true),
-      refl,
-      c.in_ok-rights.ensures.frame.same ∙ c.in_ok-find_name_into.ensures.frame.same,
-    )
+    rw c.refused-then-not-is_table.ensures (inserts-other db c.args.actor c.args.name c.args.row.now c.in-Some.object (seen g w db held sees) (sym c.is_table.ensures ∙ c.if-not-is_table.true))
 
-pub returns-then-not-have-clause-refused : goal.returns-then-not-have-clause-refused
-returns-then-not-have-clause-refused g c = λ db held.
-    let w = (goal.at.returns-then-not-have-clause-refused g c).After-see in
+pub returns-then-not-have-clause-found : goal.returns-then-not-have-clause-found
+returns-then-not-have-clause-found g c = λ db held.
+    let w = (goal.at.returns-then-not-have-clause-found g c).After-see in
     let sees = (rights g w db held).appears ∙ (sym c.see.ensures ∙ c.if-not-see.false) in
-    rw c.refused-then-not-have.ensures (
-      inserts-foreign db c.args.actor c.args.name c.args.row.now c.in-Some.object (seen g w db held sees) (sym c.is_table.ensures ∙ c.if-not-is_table.false) ((rights g w db held).holds Insert ∙ (sym c.have.ensures ∙ c.if-not-have.true)),
-      refl,
-      c.in_ok-rights.ensures.frame.same ∙ c.in_ok-find_name_into.ensures.frame.same,
-    )
+    rw c.refused-then-not-have.ensures (inserts-foreign db c.args.actor c.args.name c.args.row.now c.in-Some.object (seen g w db held sees) (sym c.is_table.ensures ∙ c.if-not-is_table.false) ((rights g w db held).holds Insert ∙ (sym c.have.ensures ∙ c.if-not-have.true)))
 
-pub returns-then-len-column_count-clause-refused : goal.returns-then-len-column_count-clause-refused
-returns-then-len-column_count-clause-refused g c = λ db held.
-    let w = (goal.at.returns-then-len-column_count-clause-refused g c).After-see in
+pub returns-then-len-column_count-clause-found : goal.returns-then-len-column_count-clause-found
+returns-then-len-column_count-clause-found g c = λ db held.
+    let w = (goal.at.returns-then-len-column_count-clause-found g c).After-see in
     let sees = (rights g w db held).appears ∙ (sym c.see.ensures ∙ c.if-not-see.false) in
     let table = sym c.is_table.ensures ∙ c.if-not-is_table.false in
-    rw c.refused-then-len-column_count.ensures (
-      inserts-misfit db c.args.actor c.args.name c.args.row.now c.in-Some.object (seen g w db held sees) table ((rights g w db held).holds Insert ∙ (sym c.have.ensures ∙ c.if-not-have.false))
-          (λ same. c.if-len-column_count.true (c.len.ensures.count ∙ same ∙ sym (c.column_count.ensures table))),
-      refl,
-      c.in_ok-rights.ensures.frame.same ∙ c.in_ok-find_name_into.ensures.frame.same,
-    )
+    rw c.refused-then-len-column_count.ensures (inserts-misfit db c.args.actor c.args.name c.args.row.now c.in-Some.object (seen g w db held sees) table ((rights g w db held).holds Insert ∙ (sym c.have.ensures ∙ c.if-not-have.false))
+    (λ same. c.if-len-column_count.true (c.len.ensures.count ∙ same ∙ sym (c.column_count.ensures table))))
 
 pub returns-clause-found : goal.returns-clause-found
 returns-clause-found g c = λ db held.

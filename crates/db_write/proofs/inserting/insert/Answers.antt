@@ -1,12 +1,17 @@
 -- The new row is the model's, and so is the database with it.
-use Rattle.std.proofs.Common.{Ok, sym, ap, subst, ◌∙◌}
+use Rattle.std.proofs.Common.{rules, Ok, sym, ap, subst, ◌∙◌}
 use Rattle.record_store.specs.declared.side.Side.TheVariants.{Working}
 use Rattle.scql_model.specs.Edits.{making}
 use Rattle.scql_model.specs.Records.{of_row}
 use Rattle.record_table.specs.Making.{IsHeld, IsValidWith}
-use Rattle.row_table.proofs.Endings.{Ended-after}
+use Rattle.row_table.proofs.Endings.{Ended-after, Ended-before}
+use Rattle.db_write.proofs.ReachedThrough.{Ends-before}
 use Rattle.db_write.proofs.RowInserted.{valid-inserted}
 use Rattle.db_write.proofs.inserting.insert.Goals as goal
+
+pub returns-in_err-table : goal.returns-in_err-table
+returns-in_err-table g c = Ended-before c.requires.stand c.in_err-table.ensures.frame.same (search rules) (λ db held may.
+    Ends-before db _ c.from_residual.result c.in_err-table.field-0.0 c.args.tables.now.store _ _ c.from_residual.ensures.1 (c.in_err-table.ensures.found db held) c.in_err-table.ensures.frame.same)
 
 pub returns : goal.returns
 returns g c = Ended-after c.make_row.ensures (c.in_ok-counter.ensures.frame.same ∙ c.in_ok-table.ensures.frame.same) (c.in_ok-counter.ensures.frame.counts.1 ∙ c.in_ok-table.ensures.frame.counts.1) (λ db held may.

@@ -1,132 +1,111 @@
 -- The row that the cursor reaches, after the changes, or the first refusal.
-use Rattle.std.proofs.Common.{Option, Some, refl, sym, subst, ◌∙◌}
-use Rattle.std.specs.Prelude.{IfSome}
+use Rattle.std.proofs.Common.{◌≡◌, List, [], ◌∷◌, Option, Some, None, Result, Ok, Err, refl, sym, subst, ◌∙◌}
 use Rattle.record_store.specs.declared.side.Side.TheVariants.{Working}
+use Rattle.scql_base.specs.Words.{conditions_not_satisfied, not_found, record_not_found, wrong_data}
 use Rattle.scql_base.specs.declared.cursor.Cursor.{Cursor}
-use Rattle.scql_base.specs.declared.cursor.Place.TheVariants.{End}
-use Rattle.scql_model.specs.Cursors.{IsCursorOf}
+use Rattle.scql_base.specs.declared.words.StatusWord.{StatusWord}
 use Rattle.scql_model.specs.Database.{Database}
+use Rattle.scql_model.specs.Edits.{Edit, changing}
+use Rattle.scql_model.specs.Records.{of_row}
+use Rattle.scql_model.specs.Rights.{update_privilege}
+use Rattle.scql_model.specs.Writing.{row_updated}
 use Rattle.record_table.specs.Making.{IsHeld}
+use Rattle.record_table.specs.declared.stop.Stop.TheVariants.{Fault}
 use Rattle.db_read.specs.Scan.{Found, IsRight}
-use Rattle.db_write.specs.Reached.{without_conditions}
+use Rattle.db_write.specs.Reached.{IsThrough, without_conditions}
 use Rattle.db_write.proofs.FoundThrough.{right-for}
-use Rattle.db_write.proofs.RowDeleted.{opened-some, opened-without_conditions}
+use Rattle.db_write.proofs.ReachedThrough.{IsReached, IsThrough-found, IsThrough-given, opened-some}
 use Rattle.db_write.proofs.RowUpdated.{Answers-stopped, IsUpdated, fits-kept, named-found, updates-closed, updates-kept, updates-none, updates-not_kept, updates-stopped, updates-unnamed}
 use Rattle.db_write.proofs.updating.find_updated.Goals.{After-record_after}
 use Rattle.db_write.proofs.updating.find_updated.Goals as goal
 
 pub returns-in_default-clause-updated : goal.returns-in_default-clause-updated
-returns-in_default-clause-updated g c = λ db held of. rw c.refused.ensures (updates-closed db c.args.actor c.args.cursor.now c.args.changes.now c.in_default.ensures)
-
-pub returns-in_default-clause-through : goal.returns-in_default-clause-through
-returns-in_default-clause-through g c = λ db held. (c.args.cursor.now, rw c.refused.ensures (updates-closed db c.args.actor c.args.cursor.now c.args.changes.now c.in_default.ensures))
-
-pub returns-in_err-find_written-clause-updated : goal.returns-in_err-find_written-clause-updated
-returns-in_err-find_written-clause-updated g c = λ db held of.
-    Answers-stopped _ _ c.from_residual.result c.in_err-find_written.field-0.0 c.from_residual.ensures.1
-    (updates-stopped db c.args.actor c.args.cursor.now c.args.changes.now c.in-Some.cursor.now c.in_err-find_written.field-0.0 c.in-Some.ensures (c.in_err-find_written.ensures.refused db held))
-
-pub returns-in_err-find_written-clause-through : goal.returns-in_err-find_written-clause-through
-returns-in_err-find_written-clause-through g c = λ db held. (
-  c.args.cursor.now,
-  Answers-stopped _ _ c.from_residual.result c.in_err-find_written.field-0.0 c.from_residual.ensures.1
-      (updates-stopped db c.args.actor c.args.cursor.now c.args.changes.now c.in-Some.cursor.now c.in_err-find_written.field-0.0 c.in-Some.ensures (c.in_err-find_written.ensures.refused db held)),
+returns-in_default-clause-updated g c = λ db held. (
+  Err conditions_not_satisfied,
+  IsThrough-given db _ c.args.cursor.now _ (updates-closed db c.args.actor c.args.cursor.now c.args.changes.now c.in_default.ensures),
+  rw c.refused.ensures refl,
 )
 
-pub returns-then-not-are_columns-clause-through : goal.returns-then-not-are_columns-clause-through
-returns-then-not-are_columns-clause-through g c = λ db held.
-    let unnamed = sym (named-found db c.in-Some.cursor.now c.find_written.new.choice.object c.args.changes.now c.are_columns.result (c.in_ok-find_written.ensures.written db held).has c.are_columns.ensures) ∙ c.if-not-are_columns.true in (
-      c.args.cursor.now,
-      rw c.refused-then-not-are_columns.ensures
-          (updates-unnamed db c.args.actor c.args.cursor.now c.args.changes.now c.in-Some.cursor.now (c.in_ok-find_written.ensures.written db held).has.object c.in-Some.ensures (c.in_ok-find_written.ensures.written db held).written unnamed),
-    )
+pub returns-in_err-find_written-clause-updated : goal.returns-in_err-find_written-clause-updated
+returns-in_err-find_written-clause-updated g c = λ db held. (
+  row_updated db c.args.actor c.args.cursor.now c.args.changes.now,
+  IsThrough-given db _ c.args.cursor.now _ refl,
+  Answers-stopped _ _ c.from_residual.result c.in_err-find_written.field-0.0 c.from_residual.ensures.1
+      (updates-stopped db c.args.actor c.args.cursor.now c.args.changes.now c.in-Some.cursor.now c.in_err-find_written.field-0.0 c.in-Some.ensures (c.in_err-find_written.ensures.written db held)),
+)
 
 pub returns-then-not-are_columns-clause-updated : goal.returns-then-not-are_columns-clause-updated
-unfolding returns-then-not-are_columns-clause-through
-returns-then-not-are_columns-clause-updated g c = λ db held of. (returns-then-not-are_columns-clause-through g c db held).1
-
-pub returns-in_default-2-clause-updated : goal.returns-in_default-2-clause-updated
-returns-in_default-2-clause-updated g c = λ db held of.
-    let cursor = c.in-Some.cursor.now in
-    let second = subst (λ chip. IsHeld c.args.store.now Working chip db) (sym c.in_ok-find_written.ensures.frame.same) held in
+returns-then-not-are_columns-clause-updated g c = λ db held.
     let found = c.in_ok-find_written.ensures.written db held in
-    let own = subst (λ (o : Option Cursor). IfSome o (IsCursorOf db)) (opened-some c.args.cursor.now cursor c.in-Some.ensures) of in
-    let named = sym (named-found db c.in-Some.cursor.now c.find_written.new.choice.object c.args.changes.now c.are_columns.result found.has c.are_columns.ensures) ∙ c.if-not-are_columns.false in
-    let none = rw c.in_default-2.is at (c.in_ok-slot.ensures.row db second own) in
-    rw c.refused-in_default-2.ensures
-    (updates-none db c.args.actor c.args.cursor.now c.args.changes.now cursor (c.in_ok-find_written.ensures.written db held).has.object c.in-Some.ensures (c.in_ok-find_written.ensures.written db held).written named none)
-
--- no row is reached from the end
-pub returns-in_default-2-clause-through : goal.returns-in_default-2-clause-through
-returns-in_default-2-clause-through g c = λ db held.
-    let at_end : Cursor = record c.in-Some.cursor.now { place = End } in
-    let named = sym (named-found db c.in-Some.cursor.now c.find_written.new.choice.object c.args.changes.now c.are_columns.result (c.in_ok-find_written.ensures.written db held).has c.are_columns.ensures) ∙ c.if-not-are_columns.false in (
-      Some at_end,
-      rw c.refused-in_default-2.ensures (updates-none db c.args.actor (Some at_end) c.args.changes.now at_end (c.in_ok-find_written.ensures.written db held).has.object refl (c.in_ok-find_written.ensures.written db held).written named refl),
+    let unnamed = sym (named-found db c.in-Some.cursor.now c.find_written.new.choice.object c.args.changes.now c.are_columns.result found.chosen.has c.are_columns.ensures) ∙ c.if-not-are_columns.true in (
+      Err not_found,
+      IsThrough-given db _ c.args.cursor.now _ (updates-unnamed db c.args.actor c.args.cursor.now c.args.changes.now c.in-Some.cursor.now found.chosen.has.object c.in-Some.ensures found.written unnamed),
+      rw c.refused-then-not-are_columns.ensures refl,
     )
 
--- what was found through the cursor, where that is one of the database
-found : (g : _) (c : After-record_after g) (db : Database) → (held : IsHeld c.args.store.now Working (g.B.Eeprom.chip c.args.bench.now) db) → IfSome c.args.cursor.now (IsCursorOf db)
-    → IsUpdated db c.args.actor c.args.cursor.now c.args.changes.now c.in-Some.cursor.now (c.in_ok-find_written.ensures.written db held).has.object c.find_row.new.room.row c.find_row.new.choice.resolved.all c.row_limit-limit.result
-found g c db held of =
+pub returns-in_err-slot-clause-updated : goal.returns-in_err-slot-clause-updated
+returns-in_err-slot-clause-updated g c = λ db held. (row_updated db c.args.actor c.args.cursor.now c.args.changes.now, IsThrough-given db _ c.args.cursor.now _ refl, Answers-stopped _ _ c.from_residual-in_err-slot.result Fault c.from_residual-in_err-slot.ensures.1 tt)
+
+pub returns-in_default-2-clause-updated : goal.returns-in_default-2-clause-updated
+returns-in_default-2-clause-updated g c = λ db held.
     let cursor = c.in-Some.cursor.now in
-    let second = subst (λ chip. IsHeld c.args.store.now Working chip db) (sym c.in_ok-find_written.ensures.frame.same) held in
+    let second = subst (λ chip. IsHeld c.args.tables.now.store Working chip db) (sym c.in_ok-find_written.ensures.frame.same) held in
     let found = c.in_ok-find_written.ensures.written db held in
-    let own = subst (λ (o : Option Cursor). IfSome o (IsCursorOf db)) (opened-some c.args.cursor.now cursor c.in-Some.ensures) of in
+    let named = sym (named-found db cursor c.find_written.new.choice.object c.args.changes.now c.are_columns.result found.chosen.has c.are_columns.ensures) ∙ c.if-not-are_columns.false in (
+      Err record_not_found,
+      IsThrough-found db c.args.actor update_privilege _ c.args.cursor.now cursor found.chosen.has.object _ c.find_row.new.room.row None _ c.in-Some.ensures found.written (rw c.in_default-2.is at (c.in_ok-slot.ensures.finds db second))
+          (λ some own is. updates-none db c.args.actor some c.args.changes.now own found.chosen.has.object is named),
+      rw c.refused-in_default-2.ensures refl,
+    )
+
+-- what was found through the cursor
+found : (g : _) (c : After-record_after g) (db : Database) → (held : IsHeld c.args.tables.now.store Working (g.B.Eeprom.chip c.args.bench.now) db)
+    → IsUpdated db c.args.changes.now (c.in_ok-find_written.ensures.written db held).chosen.has.object c.find_row.new.room.row c.find_row.new.choice.resolved.all c.row_limit-limit.result
+found g c db held =
+    let second = subst (λ chip. IsHeld c.args.tables.now.store Working chip db) (sym c.in_ok-find_written.ensures.frame.same) held in
+    let has = (c.in_ok-find_written.ensures.written db held).chosen.has in
     record {
       valid = held.valid;
-      ready = c.in-Some.ensures;
-      written = (c.in_ok-find_written.ensures.written db held).written;
-      names = sym (named-found db c.in-Some.cursor.now c.find_written.new.choice.object c.args.changes.now c.are_columns.result found.has c.are_columns.ensures) ∙ c.if-not-are_columns.false;
-      there = rw c.in-Some-2.is at (c.in_ok-slot.ensures.row db second own);
-      all = (rw c.in-Some-2.is at (c.in_ok-slot.ensures.of_object db second)).all;
+      names = sym (named-found db c.in-Some.cursor.now c.find_written.new.choice.object c.args.changes.now c.are_columns.result has c.are_columns.ensures) ∙ c.if-not-are_columns.false;
+      all = (rw c.in-Some-2.is at (c.in_ok-slot.ensures.finds db second)).of_object.all;
       most = c.row_limit-limit.ensures.limit ∙ sym held.limit;
     }
 
--- and in any case through that without its conditions
-found-so : (g : _) (c : After-record_after g) (db : Database) → (held : IsHeld c.args.store.now Working (g.B.Eeprom.chip c.args.bench.now) db)
-    → IsUpdated db c.args.actor (Some (without_conditions c.in-Some.cursor.now)) c.args.changes.now (without_conditions c.in-Some.cursor.now) (c.in_ok-find_written.ensures.written db held).has.object c.find_row.new.room.row c.find_row.new.choice.resolved.all c.row_limit-limit.result
-found-so g c db held =
-    let second = subst (λ chip. IsHeld c.args.store.now Working chip db) (sym c.in_ok-find_written.ensures.frame.same) held in
+-- the outcome of each cursor that reaches the row is that of the operation
+through : (g : _) (c : After-record_after g) (db : Database) (held : IsHeld c.args.tables.now.store Working (g.B.Eeprom.chip c.args.bench.now) db) (outcome : Result (List Edit) StatusWord)
+    → ((cursor : Option Cursor) (own : Cursor) → IsReached db c.args.actor update_privilege cursor own (c.in_ok-find_written.ensures.written db held).chosen.has.object (Some c.find_row.new.room.row) → row_updated db c.args.actor cursor c.args.changes.now ≡ outcome)
+    → IsThrough db (λ cursor. row_updated db c.args.actor cursor c.args.changes.now) c.args.cursor.now outcome
+through g c db held outcome ends =
+    let second = subst (λ chip. IsHeld c.args.tables.now.store Working chip db) (sym c.in_ok-find_written.ensures.frame.same) held in
     let found = c.in_ok-find_written.ensures.written db held in
-    let of_object = rw c.in-Some-2.is at (c.in_ok-slot.ensures.of_object db second) in
-    record {
-      valid = held.valid;
-      ready = opened-without_conditions c.args.cursor.now c.in-Some.cursor.now c.in-Some.ensures;
-      written = (c.in_ok-find_written.ensures.written db held).written;
-      names = sym (named-found db c.in-Some.cursor.now c.find_written.new.choice.object c.args.changes.now c.are_columns.result found.has c.are_columns.ensures) ∙ c.if-not-are_columns.false;
-      there = of_object.row;
-      all = of_object.all;
-      most = c.row_limit-limit.ensures.limit ∙ sym held.limit;
-    }
+    IsThrough-found db c.args.actor update_privilege _ c.args.cursor.now c.in-Some.cursor.now found.chosen.has.object _ c.find_row.new.room.row (Some c.in-Some-2.slot) outcome c.in-Some.ensures found.written
+    (rw c.in-Some-2.is at (c.in_ok-slot.ensures.finds db second)) ends
 
 pub returns-in_default-record_after-clause-updated : goal.returns-in_default-record_after-clause-updated
-returns-in_default-record_after-clause-updated g c = λ db held of.
-    let is = found g (goal.at.returns-in_default-record_after-clause-updated g c).After-record_after db held of in
-    rw c.refused-in_default-record_after.ensures (updates-not_kept db _ _ _ _ _ _ c.find_row.new.choice.resolved.all c.row_limit-limit.result is (rw c.in_default-record_after.is at c.record_after.ensures.after))
-
-pub returns-in_default-record_after-clause-through : goal.returns-in_default-record_after-clause-through
-returns-in_default-record_after-clause-through g c = λ db held.
-    let any = without_conditions c.in-Some.cursor.now in
-    let is = found-so g (goal.at.returns-in_default-record_after-clause-through g c).After-record_after db held in
-    (Some any, rw c.refused-in_default-record_after.ensures (updates-not_kept db _ (Some any) _ any _ _ c.find_row.new.choice.resolved.all c.row_limit-limit.result is (rw c.in_default-record_after.is at c.record_after.ensures.after)))
+returns-in_default-record_after-clause-updated g c = λ db held.
+    let at = (goal.at.returns-in_default-record_after-clause-updated g c).After-record_after in
+    let is = found g at db held in (
+      Err wrong_data,
+      through g at db held _ (λ cursor own reached. updates-not_kept db c.args.actor cursor c.args.changes.now own _ _ _ _ is (rw c.in_default-record_after.is at c.record_after.ensures.after) reached),
+      rw c.refused-in_default-record_after.ensures refl,
+    )
 
 pub returns-clause-updated : goal.returns-clause-updated
-returns-clause-updated g c = λ db held of.
-    let is = found g (goal.at.returns-clause-updated g c).After-record_after db held of in
-    updates-kept db _ _ _ _ _ _ c.find_row.new.choice.resolved.all c.row_limit-limit.result c.record_after.new.updated.row c.record_after.new.updated is (rw c.in-Some-record_after.is at c.record_after.ensures.after) (rw c.in-Some-record_after.is at c.record_after.ensures.record)
-
-pub returns-clause-through : goal.returns-clause-through
-returns-clause-through g c = λ db held.
-    let any = without_conditions c.in-Some.cursor.now in
-    let is = found-so g (goal.at.returns-clause-through g c).After-record_after db held in
-    (Some any, updates-kept db _ (Some any) _ any _ _ c.find_row.new.choice.resolved.all c.row_limit-limit.result c.record_after.new.updated.row c.record_after.new.updated is (rw c.in-Some-record_after.is at c.record_after.ensures.after) (rw c.in-Some-record_after.is at c.record_after.ensures.record))
+returns-clause-updated g c = λ db held.
+    let at = (goal.at.returns-clause-updated g c).After-record_after in
+    let is = found g at db held in (
+      Ok (changing (of_row c.record_after.new.updated) ∷ []),
+      through g at db held _ (λ cursor own reached. updates-kept db c.args.actor cursor c.args.changes.now own _ _ _ _ c.record_after.new.updated.row c.record_after.new.updated is (rw c.in-Some-record_after.is at c.record_after.ensures.after)
+          (rw c.in-Some-record_after.is at c.record_after.ensures.record) reached),
+      refl,
+    )
 
 pub returns-clause-fits : goal.returns-clause-fits
 returns-clause-fits g c = λ db held.
+    let second = subst (λ chip. IsHeld c.args.tables.now.store Working chip db) (sym c.in_ok-find_written.ensures.frame.same) held in
     let any = without_conditions c.in-Some.cursor.now in
-    let is = found-so g (goal.at.returns-clause-fits g c).After-record_after db held in
-    fits-kept db _ (Some any) _ any _ _ c.find_row.new.choice.resolved.all c.row_limit-limit.result c.record_after.new.updated.row c.record_after.new.updated is (rw c.in-Some-record_after.is at c.record_after.ensures.after) (rw c.in-Some-record_after.is at c.record_after.ensures.record) (rw c.in-Some-record_after.is at c.record_after.ensures.is_row)
+    fits-kept db c.args.changes.now any _ _ _ _ c.record_after.new.updated.row c.record_after.new.updated (found g (goal.at.returns-clause-fits g c).After-record_after db held) (rw c.in-Some-2.is at (c.in_ok-slot.ensures.finds db second)).of_object.row
+    (rw c.in-Some-record_after.is at c.record_after.ensures.after) (rw c.in-Some-record_after.is at c.record_after.ensures.record) (rw c.in-Some-record_after.is at c.record_after.ensures.is_row)
 
 -- what was found is right for the cursor
 pub find_written-requires-clause-right : goal.find_written-requires-clause-right
@@ -134,13 +113,5 @@ find_written-requires-clause-right g c = λ db held.
     subst (λ (scan : Option Found). IsRight db c.args.actor scan c.in-Some.cursor.now) (sym c.scan.view_is)
     (right-for db c.args.actor c.args.scan.now c.args.cursor.now c.in-Some.cursor.now (opened-some c.args.cursor.now c.in-Some.cursor.now c.in-Some.ensures) (c.requires.right db held))
 
-pub find_row-requires-clause-right : goal.find_row-requires-clause-right
-find_row-requires-clause-right g c = λ db held. (
-  c.args.actor,
-  subst (λ (scan : Option Found). IsRight db c.args.actor scan c.in-Some.cursor.now) (sym (c.find_written.ensures.same ∙ c.scan.view_is))
-      (right-for db c.args.actor c.args.scan.now c.args.cursor.now c.in-Some.cursor.now (opened-some c.args.cursor.now c.in-Some.cursor.now c.in-Some.ensures)
-      (c.requires.right db (rw c.in_ok-find_written.ensures.frame.same at held))),
-)
-
-pub find_row-requires-clause-object : goal.find_row-requires-clause-object
-find_row-requires-clause-object g c = λ db held. (c.in_ok-find_written.ensures.written db (rw c.in_ok-find_written.ensures.frame.same at held)).has
+pub find_row-requires-clause-chosen : goal.find_row-requires-clause-chosen
+find_row-requires-clause-chosen g c = λ db held. (c.in_ok-find_written.ensures.written db (rw c.in_ok-find_written.ensures.frame.same at held)).chosen

@@ -20,7 +20,7 @@ use Rattle.scql_model.specs.WellFormed.{HasForm}
 use Rattle.card.specs.Answering.{HoldsAnswer, LeavesFirstOfTwo, Performs, replied}
 use Rattle.card.specs.Card.{Kept, HoldsMachine, IsAt, StandsOver}
 use Rattle.card.specs.Waiting.{keeps_waiting}
-use Rattle.card.proofs.OtherCommands.{IsChange-others, IsNoneOfThose}
+use Rattle.card.proofs.OtherCommands.{changes-others, IsNoneOfThose}
 use Rattle.card.proofs.Performing.{Performs-unwritten}
 use Rattle.apdu_chain.proofs.CarriedOut.{carried_out-arm, carried_out-waits, octets-arm}
 use Rattle.card.proofs.FreeCommands.{any-none, carried_out-changes, octets-carried_out, waiting-at, waits-changes}
@@ -151,7 +151,7 @@ none g c = record {
 -- and it isn't kept waiting
 others-wait : (g : _) (c : In_default g) → keeps_waiting for_others c.args.self.now.transaction c.args.command.now.channel ≡ false
 others-wait g c = subst (λ (w : Waits). keeps_waiting w c.args.self.now.transaction c.args.command.now.channel ≡ false)
-    (waits-changes c.args.command.now.operation (IsChange-others c.args.command.now.operation (none g c)) c.in_default.not-DeleteUser) (sym c.keeps_waiting.ensures ∙ c.if-keeps_waiting.false)
+    (waits-changes c.args.command.now.operation (changes-others c.args.command.now.operation (none g c)) c.in_default.not-DeleteUser) (sym c.keeps_waiting.ensures ∙ c.if-keeps_waiting.false)
 
 pub change-requires : goal.change-requires
 change-requires g c = record {
@@ -160,7 +160,6 @@ change-requires g c = record {
   mine = others-wait g (goal.at.change-requires g c).In_default;
   channel = omega (arith, c.requires.formed.channel);
   there = c.requires.open;
-  changes = IsChange-others c.args.command.now.operation (none g (goal.at.change-requires g c).In_default);
   formed = c.requires.formed.form;
   fits = c.requires.fits;
 }
@@ -169,7 +168,7 @@ pub returns-in_default-clause-performs : goal.returns-in_default-clause-performs
 returns-in_default-clause-performs g c = λ m at.
     let channel = c.args.command.now.channel in
     let operation = c.args.command.now.operation in
-    let changes = IsChange-others operation (none g (goal.at.returns-in_default-clause-performs g c).In_default) in
+    let changes = changes-others operation (none g (goal.at.returns-in_default-clause-performs g c).In_default) in
     let old = g.B.Eeprom.chip c.args.bench.now in
     let new = g.B.Eeprom.chip c.change.new.bench in
     let free = told-waiting c.args.self.now old m c.args.command.now c.keeps_waiting.result false at.held c.keeps_waiting.ensures c.if-keeps_waiting.false in

@@ -6,7 +6,7 @@ use Rattle.card.proofs.slot_card.SlotCardCardLink.exchange.Goals as goal
 
 pub returns-clause-step : goal.returns-clause-step
 returns-clause-step g c = rw (← c.self.view_is)
-    (λ m at replied. let answers = c.answer.ensures.step m at.at replied in record { reply = answers.reply; at = record { ready = c.answer.ensures.ready replied; at = answers.at } })
+    (λ m at replied. let answers = (c.answer.ensures.replied m at.at replied).step in record { reply = answers.reply; at = record { ready = c.answer.ensures.ready replied; at = answers.at } })
 
 pub returns-clause-moments : goal.returns-clause-moments
 returns-clause-moments g c = λ m at.

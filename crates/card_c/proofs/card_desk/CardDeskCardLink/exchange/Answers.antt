@@ -8,7 +8,7 @@ use Rattle.card_c.proofs.card_desk.CardDeskCardLink.exchange.Goals as goal
 
 pub returns-clause-step : goal.returns-clause-step
 returns-clause-step c = λ m at replied.
-    let answers = c.answer.ensures.step m (subst (λ (d : OnLog). IsDeskAt d m) (sym c.self.view_is) at).at replied in
+    let answers = (c.answer.ensures.replied m (subst (λ (d : OnLog). IsDeskAt d m) (sym c.self.view_is) at).at replied).step in
     record { reply = answers.reply; at = record { ready = c.answer.ensures.ready replied; at = answers.at } }
 
 pub returns-clause-moments : goal.returns-clause-moments

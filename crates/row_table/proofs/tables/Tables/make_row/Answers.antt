@@ -1,11 +1,11 @@
 -- The row's table ends so, and the index takes the row that the store took.
-use Rattle.std.proofs.Common.{rules}
+use Rattle.std.proofs.Common.{rules, refl}
 use Rattle.row_table.proofs.RowsMade.{Indexes-inserted}
 use Rattle.row_table.proofs.tables.Tables.make_row.Goals as goal
 
 pub returns : goal.returns
 returns g c = record {
-  ends = λ db held may. c.in_ok-slot.ensures.ends db held may.0 may.1;
+  ends = λ db held may. (_, refl, c.in_ok-slot.ensures.ends db held may.0 may.1);
   goes_on = search rules;
   index = λ db held may fine. Indexes-inserted c.args.self.now.index c.added.new.self db c.in_ok-slot.slot c.args.row.now c.args.self.now.store c.make.new.store (g.B.Eeprom.chip c.args.bench.now) (g.B.Eeprom.chip c.make.new.bench)
       c.in_ok-slot.slot c.args.counter.now.slot c.args.counter.now.value c.requires.stand.index held (c.requires.last db held) may.0 (c.in_ok-slot.ensures.ends db held may.0 may.1) (c.in_ok-slot.ensures.goes_on (λ wrong. cc)).cells

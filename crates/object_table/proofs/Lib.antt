@@ -1,2 +1,0 @@
-pub mod OneCounter
-pub mod Weight
