@@ -1,6 +1,6 @@
 -- A row that is cut to the columns of a cursor is a row.
-use Rattle.std.proofs.Common.{◌≡◌, ℕ, ◌+◌, ◌<◌, ◌≤◌, false, List, [], ◌∷◌, get_or, length, map, take, Ok, Err, Some, refl, sym, ap, ◌∙◌, arith}
-use Rattle.std.specs.Prelude.{◌==◌, is_ok, IfErr, Result}
+use Rattle.std.proofs.Common.{◌≡◌, ℕ, ◌+◌, ◌<◌, ◌≤◌, false, List, [], ◌∷◌, get_or, length, map, take, Ok, Err, Option, Some, None, refl, sym, ap, ◌∙◌, arith}
+use Rattle.std.specs.Prelude.{◌==◌, is_ok, IfErr, IfSome, Result}
 use Rattle.std.specs.List.{find, sum_by}
 use Rattle.std.proofs.lemmas.Bool.{and_parts, leb-true}
 use Rattle.std.proofs.lemmas.List.{length-map, length-take-le}
@@ -23,9 +23,11 @@ use Rattle.scql_model.proofs.KeepsRows.{within_largest}
 use Rattle.scql_model.proofs.KnownNames.{IsKnown-resolved_of, among-within, names-valid}
 use Rattle.scql_model.proofs.LongerLists.{find-all}
 use Rattle.scql_model.proofs.SeenThrough.{IsSeenThrough-resolved_of}
+use Rattle.plain_database.specs.Sought.{is_sought}
+use Rattle.plain_database.specs.declared.sought.Sought.{Sought}
 use Rattle.plain_database.proofs.AssignedRows.{refused-long}
 use Rattle.plain_database.proofs.Reached.{has_its_table}
-use Rattle.plain_database.proofs.SoughtRows.{cursor-named}
+use Rattle.plain_database.proofs.SoughtRows.{cursor-named, found-among, found-in_table}
 
 -- a row takes each of the values of a row that isn't too long
 pub cut-fits : (f : List ℕ → List ℕ) (wanted : Columns) (i : ℕ) (name : List ℕ) (result : Result (Unit {0}) RowRefusal) → i < length wanted → name ≡ get_or wanted i name → length wanted ≤ 15
@@ -43,7 +45,7 @@ cut-fits f wanted i name (Err refusal) within is few size short failed refused =
     sizes (n ∷ names) = omega (arith, sizes names, sum_by-cons (λ (v : List ℕ). length v + 1) (f n) (map f names), sum_by-cons (λ (n : List ℕ). length (f n) + 1) n names)
 
 -- no row that a cursor shows is too long
-pub cut-within : (db : Database) (c : Cursor) (r : Resolved) (s : RowRecord) → IsValid db → IsCursorOf db c → resolved_of db.objects c.object ≡ Some r → find (λ (t : RowRecord). t.stamp == s.stamp) db.rows ≡ Some s
+cut-within : (db : Database) (c : Cursor) (r : Resolved) (s : RowRecord) → IsValid db → IsCursorOf db c → resolved_of db.objects c.object ≡ Some r → find (λ (t : RowRecord). t.stamp == s.stamp) db.rows ≡ Some s
     → s.table ≡ r.table → row_size (cut_to r.all c.columns s.row) ≤ 1020
 cut-within db c r s valid of is found same =
     let known = IsKnown-resolved_of db c.object r valid is in
@@ -56,3 +58,13 @@ cut-within db c r s valid of is found same =
     let size = size-cut r.all c.columns s.row of.different among many in
     let limit = within_largest db (row_size s.row) valid (find-all (is_within_limit db.limit) (λ (t : RowRecord). t.stamp == s.stamp) db.rows s valid.rows.lengths found) in
     omega (arith, size, leb-true (row_size s.row) 1020 limit)
+
+pub sought-within : (db : Database) (c : Cursor) (r : Resolved) (sought : Sought) → IsValid db → IsCursorOf db c → resolved_of db.objects c.object ≡ Some r
+    → IfSome (find (is_sought r c.conditions sought) db.rows) (λ (s : RowRecord). row_size (cut_to r.all c.columns s.row) ≤ 1020)
+sought-within db c r sought valid of is =
+    go (find (is_sought r c.conditions sought) db.rows) (found-among (λ (s : RowRecord). s.stamp) (is_sought r c.conditions sought) db.rows valid.rows.rises) (found-in_table r c.conditions sought db.rows)
+  where
+    go : (found : Option RowRecord) → IfSome found (λ (s : RowRecord). find (λ (t : RowRecord). t.stamp == s.stamp) db.rows ≡ Some s) → IfSome found (λ (s : RowRecord). s.table ≡ r.table)
+        → IfSome found (λ (s : RowRecord). row_size (cut_to r.all c.columns s.row) ≤ 1020)
+    go None found same = tt
+    go (Some s) found same = cut-within db c r s valid of is found same

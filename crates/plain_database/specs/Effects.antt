@@ -1,5 +1,5 @@
 -- What becomes of a database by an operation.
-use Rattle.std.specs.Prelude.{ℕ, ◌+◌, ◌==◌, ◌&&◌, nat_le, not, Bool, List, Result, Ok, Err}
+use Rattle.std.specs.Prelude.{ℕ, ◌+◌, ◌==◌, ◌&&◌, nat_le, not, Bool, ◌≡◌, List, Result, Ok, Err, OnErr}
 use Rattle.scql_base.specs.declared.words.StatusWord.{StatusWord}
 use Rattle.scql_model.specs.Database.{Database, weight}
 use Rattle.scql_model.specs.Edits.{Edit, stamps_end, with_edits}
@@ -13,7 +13,14 @@ has_room db cells = not (db.next == stamps_end) && nat_le (weight db + cells) db
 abbrev pub outcome : Database → Result (List Edit) StatusWord → Result Database StatusWord
 outcome db edits = edits >>= with_edits db
 
--- how an operation ended: with a database, or with the word that it was refused with
-abbrev pub ended : Result (Unit {0}) StatusWord → Database → Result Database StatusWord
-ended (Ok done) db = Ok db
-ended (Err word) db = Err word
+-- something, or the word that an operation was refused with
+abbrev pub ended : {A : Type 0} → Result (Unit {0}) StatusWord → A → Result A StatusWord
+ended (Ok done) x = Ok x
+ended (Err word) x = Err word
+
+-- How an operation ended: with what it was to make, or refused.
+pub record Ends {A : Type 0} (old new : A) (result : Result (Unit {0}) StatusWord) (meant : Result A StatusWord) : Type 0 where
+  -- it made what is meant, or was refused with the word that is meant
+  pub ended : ended result new ≡ meant
+  -- where it was refused, what it works on is as it was
+  pub same : OnErr result (new ≡ old)

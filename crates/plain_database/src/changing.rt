@@ -1,14 +1,14 @@
 // Commands that change a database.
-ghost use Rattle.std.specs.Prelude.{◌≡◌, IfSome, OnErr};
+ghost use Rattle.std.specs.Prelude.{◌≡◌, IfSome};
 ghost use Rattle.scql_model.specs.Changing.{change_of};
 ghost use Rattle.scql_model.specs.Creating.{IsActorOf};
 ghost use Rattle.scql_model.specs.Cursors.{IsCursorOf};
 ghost use Rattle.scql_model.specs.Database.{IsValid};
 ghost use Rattle.scql_model.specs.WellFormed.{FitsCard, HasForm};
-ghost use Rattle.plain_database.specs.Effects.{ended};
+ghost use Rattle.plain_database.specs.Effects.{Ends};
 
 use crate::PlainDatabase;
-use scql_base::{Actor, Cursor, Operation, StatusWord};
+use scql_base::{Actor, Cursor, ObjectKind, Operation, StatusWord};
 
 impl PlainDatabase {
     /// Carries out a changing command for an actor, or refuses it. UPDATE and DELETE are of the row at the cursor. No other operation
@@ -21,8 +21,7 @@ impl PlainDatabase {
     ) -> Result<(), StatusWord>
         requires valid { IsValid self.old }
         requires cursor { IfSome cursor.now (IsCursorOf self.old) }
-        ensures ended { ended result self.new ≡ change_of self.old actor cursor.now operation.now }
-        ensures same { OnErr result (self.new ≡ self.old) }
+        ensures ends { Ends self.old self.new result (change_of self.old actor cursor.now operation.now) }
         ensures cells { self.new.cells ≡ self.old.cells }
         ensures valid { IsActorOf self.old actor → HasForm operation.now → FitsCard self.old.limit operation.now → IsValid self.new }
     {
@@ -39,12 +38,13 @@ impl PlainDatabase {
     ) -> Result<(), StatusWord>
         requires valid { IsValid self.old }
         requires cursor { IfSome cursor.now (IsCursorOf self.old) }
-        ensures ended { ended result self.new ≡ change_of self.old actor cursor.now operation.now }
-        ensures same { OnErr result (self.new ≡ self.old) }
-        ensures cells { self.new.cells ≡ self.old.cells }
+        ensures { Ends self.old self.new result (change_of self.old actor cursor.now operation.now) }
     {
         match operation {
-            Operation::CreateTable { name, columns } => self.create_table(actor, name, columns),
+            Operation::CreateTable { name, columns } => {
+                let columns = columns.copy();
+                self.create_object(actor, name, ObjectKind::Table { columns })
+            }
             Operation::CreateView {
                 name,
                 base,
@@ -52,7 +52,8 @@ impl PlainDatabase {
                 conditions,
             } => self.create_view(actor, name, base, columns, conditions),
             Operation::CreateDictionary { name, subject } => {
-                self.create_dictionary(actor, name, *subject)
+                let subject = *subject;
+                self.create_object(actor, name, ObjectKind::Dictionary { subject })
             }
             Operation::DropTable { name } => self.drop_table(actor, name),
             Operation::DropView { name } => self.drop_view(actor, name),

@@ -1,53 +1,37 @@
 // CREATE TABLE, CREATE VIEW and CREATE DICTIONARY.
-ghost use Rattle.std.specs.Prelude.{◌≡◌, ◌<◌, ◌≤◌, IfSome, Some, None, option_copied, if◌then◌else◌, OnErr};
+ghost use Rattle.std.specs.Prelude.{◌≡◌, ◌<◌, ◌≤◌, IfSome, Some, None, option_copied, if◌then◌else◌};
 ghost use Rattle.std.specs.List.{list_any};
 ghost use Rattle.std.specs.Str.{bytes_eq};
-ghost use Rattle.scql_base.specs.declared.records.ObjectKind.TheVariants as kinds;
 ghost use Rattle.scql_model.specs.Database.{IsValid};
 ghost use Rattle.scql_model.specs.Defining as defining;
 ghost use Rattle.scql_model.specs.Objects as objects;
 ghost use Rattle.scql_model.specs.ReadingCommands as commands;
 ghost use Rattle.scql_model.specs.Rules as rules;
-ghost use Rattle.plain_database.specs.Effects.{ended, outcome};
+ghost use Rattle.plain_database.specs.Effects.{Ends, outcome};
 
-use crate::PlainDatabase;
 use crate::columns::{are_named_among, columns_stored, wanted_of};
 use crate::rights::{actor_stamp, is_maker, is_owned_by};
-use scql_base::{Actor, Conditions, Name, NameList, Object, ObjectKind, StatusWord, Subject};
+use crate::{PlainDatabase, ValidDatabase};
+use scql_base::{Actor, Conditions, Name, NameList, Object, ObjectKind, StatusWord};
 
 /// How deep a view may stand over a table.
 const DEEPEST: u8 = 4;
 
 impl PlainDatabase {
-    /// CREATE TABLE.
-    pub(crate) fn create_table(
+    /// CREATE TABLE and CREATE DICTIONARY.
+    #[tactic(auto, unfolding(scql_model::specs::Defining::object_created))]
+    pub(crate) fn create_object(
         &mut self,
         actor: Actor,
         name: &Name,
-        columns: &NameList,
+        kind: ObjectKind,
     ) -> Result<(), StatusWord>
-        requires valid { IsValid self.old }
-        ensures ended { ended result self.new ≡ outcome self.old (defining.object_created self.old actor name.now (kinds.Table columns.now)) }
-        ensures same { OnErr result (self.new ≡ self.old) }
-        ensures cells { self.new.cells ≡ self.old.cells }
+        ensures { Ends self.old self.new result (outcome self.old (defining.object_created self.old actor name.now kind)) }
     {
-        let columns = columns.copy();
-        self.create_object(actor, name, ObjectKind::Table { columns })
-    }
-
-    /// CREATE DICTIONARY.
-    pub(crate) fn create_dictionary(
-        &mut self,
-        actor: Actor,
-        name: &Name,
-        subject: Subject,
-    ) -> Result<(), StatusWord>
-        requires valid { IsValid self.old }
-        ensures ended { ended result self.new ≡ outcome self.old (defining.object_created self.old actor name.now (kinds.Dictionary subject)) }
-        ensures same { OnErr result (self.new ≡ self.old) }
-        ensures cells { self.new.cells ≡ self.old.cells }
-    {
-        self.create_object(actor, name, ObjectKind::Dictionary { subject })
+        if !makes_objects(actor) {
+            return Err(StatusWord::SECURITY_NOT_SATISFIED);
+        }
+        self.name_object(actor, name, kind)
     }
 
     /// CREATE VIEW. An empty list of columns becomes all columns.
@@ -61,9 +45,7 @@ impl PlainDatabase {
         conditions: &Conditions,
     ) -> Result<(), StatusWord>
         requires valid { IsValid self.old }
-        ensures ended { ended result self.new ≡ outcome self.old (defining.view_created self.old actor name.now base.now columns.now conditions.now) }
-        ensures same { OnErr result (self.new ≡ self.old) }
-        ensures cells { self.new.cells ≡ self.old.cells }
+        ensures { Ends self.old self.new result (outcome self.old (defining.view_created self.old actor name.now base.now columns.now conditions.now)) }
     {
         if !makes_objects(actor) {
             return Err(StatusWord::SECURITY_NOT_SATISFIED);
@@ -77,7 +59,7 @@ impl PlainDatabase {
         if !is_owned_by(actor, base.owner) {
             return Err(StatusWord::SECURITY_NOT_SATISFIED);
         }
-        if !self.may_have_view(base) {
+        if !self.as_valid().may_have_view(base) {
             return Err(StatusWord::CONDITIONS_NOT_SATISFIED);
         }
         if !are_named_among(all, columns, conditions) {
@@ -91,31 +73,9 @@ impl PlainDatabase {
         self.name_object(actor, name, kind)
     }
 
-    // A table or a dictionary is created.
-    #[tactic(auto, unfolding(scql_model::specs::Defining::object_created))]
-    fn create_object(
-        &mut self,
-        actor: Actor,
-        name: &Name,
-        kind: ObjectKind,
-    ) -> Result<(), StatusWord>
-        requires valid { IsValid self.old }
-        ensures ended { ended result self.new ≡ outcome self.old (defining.object_created self.old actor name.now kind) }
-        ensures same { OnErr result (self.new ≡ self.old) }
-        ensures cells { self.new.cells ≡ self.old.cells }
-    {
-        if !makes_objects(actor) {
-            return Err(StatusWord::SECURITY_NOT_SATISFIED);
-        }
-        self.name_object(actor, name, kind)
-    }
-
     // A new object is added, whose name no other object has.
     fn name_object(&mut self, actor: Actor, name: &Name, kind: ObjectKind) -> Result<(), StatusWord>
-        requires valid { IsValid self.old }
-        ensures ended { ended result self.new ≡ outcome self.old (defining.named_anew self.old (defining.new_object self.old actor name.now kind)) }
-        ensures same { OnErr result (self.new ≡ self.old) }
-        ensures cells { self.new.cells ≡ self.old.cells }
+        ensures { Ends self.old self.new result (outcome self.old (defining.named_anew self.old (defining.new_object self.old actor name.now kind))) }
     {
         if self.has_object(name) {
             return Err(StatusWord::ALREADY_EXISTS);
@@ -137,11 +97,12 @@ impl PlainDatabase {
             .iter()
             .any(|object| name.octets() == object.name.octets())
     }
+}
 
+impl<'a> ValidDatabase<'a> {
     // Whether a view may rest on an object: whether that doesn't stand at the greatest depth.
     #[tactic(auto, unfolding(scql_model::specs::Objects::depth_of))]
     fn may_have_view(&self, base: &Object) -> bool
-        requires valid { IsValid self.now }
         ensures { result ≡ rules.may_have_view self.now.objects base.now }
     {
         match self.depth_below(DEEPEST + 1, base.stamp) {
@@ -152,7 +113,6 @@ impl PlainDatabase {
 
     // How deep the object of a stamp stands over a table, where that is below a number.
     fn depth_below(&self, most: u8, stamp: u32) -> Option<u8>
-        requires valid { IsValid self.now }
         ensures depth { result ≡ objects.depth_below most self.now.objects stamp }
         ensures below { IfSome result (λ depth. depth < most) }
     {

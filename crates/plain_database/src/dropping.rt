@@ -1,9 +1,9 @@
 // DROP TABLE and DROP VIEW.
-ghost use Rattle.std.specs.Prelude.{◌≡◌, not, OnErr};
+ghost use Rattle.std.specs.Prelude.{◌≡◌, not};
 ghost use Rattle.scql_model.specs.Database.{IsValid};
 ghost use Rattle.scql_model.specs.Defining as defining;
 ghost use Rattle.scql_model.specs.Rules as rules;
-ghost use Rattle.plain_database.specs.Effects.{ended, outcome};
+ghost use Rattle.plain_database.specs.Effects.{Ends, outcome};
 
 use crate::PlainDatabase;
 use crate::rights::is_owned_by;
@@ -14,9 +14,7 @@ impl PlainDatabase {
     #[tactic(auto, unfolding(scql_model::specs::Defining::table_dropped))]
     pub(crate) fn drop_table(&mut self, actor: Actor, name: &Name) -> Result<(), StatusWord>
         requires valid { IsValid self.old }
-        ensures ended { ended result self.new ≡ outcome self.old (defining.table_dropped self.old actor name.now) }
-        ensures same { OnErr result (self.new ≡ self.old) }
-        ensures cells { self.new.cells ≡ self.old.cells }
+        ensures { Ends self.old self.new result (outcome self.old (defining.table_dropped self.old actor name.now)) }
     {
         let Some(object) = self.seen_named(actor, name) else {
             return Err(StatusWord::NOT_FOUND);
@@ -39,9 +37,7 @@ impl PlainDatabase {
     #[tactic(auto, unfolding(scql_model::specs::Defining::view_dropped))]
     pub(crate) fn drop_view(&mut self, actor: Actor, name: &Name) -> Result<(), StatusWord>
         requires valid { IsValid self.old }
-        ensures ended { ended result self.new ≡ outcome self.old (defining.view_dropped self.old actor name.now) }
-        ensures same { OnErr result (self.new ≡ self.old) }
-        ensures cells { self.new.cells ≡ self.old.cells }
+        ensures { Ends self.old self.new result (outcome self.old (defining.view_dropped self.old actor name.now)) }
     {
         let Some(object) = self.seen_named(actor, name) else {
             return Err(StatusWord::NOT_FOUND);

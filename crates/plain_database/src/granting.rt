@@ -1,9 +1,8 @@
 // GRANT and REVOKE.
-ghost use Rattle.std.specs.Prelude.{◌≡◌, ◌==◌, Ok, Some, None, bit_or, if◌then◌else◌, option_copied, OnErr};
+ghost use Rattle.std.specs.Prelude.{◌≡◌, ◌==◌, Some, None, bit_or, if◌then◌else◌, option_copied};
 ghost use Rattle.scql_model.specs.Database.{IsValid};
-ghost use Rattle.scql_model.specs.Edits.{with_edits};
 ghost use Rattle.scql_model.specs.Granting as granting;
-ghost use Rattle.plain_database.specs.Effects.{ended, outcome};
+ghost use Rattle.plain_database.specs.Effects.{Ends, outcome};
 
 use crate::PlainDatabase;
 use crate::rights::is_owned_by;
@@ -20,9 +19,7 @@ impl PlainDatabase {
         grantee: &Name,
     ) -> Result<(), StatusWord>
         requires valid { IsValid self.old }
-        ensures ended { ended result self.new ≡ outcome self.old (granting.privileges_granted self.old actor privileges name.now grantee.now) }
-        ensures same { OnErr result (self.new ≡ self.old) }
-        ensures cells { self.new.cells ≡ self.old.cells }
+        ensures { Ends self.old self.new result (outcome self.old (granting.privileges_granted self.old actor privileges name.now grantee.now)) }
     {
         let Some(object) = self.seen_named(actor, name) else {
             return Err(StatusWord::NOT_FOUND);
@@ -62,9 +59,7 @@ impl PlainDatabase {
         grantee: &Name,
     ) -> Result<(), StatusWord>
         requires valid { IsValid self.old }
-        ensures ended { ended result self.new ≡ outcome self.old (granting.privileges_revoked self.old actor privileges name.now grantee.now) }
-        ensures same { OnErr result (self.new ≡ self.old) }
-        ensures cells { self.new.cells ≡ self.old.cells }
+        ensures { Ends self.old self.new result (outcome self.old (granting.privileges_revoked self.old actor privileges name.now grantee.now)) }
     {
         let Some(object) = self.seen_named(actor, name) else {
             return Err(StatusWord::NOT_FOUND);
@@ -78,20 +73,17 @@ impl PlainDatabase {
         let Some(held) = self.grant_to(object, grantee) else {
             return Err(StatusWord::NOT_FOUND);
         };
-        let held = *held;
-        self.lessen(&held, privileges);
-        Ok(())
-    }
-
-    // Privileges are taken from a grant, which goes where none is left.
-    fn lessen(&mut self, held: &Grant, privileges: Privileges)
-        requires valid { IsValid self.old }
-        ensures lessened { Ok self.new ≡ with_edits self.old (granting.less_granted held.now privileges) }
-        ensures cells { self.new.cells ≡ self.old.cells }
-    {
         match left_of(held.privileges, privileges) {
-            Some(left) => self.change_grant(with_privileges(held, left)),
-            None => self.remove_grant(held.stamp),
+            Some(left) => {
+                let lessened = with_privileges(held, left);
+                self.change_grant(lessened);
+                Ok(())
+            }
+            None => {
+                let stamp = held.stamp;
+                self.remove_grant(stamp);
+                Ok(())
+            }
         }
     }
 

@@ -1,8 +1,6 @@
 // INSERT.
-ghost use Rattle.std.specs.Prelude.{◌≡◌, OnErr};
-ghost use Rattle.scql_model.specs.Database.{IsValid};
 ghost use Rattle.scql_model.specs.Writing.{row_inserted};
-ghost use Rattle.plain_database.specs.Effects.{ended, outcome};
+ghost use Rattle.plain_database.specs.Effects.{Ends, outcome};
 
 use crate::{PlainDatabase, Privilege};
 use scql_base::{Actor, Name, ObjectKind, Row, RowRecord, StatusWord};
@@ -11,10 +9,7 @@ impl PlainDatabase {
     /// INSERT: a row is added behind all others of a table.
     #[tactic(auto, unfolding(scql_model::specs::Writing::row_inserted))]
     pub(crate) fn insert(&mut self, actor: Actor, table: &Name, row: &Row) -> Result<(), StatusWord>
-        requires valid { IsValid self.old }
-        ensures ended { ended result self.new ≡ outcome self.old (row_inserted self.old actor table.now row.now) }
-        ensures same { OnErr result (self.new ≡ self.old) }
-        ensures cells { self.new.cells ≡ self.old.cells }
+        ensures { Ends self.old self.new result (outcome self.old (row_inserted self.old actor table.now row.now)) }
     {
         let Some(object) = self.seen_named(actor, table) else {
             return Err(StatusWord::NOT_FOUND);

@@ -28,6 +28,7 @@ mod sought;
 mod stamped;
 mod user_creating;
 mod user_deleting;
+mod valid;
 
 pub use columns::{are_named_among, wanted_of};
 pub use database::PlainDatabase;
@@ -38,3 +39,4 @@ pub use resolved::Resolved;
 pub use seen::ShownRow;
 pub use sought::Sought;
 pub use stamped::Stamped;
+pub use valid::ValidDatabase;

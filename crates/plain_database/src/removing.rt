@@ -15,8 +15,7 @@ impl PlainDatabase {
     /// The user of a stamp goes, and the grants to it.
     pub(crate) fn remove_user(&mut self, stamp: u32)
         requires valid { IsValid self.old }
-        ensures removed { (u : user.User) → u.stamp ≡ stamp → Ok self.new ≡ with_edits self.old (removing_user self.old u) }
-        ensures cells { self.new.cells ≡ self.old.cells }
+        ensures { (u : user.User) → u.stamp ≡ stamp → Ok self.new ≡ with_edits self.old (removing_user self.old u) }
     {
         self.users.retain(|user| user.stamp != stamp);
         self.grants.retain(|grant| grant.grantee != stamp);
@@ -25,8 +24,7 @@ impl PlainDatabase {
     /// The view or dictionary of a stamp goes, and the grants on it.
     pub(crate) fn remove_object(&mut self, stamp: u32)
         requires valid { IsValid self.old }
-        ensures removed { (o : object.Object) → o.stamp ≡ stamp → Ok self.new ≡ with_edits self.old (removing_object self.old o) }
-        ensures cells { self.new.cells ≡ self.old.cells }
+        ensures { (o : object.Object) → o.stamp ≡ stamp → Ok self.new ≡ with_edits self.old (removing_object self.old o) }
     {
         self.objects.retain(|object| object.stamp != stamp);
         self.grants.retain(|grant| grant.object != stamp);
@@ -35,8 +33,7 @@ impl PlainDatabase {
     /// The table of a stamp goes, and the grants on it and its rows.
     pub(crate) fn remove_table(&mut self, stamp: u32)
         requires valid { IsValid self.old }
-        ensures removed { (o : object.Object) → o.stamp ≡ stamp → Ok self.new ≡ with_edits self.old (removing_object self.old o ++ removing_rows self.old o) }
-        ensures cells { self.new.cells ≡ self.old.cells }
+        ensures { (o : object.Object) → o.stamp ≡ stamp → Ok self.new ≡ with_edits self.old (removing_object self.old o ++ removing_rows self.old o) }
     {
         self.objects.retain(|object| object.stamp != stamp);
         self.grants.retain(|grant| grant.object != stamp);
@@ -46,8 +43,7 @@ impl PlainDatabase {
     /// The grant of a stamp goes.
     pub(crate) fn remove_grant(&mut self, stamp: u32)
         requires valid { IsValid self.old }
-        ensures removed { (g : grant.Grant) → g.stamp ≡ stamp → Ok self.new ≡ with_edits self.old (removing (of_grant g) ∷ []) }
-        ensures cells { self.new.cells ≡ self.old.cells }
+        ensures { (g : grant.Grant) → g.stamp ≡ stamp → Ok self.new ≡ with_edits self.old (removing (of_grant g) ∷ []) }
     {
         self.grants.retain(|grant| grant.stamp != stamp);
     }
@@ -55,8 +51,7 @@ impl PlainDatabase {
     /// The row of a stamp goes.
     pub(crate) fn remove_row(&mut self, stamp: u32)
         requires valid { IsValid self.old }
-        ensures removed { (r : row.RowRecord) → r.stamp ≡ stamp → Ok self.new ≡ with_edits self.old (removing (of_row r) ∷ []) }
-        ensures cells { self.new.cells ≡ self.old.cells }
+        ensures { (r : row.RowRecord) → r.stamp ≡ stamp → Ok self.new ≡ with_edits self.old (removing (of_row r) ∷ []) }
     {
         self.rows.retain(|row| row.stamp != stamp);
     }

@@ -1,12 +1,12 @@
 // Records that take the place of those that have their stamps.
-ghost use Rattle.std.specs.Prelude.{◌≡◌, ◌<◌, ◌∷◌, [], Ok, Some, IfSome, length, vec_capacity, OnErr};
+ghost use Rattle.std.specs.Prelude.{◌≡◌, ◌<◌, ◌∷◌, [], Ok, Some, IfSome, length, vec_capacity};
 ghost use Rattle.std.specs.List.{find, position};
 ghost use Rattle.eeprom.specs.Slots.{Rises, has, replaced};
 ghost use Rattle.scql_base.specs.declared.records.RowRecord as rows;
 ghost use Rattle.scql_model.specs.Database.{IsValid, user_stamped};
 ghost use Rattle.scql_model.specs.Step.{with_tries};
 ghost use Rattle.scql_model.specs.Edits.{cells_of_record, changing, of_grant, of_row, with_edits};
-ghost use Rattle.plain_database.specs.Effects.{ended};
+ghost use Rattle.plain_database.specs.Effects.{Ends};
 
 use crate::record::Record;
 use crate::stamped::place_of;
@@ -21,7 +21,7 @@ impl PlainDatabase {
         ensures tries { IfSome (user_stamped self.old.users stamp) (λ u. self.new ≡ with_tries self.old u tries) }
         ensures cells { self.new.cells ≡ self.old.cells }
     {
-        match self.user_stamped(stamp) {
+        match self.as_valid().user_stamped(stamp) {
             Some(user) => {
                 let mut user = user.copy();
                 user.tries = tries;
@@ -34,8 +34,7 @@ impl PlainDatabase {
     /// A grant takes the place of the one that has its stamp.
     pub(crate) fn change_grant(&mut self, grant: Grant)
         requires valid { IsValid self.old }
-        ensures changed { Ok self.new ≡ with_edits self.old (changing (of_grant grant) ∷ []) }
-        ensures cells { self.new.cells ≡ self.old.cells }
+        ensures { Ok self.new ≡ with_edits self.old (changing (of_grant grant) ∷ []) }
     {
         replace(&mut self.grants, grant);
     }
@@ -44,9 +43,7 @@ impl PlainDatabase {
     pub(crate) fn change_row(&mut self, row: RowRecord, before: u32) -> Result<(), StatusWord>
         requires valid { IsValid self.old }
         requires there { (held : rows.RowRecord) × (find (has (λ r. r.stamp) row.stamp) self.old.rows ≡ Some held) × (before ≡ cells_of_record (of_row held)) }
-        ensures ended { ended result self.new ≡ with_edits self.old (changing (of_row row) ∷ []) }
-        ensures same { OnErr result (self.new ≡ self.old) }
-        ensures cells { self.new.cells ≡ self.old.cells }
+        ensures { Ends self.old self.new result (with_edits self.old (changing (of_row row) ∷ [])) }
     {
         if self.weight() - before + row.cells() > u32::from(self.cells) {
             return Err(StatusWord::NO_SPACE);

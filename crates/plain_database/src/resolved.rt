@@ -1,11 +1,10 @@
 // A view down to its table.
 ghost use Rattle.std.specs.Prelude.{◌≡◌, ◌<◌, ◌≤◌, ◌+◌, ◌∷◌, IfSome, length};
 ghost use Rattle.std.specs.List.{list_all};
-ghost use Rattle.scql_model.specs.Database.{IsValid};
 ghost use Rattle.scql_model.specs.Matching as matching;
 ghost use Rattle.scql_model.specs.Resolving as resolving;
 
-use crate::PlainDatabase;
+use crate::ValidDatabase;
 use crate::matching::matches;
 use arrayvec::ArrayVec;
 use scql_base::{Condition, NameList, ObjectKind, Row};
@@ -86,20 +85,18 @@ fn passes_each(filters: &[&[Condition]], columns: &NameList, row: &Row) -> bool
         .all(|conditions| matches(columns, conditions, row))
 }
 
-impl PlainDatabase {
+impl<'a> ValidDatabase<'a> {
     /// The table or view of a stamp, resolved.
     #[tactic(auto, unfolding(scql_model::specs::Resolving::resolved_of))]
-    pub fn resolved(&self, stamp: u32) -> Option<Resolved<'_>>
-        requires valid { IsValid self.now }
+    pub fn resolved(&self, stamp: u32) -> Option<Resolved<'a>>
         ensures { result ≡ resolving.resolved_of self.now.objects stamp }
     {
         self.resolved_below(DEEPEST + 1, stamp)
     }
 
     // The table or view of a stamp, resolved, from at most so many objects over one another.
-    fn resolved_below(&self, most: u8, stamp: u32) -> Option<Resolved<'_>>
-        requires valid { IsValid self.now }
-        requires few { most ≤ 5 }
+    fn resolved_below(&self, most: u8, stamp: u32) -> Option<Resolved<'a>>
+        requires { most ≤ 5 }
         ensures resolved { result ≡ resolving.resolved_below most self.now.objects stamp }
         ensures few { IfSome result (λ r. length r.filters + 1 ≤ most) }
     {

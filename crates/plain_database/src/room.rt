@@ -1,9 +1,7 @@
 // Whether there is room for one more record.
-ghost use Rattle.std.specs.Prelude.{◌≡◌, ◌<◌, ◌≤◌};
+ghost use Rattle.std.specs.Prelude.{◌≡◌, ◌+◌, ◌<◌, min};
 ghost use Rattle.std.specs.List.{sum_by};
-ghost use Rattle.eeprom.specs.StoreOf.{most_cells};
 ghost use Rattle.scql_model.specs.Database as model;
-ghost use Rattle.scql_model.specs.Database.{IsValid};
 ghost use Rattle.scql_model.specs.Edits.{cells_of_record};
 ghost use Rattle.plain_database.specs.Effects.{has_room};
 
@@ -17,37 +15,32 @@ const COUNTER_CELLS: u32 = 1;
 const STAMPS_END: u32 = 0xFFFF_FFFF;
 
 impl PlainDatabase {
-    /// How many cells all records take.
+    /// How many cells all records take, or where they are more than a number of four octets tells, the greatest of these.
     pub(crate) fn weight(&self) -> u32
-        requires { IsValid self.now }
-        ensures weight { result ≡ model.weight self.now }
-        ensures most { result ≤ most_cells }
+        ensures { result ≡ min (model.weight self.now) 0xFFFF_FFFF }
     {
-        COUNTER_CELLS
-            + weigh(self.users())
-            + weigh(self.objects())
-            + weigh(self.grants())
-            + weigh(self.rows())
+        let cells = weigh(COUNTER_CELLS, self.users());
+        let cells = weigh(cells, self.objects());
+        let cells = weigh(cells, self.grants());
+        weigh(cells, self.rows())
     }
 
     /// Whether a stamp is left, and room for a record that takes so many cells.
     pub(crate) fn has_room(&self, cells: u32) -> bool
-        requires valid { IsValid self.now }
-        requires few { cells < 65536 }
+        requires { cells < 65536 }
         ensures { result ≡ has_room self.now cells }
     {
-        self.next != STAMPS_END && self.weight() + cells <= u32::from(self.cells)
+        self.next != STAMPS_END && self.weight().saturating_add(cells) <= u32::from(self.cells)
     }
 }
 
-// How many cells records take.
-fn weigh<R: Record>(records: &[R]) -> u32
-    requires { sum_by (λ r. cells_of_record (R.entry r)) records.now ≤ most_cells }
-    ensures { result ≡ sum_by (λ r. cells_of_record (R.entry r)) records.now }
+// These cells and those that records take, up to the greatest number of four octets.
+fn weigh<R: Record>(cells: u32, records: &[R]) -> u32
+    ensures { result ≡ min (cells + sum_by (λ r. cells_of_record (R.entry r)) records.now) 0xFFFF_FFFF }
 {
-    let mut cells = 0;
+    let mut all = cells;
     for record in records {
-        cells += record.cells();
+        all = all.saturating_add(record.cells());
     }
-    cells
+    all
 }

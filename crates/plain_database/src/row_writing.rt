@@ -1,17 +1,17 @@
 // UPDATE and DELETE of the row at a cursor.
-ghost use Rattle.std.specs.Prelude.{◌≡◌, ◌==◌, nat_le, Some, None, IfSome, if◌then◌else◌, OnErr};
+ghost use Rattle.std.specs.Prelude.{◌≡◌, ◌==◌, nat_le, Some, None, IfSome, if◌then◌else◌};
 ghost use Rattle.std.specs.List.{find};
 ghost use Rattle.scql_base.specs.Row.{row_size};
 ghost use Rattle.scql_model.specs.Cursors.{IsCursorOf};
 ghost use Rattle.scql_model.specs.Database.{IsValid};
 ghost use Rattle.scql_model.specs.Writing as writing;
-ghost use Rattle.plain_database.specs.Effects.{ended, outcome};
+ghost use Rattle.plain_database.specs.Effects.{Ends, outcome};
 
 use crate::assigning::{are_changed_among, row_after};
 use crate::columns::{columns_stored, is_table_or_view};
 use crate::reaching::is_opened;
 use crate::record::Record;
-use crate::{PlainDatabase, Privilege};
+use crate::{PlainDatabase, Privilege, ValidDatabase};
 use scql_base::{Actor, Cursor, PackedChanges, RowRecord, StatusWord};
 
 impl PlainDatabase {
@@ -25,9 +25,7 @@ impl PlainDatabase {
     ) -> Result<(), StatusWord>
         requires valid { IsValid self.old }
         requires cursor { IfSome cursor.now (IsCursorOf self.old) }
-        ensures ended { ended result self.new ≡ outcome self.old (writing.row_updated self.old actor cursor.now changes.now) }
-        ensures same { OnErr result (self.new ≡ self.old) }
-        ensures cells { self.new.cells ≡ self.old.cells }
+        ensures { Ends self.old self.new result (outcome self.old (writing.row_updated self.old actor cursor.now changes.now)) }
     {
         let Some(cursor) = cursor else {
             return Err(StatusWord::CONDITIONS_NOT_SATISFIED);
@@ -35,7 +33,8 @@ impl PlainDatabase {
         if !is_opened(cursor.place) {
             return Err(StatusWord::CONDITIONS_NOT_SATISFIED);
         }
-        let Some(object) = self.seen_stamped(actor, cursor.object) else {
+        let valid = self.as_valid();
+        let Some(object) = valid.seen_stamped(actor, cursor.object) else {
             return Err(StatusWord::NOT_FOUND);
         };
         let Some(columns) = columns_stored(&object.kind) else {
@@ -47,10 +46,10 @@ impl PlainDatabase {
         if !are_changed_among(columns, changes) {
             return Err(StatusWord::NOT_FOUND);
         }
-        let Some(row) = self.record_at(cursor) else {
+        let Some(row) = valid.record_at(cursor) else {
             return Err(StatusWord::RECORD_NOT_FOUND);
         };
-        let Some(changed) = self.changed(row, changes) else {
+        let Some(changed) = valid.changed(row, changes) else {
             return Err(StatusWord::WRONG_DATA);
         };
         let before = row.cells();
@@ -62,9 +61,7 @@ impl PlainDatabase {
     pub(crate) fn delete(&mut self, actor: Actor, cursor: &Option<Cursor>) -> Result<(), StatusWord>
         requires valid { IsValid self.old }
         requires cursor { IfSome cursor.now (IsCursorOf self.old) }
-        ensures ended { ended result self.new ≡ outcome self.old (writing.row_deleted self.old actor cursor.now) }
-        ensures same { OnErr result (self.new ≡ self.old) }
-        ensures cells { self.new.cells ≡ self.old.cells }
+        ensures { Ends self.old self.new result (outcome self.old (writing.row_deleted self.old actor cursor.now)) }
     {
         let Some(cursor) = cursor else {
             return Err(StatusWord::CONDITIONS_NOT_SATISFIED);
@@ -72,7 +69,8 @@ impl PlainDatabase {
         if !is_opened(cursor.place) {
             return Err(StatusWord::CONDITIONS_NOT_SATISFIED);
         }
-        let Some(object) = self.seen_stamped(actor, cursor.object) else {
+        let valid = self.as_valid();
+        let Some(object) = valid.seen_stamped(actor, cursor.object) else {
             return Err(StatusWord::NOT_FOUND);
         };
         if !is_table_or_view(&object.kind) {
@@ -81,22 +79,25 @@ impl PlainDatabase {
         if !self.holds(actor, object, Privilege::Delete) {
             return Err(StatusWord::SECURITY_NOT_SATISFIED);
         }
-        let Some(row) = self.record_at(cursor) else {
+        let Some(row) = valid.record_at(cursor) else {
             return Err(StatusWord::RECORD_NOT_FOUND);
         };
         let stamp = row.stamp;
         self.remove_row(stamp);
         Ok(())
     }
+}
+
+impl<'a> ValidDatabase<'a> {
     // A row after changes, where it is within the card's limit.
     fn changed(&self, row: &RowRecord, changes: &PackedChanges) -> Option<RowRecord>
-        requires valid { IsValid self.now }
-        requires among { find (λ s. s.stamp == row.now.stamp) self.now.rows ≡ Some row.now }
+        requires { find (λ s. s.stamp == row.now.stamp) self.now.rows ≡ Some row.now }
         ensures { result ≡ (if nat_le (row_size (writing.row_after self.now changes.now row.now).row) self.now.limit then Some (writing.row_after self.now changes.now row.now) else None) }
     {
+        let database = self.database();
         let columns = self.columns_of_row(row)?;
         let after = row_after(columns, changes, &row.row)?;
-        if after.size() > usize::from(self.limit) {
+        if after.size() > usize::from(database.limit()) {
             return None;
         }
         Some(RowRecord {

@@ -1,12 +1,11 @@
 // Searches among the users and the objects: by a name through all, by a stamp by halves.
 ghost use Rattle.std.specs.Prelude.{◌≡◌, option_copied};
-ghost use Rattle.scql_model.specs.Database.{IsValid};
 ghost use Rattle.scql_model.specs.Objects as objects;
 ghost use Rattle.scql_model.specs.Rights as rights;
 ghost use Rattle.scql_model.specs.Rules as rules;
 
-use crate::PlainDatabase;
 use crate::stamped::find_stamped;
+use crate::{PlainDatabase, ValidDatabase};
 use scql_base::{Actor, Name, Object, User};
 
 impl PlainDatabase {
@@ -19,22 +18,6 @@ impl PlainDatabase {
             .find(|user| name.octets() == user.name.octets())
     }
 
-    /// The user of a stamp.
-    pub fn user_stamped(&self, stamp: u32) -> Option<&User>
-        requires valid { IsValid self.now }
-        ensures { option_copied result ≡ rules.user_stamped self.now.users stamp }
-    {
-        find_stamped(self.users(), stamp)
-    }
-
-    /// The object of a stamp.
-    pub fn object_stamped(&self, stamp: u32) -> Option<&Object>
-        requires valid { IsValid self.now }
-        ensures { option_copied result ≡ objects.object_stamped self.now.objects stamp }
-    {
-        find_stamped(self.objects(), stamp)
-    }
-
     /// The object of a name, where it appears to an actor.
     pub fn seen_named(&self, actor: Actor, name: &Name) -> Option<&Object>
         ensures { option_copied result ≡ rights.seen_named self.now actor name.now }
@@ -43,14 +26,30 @@ impl PlainDatabase {
             name.octets() == object.name.octets() && self.appears(actor, object)
         })
     }
+}
+
+impl<'a> ValidDatabase<'a> {
+    /// The user of a stamp.
+    pub fn user_stamped(&self, stamp: u32) -> Option<&'a User>
+        ensures { option_copied result ≡ rules.user_stamped self.now.users stamp }
+    {
+        find_stamped(self.database().users(), stamp)
+    }
+
+    /// The object of a stamp.
+    pub fn object_stamped(&self, stamp: u32) -> Option<&'a Object>
+        ensures { option_copied result ≡ objects.object_stamped self.now.objects stamp }
+    {
+        find_stamped(self.database().objects(), stamp)
+    }
 
     /// The object of a stamp, where it appears to an actor.
-    pub fn seen_stamped(&self, actor: Actor, stamp: u32) -> Option<&Object>
-        requires valid { IsValid self.now }
+    pub fn seen_stamped(&self, actor: Actor, stamp: u32) -> Option<&'a Object>
         ensures { option_copied result ≡ rights.seen_stamped self.now actor stamp }
     {
+        let database = self.database();
         let object = self.object_stamped(stamp)?;
-        if self.appears(actor, object) {
+        if database.appears(actor, object) {
             Some(object)
         } else {
             None

@@ -1,13 +1,15 @@
 // The rows that a cursor shows, through the views between it and their table.
-ghost use Rattle.std.specs.Prelude.{◌≡◌, ◌==◌, Some, IfSome, option_copied, option_map};
+ghost use Rattle.std.specs.Prelude.{◌≡◌, ◌==◌, ◌≤◌, Some, IfSome, option_copied, option_map};
 ghost use Rattle.std.specs.List.{find};
+ghost use Rattle.scql_base.specs.Row.{row_size};
+ghost use Rattle.scql_base.specs.declared.row.TheConstants.Row.{LARGEST};
+ghost use Rattle.scql_model.specs.Contents.{cut_to};
 ghost use Rattle.scql_model.specs.Cursors.{IsCursorOf};
-ghost use Rattle.scql_model.specs.Database.{IsValid};
 ghost use Rattle.scql_model.specs.Resolving as resolving;
 ghost use Rattle.plain_database.specs.Sought as model;
 
 use crate::matching::{cut_to, matches};
-use crate::{PlainDatabase, Resolved, Sought};
+use crate::{Resolved, Sought, ValidDatabase};
 use scql_base::{Condition, Cursor, Row, RowRecord};
 
 /// A row as a cursor shows it, with the stamp of its record.
@@ -17,22 +19,23 @@ pub struct ShownRow {
     pub values: Row,
 }
 
-impl PlainDatabase {
+impl<'a> ValidDatabase<'a> {
     /// The record of the row that is sought among those that a cursor shows.
     pub fn find_record(
         &self,
         resolved: &Resolved<'_>,
         cursor: &Cursor,
         sought: Sought,
-    ) -> Option<&RowRecord>
-        requires valid { IsValid self.now }
+    ) -> Option<&'a RowRecord>
         requires cursor { IsCursorOf self.now cursor.now }
         requires resolved { resolving.resolved_of self.now.objects cursor.now.object ≡ Some resolved.now }
         ensures shown { option_map (model.row_through resolved.now cursor.now.columns) (option_copied result) ≡ model.sought_row self.now cursor.now sought }
         ensures among { IfSome (option_copied result) (λ r. find (λ s. s.stamp == r.stamp) self.now.rows ≡ Some r) }
         ensures table { IfSome (option_copied result) (λ r. r.table ≡ resolved.now.table) }
+        ensures fits { IfSome (option_copied result) (λ r. row_size (cut_to resolved.now.all cursor.now.columns r.row) ≤ LARGEST) }
     {
-        self.find_in_table(resolved, cursor.conditions.as_slice(), sought)
+        let rows = sought.admitted(self.database().rows());
+        find_among(rows, resolved, cursor.conditions.as_slice())
     }
 
     /// The row that is sought among those that a cursor shows.
@@ -42,7 +45,6 @@ impl PlainDatabase {
         cursor: &Cursor,
         sought: Sought,
     ) -> Option<ShownRow>
-        requires valid { IsValid self.now }
         requires cursor { IsCursorOf self.now cursor.now }
         requires resolved { resolving.resolved_of self.now.objects cursor.now.object ≡ Some resolved.now }
         ensures { option_map model.row_shown result ≡ model.sought_row self.now cursor.now sought }
@@ -52,19 +54,6 @@ impl PlainDatabase {
             stamp: found.stamp,
             values: cut_to(resolved.all(), &cursor.columns, &found.row),
         })
-    }
-
-    // The record of the row that is sought in a table.
-    fn find_in_table(
-        &self,
-        resolved: &Resolved<'_>,
-        conditions: &[Condition],
-        sought: Sought,
-    ) -> Option<&RowRecord>
-        requires valid { IsValid self.now }
-        ensures { option_copied result ≡ find (model.is_sought resolved.now conditions.now sought) self.now.rows }
-    {
-        find_among(sought.admitted(self.rows()), resolved, conditions)
     }
 }
 

@@ -1,10 +1,9 @@
 // CREATE USER.
-ghost use Rattle.std.specs.Prelude.{◌≡◌, OnErr};
+ghost use Rattle.std.specs.Prelude.{◌≡◌};
 ghost use Rattle.std.specs.List.{list_any};
 ghost use Rattle.scql_model.specs.Creating as creating;
-ghost use Rattle.scql_model.specs.Database.{IsValid};
 ghost use Rattle.scql_model.specs.Rules as rules;
-ghost use Rattle.plain_database.specs.Effects.{ended, outcome};
+ghost use Rattle.plain_database.specs.Effects.{Ends, outcome};
 
 use crate::PlainDatabase;
 use crate::rights::actor_stamp;
@@ -19,10 +18,7 @@ impl PlainDatabase {
         profile: Profile,
         secret: &Octets<8>,
     ) -> Result<(), StatusWord>
-        requires valid { IsValid self.old }
-        ensures ended { ended result self.new ≡ outcome self.old (creating.user_added self.old actor name.now profile secret.now) }
-        ensures same { OnErr result (self.new ≡ self.old) }
-        ensures cells { self.new.cells ≡ self.old.cells }
+        ensures { Ends self.old self.new result (outcome self.old (creating.user_added self.old actor name.now profile secret.now)) }
     {
         if !may_create(actor, profile) {
             return Err(StatusWord::SECURITY_NOT_SATISFIED);

@@ -1,9 +1,9 @@
 // DELETE USER.
-ghost use Rattle.std.specs.Prelude.{◌≡◌, ◌==◌, OnErr};
+ghost use Rattle.std.specs.Prelude.{◌≡◌, ◌==◌};
 ghost use Rattle.std.specs.List.{list_any};
 ghost use Rattle.scql_model.specs.Database.{IsValid};
 ghost use Rattle.scql_model.specs.Users as users;
-ghost use Rattle.plain_database.specs.Effects.{ended, outcome};
+ghost use Rattle.plain_database.specs.Effects.{Ends, outcome};
 
 use crate::PlainDatabase;
 use crate::rights::is_owned_by;
@@ -14,9 +14,7 @@ impl PlainDatabase {
     #[tactic(auto, unfolding(scql_model::specs::Users::user_deleted))]
     pub(crate) fn delete_user(&mut self, actor: Actor, name: &Name) -> Result<(), StatusWord>
         requires valid { IsValid self.old }
-        ensures ended { ended result self.new ≡ outcome self.old (users.user_deleted self.old actor name.now) }
-        ensures same { OnErr result (self.new ≡ self.old) }
-        ensures cells { self.new.cells ≡ self.old.cells }
+        ensures { Ends self.old self.new result (outcome self.old (users.user_deleted self.old actor name.now)) }
     {
         let Some(user) = self.user_named(name) else {
             return Err(StatusWord::NOT_FOUND);

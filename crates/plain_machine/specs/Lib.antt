@@ -1,3 +1,4 @@
 pub mod Answers
+pub mod Serving
 pub mod Sessions
 pub mod Standing

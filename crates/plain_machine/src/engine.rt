@@ -1,7 +1,6 @@
 // What carries out commands: the committed database and the working one, the open transaction, and the sessions.
-ghost use Rattle.std.specs.Prelude.{◌≡◌, ◌<◌, IfOk, is_some};
+ghost use Rattle.std.specs.Prelude.{◌≡◌, IfOk, is_some};
 ghost use Rattle.scql_base.specs.Words.{done};
-ghost use Rattle.scql_model.specs.Database.{IsValid};
 ghost use Rattle.scql_model.specs.Machine as machine;
 ghost use Rattle.scql_model.specs.Replies.{said};
 ghost use Rattle.scql_model.specs.Sessions as model;
@@ -15,10 +14,11 @@ mod stepping;
 mod transacting;
 mod users;
 
+use crate::channel::Channel;
 use crate::sessions::Sessions;
 use apdu::Reply;
 use eeprom::Heap;
-use plain_database::PlainDatabase;
+use plain_database::{PlainDatabase, ValidDatabase};
 use scql_base::{Actor, PresentedUser, StatusWord};
 use std::alloc::AllocError;
 use std::marker::Model;
@@ -75,17 +75,17 @@ impl Engine {
     }
 
     // Whether a channel has the open transaction.
-    fn has_transaction(&self, channel: u8) -> bool
+    fn has_transaction(&self, channel: Channel) -> bool
         ensures { result ≡ is_some (own_transaction self.now.transaction channel) }
     {
         match self.transaction {
-            Some(own) => own == channel,
+            Some(own) => own == channel.number(),
             None => false,
         }
     }
 
     // What a channel reads and changes.
-    fn base(&self, channel: u8) -> &PlainDatabase
+    fn base(&self, channel: Channel) -> &PlainDatabase
         ensures { result.now ≡ machine.base self.now channel }
     {
         if self.has_transaction(channel) {
@@ -96,20 +96,18 @@ impl Engine {
     }
 
     // For whom a channel acts.
-    fn actor(&self, channel: u8) -> Actor
-        requires channel { channel < 4 }
-        requires valid { IsValidMachine self.now }
+    fn actor(&self, channel: Channel) -> Actor
+        requires { IsValidMachine self.now }
         ensures { result ≡ machine.actor self.now channel }
     {
         match self.sessions.user(channel) {
-            Some(user) => actor_of(self.base(channel), user),
+            Some(user) => actor_of(&self.base(channel).as_valid(), user),
             None => Actor::Public,
         }
     }
 
     // A command of a channel is done: nothing is pending there any more.
-    fn finish(&mut self, channel: u8, reply: &mut Reply)
-        requires { channel < 4 }
+    fn finish(&mut self, channel: Channel, reply: &mut Reply)
         ensures reply { reply.new ≡ said done }
         ensures machine { self.new ≡ model.changing_session model.without_pending self.old channel }
     {
@@ -127,8 +125,7 @@ fn say(reply: &mut Reply, word: StatusWord)
 }
 
 // For whom a session acts that presents a user: the user where proved and still there, else PUBLIC.
-fn actor_of(database: &PlainDatabase, user: PresentedUser) -> Actor
-    requires valid { IsValid database.now }
+fn actor_of(database: &ValidDatabase<'_>, user: PresentedUser) -> Actor
     ensures { result ≡ machine.actor_of database.now user }
 {
     if !user.proved {

@@ -1,5 +1,5 @@
 // The sessions of the four channels, and the parts of their commands.
-ghost use Rattle.std.specs.Prelude.{◌≡◌, ◌<◌, ◌∷◌, [], Some, None, IfSome, is_some, map, min, not, option_and_then, option_map, slice_set, true, OnErr};
+ghost use Rattle.std.specs.Prelude.{◌≡◌, ◌∷◌, [], Some, None, IfSome, is_some, map, min, not, option_and_then, option_map, slice_set, true, OnErr};
 ghost use Rattle.std.specs.List.{find};
 ghost use Rattle.scql_base.specs.declared.row.TheConstants.Row.{LARGEST};
 ghost use Rattle.scql_model.specs.Changing.{change_of};
@@ -12,15 +12,15 @@ ghost use Rattle.scql_model.specs.Operations.{operations};
 ghost use Rattle.scql_model.specs.Sessions as model;
 ghost use Rattle.scql_model.specs.WellFormed.{IsWellFormed};
 ghost use Rattle.apdu_chain.specs.Chaining.{taken_of};
-ghost use Rattle.plain_database.specs.Effects.{ended};
+ghost use Rattle.plain_database.specs.Effects.{Ends, ended};
 ghost use Rattle.plain_reading.specs.Commands.{HasLe, command_seen};
-ghost use Rattle.plain_reading.specs.Outcomes.{ended_with};
 ghost use Rattle.plain_machine.specs.Sessions.{are_open, chain_in, changed_on, left_session, reading_on, session_on, session_seen, sessions_after};
 
+use crate::channel::Channel;
 use crate::session::Session;
 use apdu::Reply;
 use apdu_chain::{Chains, Taken};
-use plain_database::PlainDatabase;
+use plain_database::{PlainDatabase, ValidDatabase};
 use plain_reading::{Reading, ReadingCommand, read};
 use scql_base::{Actor, Command, Operation, PresentedUser, StatusWord};
 use std::marker::Model;
@@ -68,35 +68,35 @@ impl Sessions {
     }
 
     /// Whether a channel is open.
-    pub(crate) fn is_open(&self, channel: u8) -> bool
-        requires { channel < 4 }
+    pub(crate) fn is_open(&self, channel: Channel) -> bool
         ensures { result ≡ is_some (session_on self.now channel) }
     {
-        self.channels[channel as usize].is_some()
+        let place = channel.place();
+        self.channels[place].is_some()
     }
 
     /// The least channel that is closed.
-    pub(crate) fn least_closed(&self) -> Option<u8>
-        ensures least { result ≡ find (λ channel. not (is_some (session_on self.now channel))) (1 ∷ 2 ∷ 3 ∷ []) }
-        ensures few { IfSome result (λ channel. channel < 4) }
+    pub(crate) fn least_closed(&self) -> Option<Channel>
+        ensures { result ≡ find (λ channel. not (is_some (session_on self.now channel))) (1 ∷ 2 ∷ 3 ∷ []) }
     {
-        if !self.is_open(1) {
-            Some(1)
-        } else if !self.is_open(2) {
-            Some(2)
-        } else if !self.is_open(3) {
-            Some(3)
+        let (first, second, third) = (Channel::new(1), Channel::new(2), Channel::new(3));
+        if !self.is_open(first) {
+            Some(first)
+        } else if !self.is_open(second) {
+            Some(second)
+        } else if !self.is_open(third) {
+            Some(third)
         } else {
             None
         }
     }
 
     /// The user of a channel.
-    pub(crate) fn user(&self, channel: u8) -> Option<PresentedUser>
-        requires { channel < 4 }
+    pub(crate) fn user(&self, channel: Channel) -> Option<PresentedUser>
         ensures { result ≡ option_and_then (λ s. s.user) (session_on self.now channel) }
     {
-        match &self.channels[channel as usize] {
+        let place = channel.place();
+        match &self.channels[place] {
             Some(session) => session.user,
             None => None,
         }
@@ -105,22 +105,21 @@ impl Sessions {
     /// Carries out a reading command on an open channel, or refuses it.
     pub(crate) fn read(
         &mut self,
-        channel: u8,
-        database: &PlainDatabase,
+        channel: Channel,
+        database: &ValidDatabase<'_>,
         actor: Actor,
         command: &ReadingCommand<'_>,
         reply: &mut Reply,
     ) -> Result<(), StatusWord>
-        requires channel { channel < 4 }
         requires open { is_some (session_on self.old channel) ≡ true }
-        requires valid { IsValid database.now }
         requires cursor { IfSome (reading_on self.old channel).cursor (IsCursorOf database.now) }
         requires le { HasLe command.now }
-        ensures moved { ended_with result (record { reply = reply.new; after = reading_on self.new channel }) ≡ moved database.now actor (reading_on self.old channel) (command_seen command.now) }
+        ensures moved { ended result (record { reply = reply.new; after = reading_on self.new channel }) ≡ moved database.now actor (reading_on self.old channel) (command_seen command.now) }
         ensures reading { self.new ≡ changed_on (model.reading_so (reading_on self.new channel)) self.old channel }
         ensures same { OnErr result (self.new ≡ self.old) }
     {
-        match &mut self.channels[channel as usize] {
+        let place = channel.place();
+        match &mut self.channels[place] {
             Some(session) => read(database, actor, &mut session.reading, command, reply),
             None => unreachable!(),
         }
@@ -129,66 +128,63 @@ impl Sessions {
     /// Carries out a changing command of an open channel on its database, or refuses it.
     pub(crate) fn change(
         &self,
-        channel: u8,
+        channel: Channel,
         database: &mut PlainDatabase,
         actor: Actor,
         operation: &Operation,
     ) -> Result<(), StatusWord>
-        requires channel { channel < 4 }
         requires open { is_some (session_on self.now channel) ≡ true }
         requires valid { IsValid database.old }
         requires cursor { IfSome (reading_on self.now channel).cursor (IsCursorOf database.old) }
-        ensures ended { ended result database.new ≡ change_of database.old actor (reading_on self.now channel).cursor operation.now }
-        ensures same { OnErr result (database.new ≡ database.old) }
+        ensures ends { Ends database.old database.new result (change_of database.old actor (reading_on self.now channel).cursor operation.now) }
         ensures cells { database.new.cells ≡ database.old.cells }
     {
-        match &self.channels[channel as usize] {
+        let place = channel.place();
+        match &self.channels[place] {
             Some(session) => database.change(actor, &session.reading.cursor, operation),
             None => unreachable!(),
         }
     }
 
     /// Nothing is pending on a channel any more.
-    pub(crate) fn drop_pending(&mut self, channel: u8)
-        requires { channel < 4 }
+    pub(crate) fn drop_pending(&mut self, channel: Channel)
         ensures { self.new ≡ changed_on model.without_pending self.old channel }
     {
-        if let Some(session) = &mut self.channels[channel as usize] {
+        let place = channel.place();
+        if let Some(session) = &mut self.channels[place] {
             session.reading.drop_pending();
         }
     }
 
     /// A channel has no cursor any more, nor is anything pending on it.
-    pub(crate) fn drop_cursor(&mut self, channel: u8)
-        requires { channel < 4 }
+    pub(crate) fn drop_cursor(&mut self, channel: Channel)
         ensures { self.new ≡ changed_on model.without_cursor self.old channel }
     {
-        if let Some(session) = &mut self.channels[channel as usize] {
+        let place = channel.place();
+        if let Some(session) = &mut self.channels[place] {
             session.reading = Reading::new();
         }
     }
 
     /// The user of a channel has shown the secret.
-    pub(crate) fn prove(&mut self, channel: u8)
-        requires { channel < 4 }
+    pub(crate) fn prove(&mut self, channel: Channel)
         ensures { self.new ≡ changed_on model.proving self.old channel }
     {
-        if let Some(session) = &mut self.channels[channel as usize] {
+        let place = channel.place();
+        if let Some(session) = &mut self.channels[place] {
             session.prove();
         }
     }
 
     /// A channel is open anew, for a user or for nobody.
-    pub(crate) fn open(&mut self, channel: u8, user: Option<PresentedUser>)
-        requires { channel < 4 }
+    pub(crate) fn open(&mut self, channel: Channel, user: Option<PresentedUser>)
         ensures { self.new ≡ slice_set self.old channel (Some (machine.session_for user)) }
     {
         self.set(channel, Some(Session::new(user)));
     }
 
     /// A channel is closed.
-    pub(crate) fn close(&mut self, channel: u8)
-        requires { channel < 4 }
+    pub(crate) fn close(&mut self, channel: Channel)
         ensures { self.new ≡ slice_set self.old channel None }
     {
         self.set(channel, None);
@@ -202,12 +198,12 @@ impl Sessions {
     }
 
     // A channel has this session, or none, and no part of a command.
-    fn set(&mut self, channel: u8, session: Option<Session>)
-        requires { channel < 4 }
+    fn set(&mut self, channel: Channel, session: Option<Session>)
         ensures { self.new ≡ slice_set self.old channel (option_map (session_seen None) session) }
     {
-        self.chains.forget(channel);
-        self.channels[channel as usize] = session;
+        let place = channel.place();
+        self.chains.forget(channel.number());
+        self.channels[place] = session;
     }
 
     // Which channels are open.

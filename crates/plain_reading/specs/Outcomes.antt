@@ -1,5 +1,5 @@
 -- How a command ended.
-use Rattle.std.specs.Prelude.{ℕ, Result, Ok, Err}
+use Rattle.std.specs.Prelude.{◌≡◌, ℕ, Result, Ok, OnErr}
 use Rattle.scql_base.specs.declared.cursor.Cursor.{Cursor}
 use Rattle.scql_base.specs.declared.cursor.Place.{Place}
 use Rattle.scql_base.specs.declared.words.StatusWord.{StatusWord}
@@ -8,11 +8,15 @@ use Rattle.scql_model.specs.Matching.{Values}
 use Rattle.scql_model.specs.Moves.{giving}
 use Rattle.scql_model.specs.ReadingCommands.{Move, fitting, row_octets}
 use Rattle.scql_model.specs.Refusals.{◌>>=◌}
+use Rattle.scql_model.specs.Replies.{Reply}
+use Rattle.plain_database.specs.Effects.{ended}
 
--- with something, or with the word that it was refused with
-abbrev pub ended_with : {A : Type 0} → Result (Unit {0}) StatusWord → A → Result A StatusWord
-ended_with (Ok done) x = Ok x
-ended_with (Err word) x = Err word
+-- How a command ended: answered, or refused.
+pub record Answers {A : Type 0} (old new : A) (reply : Reply) (result : Result (Unit {0}) StatusWord) (meant : Result (Move A) StatusWord) : Type 0 where
+  -- it gave the reply that is meant and left what is meant, or was refused with the word that is meant
+  pub answered : (let move : Move A = record { reply = reply; after = new } in ended result move) ≡ meant
+  -- where it was refused, what it works on is as it was
+  pub same : OnErr result (new ≡ old)
 
 -- a row is given at a place, where Le allows it
 abbrev pub given : Place → Cursor → ℕ → Values → Result (Move Reading) StatusWord

@@ -3,7 +3,7 @@ ghost use Rattle.std.specs.Prelude.{◌≡◌, ◌&&◌, List, filter, length, m
 ghost use Rattle.std.specs.List.{find};
 ghost use Rattle.scql_model.specs.Contents.{narrowed};
 ghost use Rattle.eeprom.specs.Slots.{Rises};
-ghost use Rattle.scql_model.specs.Database.{IsValid, are_among, are_different};
+ghost use Rattle.scql_model.specs.Database.{are_among, are_different};
 ghost use Rattle.scql_model.specs.Dictionaries.{rows_told, tells_of};
 ghost use Rattle.scql_model.specs.Matching as matching;
 ghost use Rattle.scql_model.specs.Objects as objects;
@@ -12,7 +12,7 @@ ghost use Rattle.plain_reading.specs.Found.{is_sought_row};
 
 use crate::texts::dictionary_columns;
 use crate::told::Told;
-use plain_database::{PlainDatabase, ShownRow, Sought, cut_to, matches};
+use plain_database::{ShownRow, Sought, ValidDatabase, cut_to, matches};
 use scql_base::{Cursor, NameList, Row, Subject};
 
 /// The stamp of OWNER.
@@ -20,35 +20,35 @@ const OWNER: u32 = 1;
 
 /// The row that is sought among those that a cursor shows of a dictionary of this owner.
 pub(crate) fn find_told(
-    database: &PlainDatabase,
+    database: &ValidDatabase<'_>,
     owner: u32,
     subject: Subject,
     cursor: &Cursor,
     sought: Sought,
 ) -> Option<ShownRow>
-    requires valid { IsValid database.now }
     requires different { are_different cursor.now.columns ≡ true }
     requires among { are_among cursor.now.columns (objects.dictionary_columns subject) ≡ true }
     ensures { option_map row_shown result ≡ find (λ r. admits sought r.stamp)
         (narrowed cursor.now.columns cursor.now.conditions (record { columns = objects.dictionary_columns subject; rows = rows_told database.now owner subject })) }
 {
     let columns = dictionary_columns(subject);
+    let records = database.database();
     let dictionary = Dictionary {
         database,
         owner,
         columns: &columns,
     };
     match subject {
-        Subject::Objects => dictionary.find_shown(database.objects(), cursor, sought),
-        Subject::Users => dictionary.find_shown(database.users(), cursor, sought),
-        Subject::Grants => dictionary.find_shown(database.grants(), cursor, sought),
+        Subject::Objects => dictionary.find_shown(records.objects(), cursor, sought),
+        Subject::Users => dictionary.find_shown(records.users(), cursor, sought),
+        Subject::Grants => dictionary.find_shown(records.grants(), cursor, sought),
     }
 }
 
 // A dictionary of a database: whose it is, and its columns.
 #[derive(Drop)]
 struct Dictionary<'a> {
-    database: &'a PlainDatabase,
+    database: &'a ValidDatabase<'a>,
     owner: u32,
     columns: &'a NameList,
 }
@@ -61,7 +61,6 @@ impl<'a> Dictionary<'a> {
         cursor: &Cursor,
         sought: Sought,
     ) -> Option<ShownRow>
-        requires valid { IsValid self.now.database.now }
         requires rises { Rises R.stamp_of records.now }
         requires different { are_different cursor.now.columns ≡ true }
         requires among { are_among cursor.now.columns self.now.columns.now ≡ true }
@@ -86,7 +85,6 @@ impl<'a> Dictionary<'a> {
         cursor: &Cursor,
         sought: Sought,
     ) -> Option<&'b R>
-        requires valid { IsValid self.now.database.now }
         requires rises { Rises R.stamp_of records.now }
         ensures { option_copied result ≡ find (λ r. tells_of self.now.owner (R.owned_by self.now.database.now r)
             && is_sought_row self.now.columns.now cursor.now.conditions sought (R.told self.now.database.now r)) records.now }
@@ -96,7 +94,6 @@ impl<'a> Dictionary<'a> {
 
     // The first record of which the dictionary tells, and whose row meets a cursor's conditions.
     fn find_among<'b, R: Told>(&self, records: &'b [R], cursor: &Cursor) -> Option<&'b R>
-        requires valid { IsValid self.now.database.now }
         ensures { option_copied result ≡ find (λ r. tells_of self.now.owner (R.owned_by self.now.database.now r)
             && matching.matches self.now.columns.now cursor.now.conditions (R.told self.now.database.now r).values) records.now }
     {
@@ -105,7 +102,6 @@ impl<'a> Dictionary<'a> {
 
     // Whether it tells of a record, and the row meets a cursor's conditions.
     fn shows<R: Told>(&self, entry: &R, cursor: &Cursor) -> bool
-        requires valid { IsValid self.now.database.now }
         ensures { result ≡ (tells_of self.now.owner (R.owned_by self.now.database.now entry.now)
             && matching.matches self.now.columns.now cursor.now.conditions (R.told self.now.database.now entry.now).values) }
     {
@@ -114,7 +110,6 @@ impl<'a> Dictionary<'a> {
 
     // Whether it tells of a record.
     fn tells_of<R: Told>(&self, entry: &R) -> bool
-        requires valid { IsValid self.now.database.now }
         ensures { result ≡ tells_of self.now.owner (R.owned_by self.now.database.now entry.now) }
     {
         self.owner == OWNER || entry.owner(self.database) == self.owner
@@ -122,7 +117,6 @@ impl<'a> Dictionary<'a> {
 
     // Whether the row of a record meets a cursor's conditions.
     fn meets<R: Told>(&self, entry: &R, cursor: &Cursor) -> bool
-        requires valid { IsValid self.now.database.now }
         ensures { result ≡ matching.matches self.now.columns.now cursor.now.conditions (R.told self.now.database.now entry.now).values }
     {
         matches(

@@ -2,29 +2,29 @@
 ghost use Rattle.std.specs.Prelude.{◌≡◌, Some, option_map};
 ghost use Rattle.scql_model.specs.Contents.{contents_of};
 ghost use Rattle.scql_model.specs.Cursors.{IsCursorOf};
-ghost use Rattle.scql_model.specs.Database.{IsValid};
 ghost use Rattle.scql_model.specs.Moves as moves;
 ghost use Rattle.scql_model.specs.Objects.{object_stamped};
 ghost use Rattle.plain_database.specs.Sought.{row_shown, sought_row};
 
 use crate::dictionary::find_told;
-use plain_database::{PlainDatabase, ShownRow, Sought};
+use plain_database::{ShownRow, Sought, ValidDatabase};
 use scql_base::{Cursor, Object, ObjectKind, Place};
 
 /// The row that is sought among those that a cursor shows of its object.
 pub(crate) fn find_row(
-    database: &PlainDatabase,
+    database: &ValidDatabase<'_>,
     object: &Object,
     cursor: &Cursor,
     sought: Sought,
 ) -> Option<ShownRow>
-    requires valid { IsValid database.now }
     requires cursor { IsCursorOf database.now cursor.now }
     requires object { object_stamped database.now.objects cursor.now.object ≡ Some object.now }
     ensures { option_map row_shown result ≡ sought_row database.now cursor.now sought }
 {
     match &object.kind {
         ObjectKind::Table { .. } | ObjectKind::View { .. } => {
+            // In a valid database each table and each view is resolved.
+            let _valid = database.database();
             let resolved = database.resolved(cursor.object)?;
             database.find_through(&resolved, cursor, sought)
         }
@@ -36,11 +36,10 @@ pub(crate) fn find_row(
 
 /// The first row behind a cursor's place. Behind the end there is none.
 pub(crate) fn row_behind(
-    database: &PlainDatabase,
+    database: &ValidDatabase<'_>,
     object: &Object,
     cursor: &Cursor,
 ) -> Option<ShownRow>
-    requires valid { IsValid database.now }
     requires cursor { IsCursorOf database.now cursor.now }
     requires object { object_stamped database.now.objects cursor.now.object ≡ Some object.now }
     ensures { option_map row_shown result ≡ moves.row_behind cursor.now.place (moves.chosen (contents_of database.now cursor.now.object) cursor.now) }

@@ -3,34 +3,32 @@ ghost use Rattle.std.specs.Prelude.{◌≡◌, ◌<◌, Some, IfSome, OnErr, opt
 ghost use Rattle.scql_base.specs.Words.{wrong_le};
 ghost use Rattle.scql_base.specs.declared.cursor.Cursor as cursors;
 ghost use Rattle.scql_model.specs.Cursors.{IsCursorOf};
-ghost use Rattle.scql_model.specs.Database.{IsValid};
 ghost use Rattle.scql_model.specs.Moves as moves;
 ghost use Rattle.scql_model.specs.ReadingCommands as commands;
 ghost use Rattle.plain_database.specs.Sought.{row_shown};
 ghost use Rattle.plain_reading.specs.Commands.{HasLe, IsLe, command_seen};
-ghost use Rattle.plain_reading.specs.Outcomes.{ended_with, given};
+ghost use Rattle.plain_database.specs.Effects.{ended};
+ghost use Rattle.plain_reading.specs.Outcomes.{Answers, given};
 
 use crate::found::{find_row, row_behind};
 use crate::readable::{opened, readable};
 use crate::texts::columns_of;
 use crate::{Reading, ReadingCommand};
 use apdu::Reply;
-use plain_database::{PlainDatabase, Privilege, ShownRow, Sought, are_named_among, wanted_of};
+use plain_database::{Privilege, ShownRow, Sought, ValidDatabase, are_named_among, wanted_of};
 use scql_base::{Actor, Conditions, Cursor, Name, NameList, Place, Row, StatusWord};
 
 /// Carries out a reading command for an actor, or refuses it.
 pub fn read(
-    database: &PlainDatabase,
+    database: &ValidDatabase<'_>,
     actor: Actor,
     reading: &mut Reading,
     command: &ReadingCommand<'_>,
     reply: &mut Reply,
 ) -> Result<(), StatusWord>
-    requires valid { IsValid database.now }
     requires cursor { IfSome reading.old.cursor (IsCursorOf database.now) }
     requires le { HasLe command.now }
-    ensures moved { ended_with result (record { reply = reply.new; after = reading.new }) ≡ moves.moved database.now actor reading.old (command_seen command.now) }
-    ensures same { OnErr result (reading.new ≡ reading.old) }
+    ensures { Answers reading.old reading.new reply.new result (moves.moved database.now actor reading.old (command_seen command.now)) }
 {
     match command {
         ReadingCommand::Declare {
@@ -48,7 +46,7 @@ pub fn read(
 
 // DECLARE CURSOR: the session has a new cursor, which isn't opened.
 fn declare(
-    database: &PlainDatabase,
+    database: &ValidDatabase<'_>,
     actor: Actor,
     reading: &mut Reading,
     object: &Name,
@@ -56,14 +54,13 @@ fn declare(
     conditions: &Conditions,
     reply: &mut Reply,
 ) -> Result<(), StatusWord>
-    requires valid { IsValid database.now }
-    ensures moved { ended_with result (record { reply = reply.new; after = reading.new }) ≡ moves.moved database.now actor reading.old (commands.declare object.now columns.now conditions.now) }
-    ensures same { OnErr result (reading.new ≡ reading.old) }
+    ensures { Answers reading.old reading.new reply.new result (moves.moved database.now actor reading.old (commands.declare object.now columns.now conditions.now)) }
 {
-    let Some(object) = database.seen_named(actor, object) else {
+    let records = database.database();
+    let Some(object) = records.seen_named(actor, object) else {
         return Err(StatusWord::NOT_FOUND);
     };
-    if !database.holds(actor, object, Privilege::Select) {
+    if !records.holds(actor, object, Privilege::Select) {
         return Err(StatusWord::SECURITY_NOT_SATISFIED);
     }
     let all = columns_of(&object.kind);
@@ -82,15 +79,13 @@ fn declare(
 
 // OPEN: the cursor goes to the first row, or to its end.
 fn open_cursor(
-    database: &PlainDatabase,
+    database: &ValidDatabase<'_>,
     actor: Actor,
     reading: &mut Reading,
     reply: &mut Reply,
 ) -> Result<(), StatusWord>
-    requires valid { IsValid database.now }
     requires cursor { IfSome reading.old.cursor (IsCursorOf database.now) }
-    ensures moved { ended_with result (record { reply = reply.new; after = reading.new }) ≡ moves.moved database.now actor reading.old commands.open_cursor }
-    ensures same { OnErr result (reading.new ≡ reading.old) }
+    ensures { Answers reading.old reading.new reply.new result (moves.moved database.now actor reading.old commands.open_cursor) }
 {
     let Some(cursor) = &reading.cursor else {
         return Err(StatusWord::CONDITIONS_NOT_SATISFIED);
@@ -103,15 +98,13 @@ fn open_cursor(
 
 // NEXT: the cursor goes to the next row, or to its end.
 fn next(
-    database: &PlainDatabase,
+    database: &ValidDatabase<'_>,
     actor: Actor,
     reading: &mut Reading,
     reply: &mut Reply,
 ) -> Result<(), StatusWord>
-    requires valid { IsValid database.now }
     requires cursor { IfSome reading.old.cursor (IsCursorOf database.now) }
-    ensures moved { ended_with result (record { reply = reply.new; after = reading.new }) ≡ moves.moved database.now actor reading.old commands.next }
-    ensures same { OnErr result (reading.new ≡ reading.old) }
+    ensures { Answers reading.old reading.new reply.new result (moves.moved database.now actor reading.old commands.next) }
 {
     let cursor = opened(&reading.cursor)?;
     let object = readable(database, actor, cursor)?;
@@ -122,17 +115,15 @@ fn next(
 
 // FETCH: the row at the cursor's place is given.
 fn fetch(
-    database: &PlainDatabase,
+    database: &ValidDatabase<'_>,
     actor: Actor,
     reading: &mut Reading,
     le: u16,
     reply: &mut Reply,
 ) -> Result<(), StatusWord>
-    requires valid { IsValid database.now }
     requires cursor { IfSome reading.old.cursor (IsCursorOf database.now) }
     requires le { IsLe le }
-    ensures moved { ended_with result (record { reply = reply.new; after = reading.new }) ≡ moves.moved database.now actor reading.old (commands.fetch le) }
-    ensures same { OnErr result (reading.new ≡ reading.old) }
+    ensures { Answers reading.old reading.new reply.new result (moves.moved database.now actor reading.old (commands.fetch le)) }
 {
     let cursor = opened(&reading.cursor)?;
     let object = readable(database, actor, cursor)?;
@@ -153,17 +144,15 @@ fn fetch(
 
 // FETCH NEXT: the cursor goes to the next row and gives it, or goes to its end.
 fn fetch_next(
-    database: &PlainDatabase,
+    database: &ValidDatabase<'_>,
     actor: Actor,
     reading: &mut Reading,
     le: u16,
     reply: &mut Reply,
 ) -> Result<(), StatusWord>
-    requires valid { IsValid database.now }
     requires cursor { IfSome reading.old.cursor (IsCursorOf database.now) }
     requires le { IsLe le }
-    ensures moved { ended_with result (record { reply = reply.new; after = reading.new }) ≡ moves.moved database.now actor reading.old (commands.fetch_next le) }
-    ensures same { OnErr result (reading.new ≡ reading.old) }
+    ensures { Answers reading.old reading.new reply.new result (moves.moved database.now actor reading.old (commands.fetch_next le)) }
 {
     let cursor = opened(&reading.cursor)?;
     let object = readable(database, actor, cursor)?;
@@ -181,16 +170,14 @@ fn fetch_next(
 
 // GET RESPONSE: what is pending is given.
 fn get_response(
-    database: &PlainDatabase,
+    database: &ValidDatabase<'_>,
     actor: Actor,
     reading: &mut Reading,
     le: u16,
     reply: &mut Reply,
 ) -> Result<(), StatusWord>
-    requires valid { IsValid database.now }
     requires le { IsLe le }
-    ensures moved { ended_with result (record { reply = reply.new; after = reading.new }) ≡ moves.moved database.now actor reading.old (commands.get_response le) }
-    ensures same { OnErr result (reading.new ≡ reading.old) }
+    ensures { Answers reading.old reading.new reply.new result (moves.moved database.now actor reading.old (commands.get_response le)) }
 {
     let Some(cursor) = &reading.cursor else {
         return Err(StatusWord::CONDITIONS_NOT_SATISFIED);
@@ -225,7 +212,7 @@ fn give_row(
     reply: &mut Reply,
 ) -> Result<(), StatusWord>
     requires le { IsLe le }
-    ensures gave { (c : cursors.Cursor) → reading.old.cursor ≡ Some c → ended_with result (record { reply = reply.new; after = reading.new }) ≡ given place c le values.now }
+    ensures gave { (c : cursors.Cursor) → reading.old.cursor ≡ Some c → ended result (record { reply = reply.new; after = reading.new }) ≡ given place c le values.now }
     ensures same { OnErr result (reading.new ≡ reading.old) }
 {
     prove!(values.len() <= Row::MOST);
@@ -237,7 +224,7 @@ fn give_row(
 
 // Octets that Le allows as a whole; with Le 256 an answer may be longer, and is given in parts.
 fn fit(le: u16, octets: &[u8]) -> Result<(), StatusWord>
-    ensures { ended_with result octets.now ≡ commands.fitting le octets.now }
+    ensures { ended result octets.now ≡ commands.fitting le octets.now }
 {
     if octets.len() <= usize::from(le) || le == 256 {
         Ok(())

@@ -1,15 +1,13 @@
 // The names of users and objects of which the records of a dictionary speak.
 ghost use Rattle.std.specs.Prelude.{◌≡◌, ◌≤◌, length};
 ghost use Rattle.scql_base.specs.declared.name.TheConstants.Name.{LONGEST};
-ghost use Rattle.scql_model.specs.Database.{IsValid};
 ghost use Rattle.scql_model.specs.Dictionaries as model;
 
-use plain_database::PlainDatabase;
+use plain_database::ValidDatabase;
 use scql_base::Name;
 
 /// The name of a user, or nothing.
-pub(crate) fn user_name(database: &PlainDatabase, stamp: u32) -> &[u8]
-    requires valid { IsValid database.now }
+pub(crate) fn user_name<'a>(database: &ValidDatabase<'a>, stamp: u32) -> &'a [u8]
     ensures name { result.now ≡ model.user_name database.now stamp }
     ensures short { length result.now ≤ LONGEST }
 {
@@ -20,8 +18,7 @@ pub(crate) fn user_name(database: &PlainDatabase, stamp: u32) -> &[u8]
 }
 
 /// The name of an object, or nothing.
-pub(crate) fn object_name(database: &PlainDatabase, stamp: u32) -> &[u8]
-    requires valid { IsValid database.now }
+pub(crate) fn object_name<'a>(database: &ValidDatabase<'a>, stamp: u32) -> &'a [u8]
     ensures name { result.now ≡ model.object_name database.now stamp }
     ensures short { length result.now ≤ LONGEST }
 {
@@ -32,8 +29,7 @@ pub(crate) fn object_name(database: &PlainDatabase, stamp: u32) -> &[u8]
 }
 
 /// The name of the user to whom a grant is given, or PUBLIC.
-pub(crate) fn grantee_name(database: &PlainDatabase, stamp: u32) -> &[u8]
-    requires valid { IsValid database.now }
+pub(crate) fn grantee_name<'a>(database: &ValidDatabase<'a>, stamp: u32) -> &'a [u8]
     ensures name { result.now ≡ model.grantee_name database.now stamp }
     ensures short { length result.now ≤ LONGEST }
 {
@@ -45,8 +41,7 @@ pub(crate) fn grantee_name(database: &PlainDatabase, stamp: u32) -> &[u8]
 }
 
 /// The stamp of an object's owner, or 0.
-pub(crate) fn object_owner(database: &PlainDatabase, stamp: u32) -> u32
-    requires valid { IsValid database.now }
+pub(crate) fn object_owner(database: &ValidDatabase<'_>, stamp: u32) -> u32
     ensures { result ≡ model.object_owner database.now stamp }
 {
     match database.object_stamped(stamp) {

@@ -1,11 +1,10 @@
 // Which object a cursor reads, and who may.
 ghost use Rattle.std.specs.Prelude.{◌≡◌, Ok, Err, Some, IfErr, IfOk};
 ghost use Rattle.scql_model.specs.Contents.{contents_of};
-ghost use Rattle.scql_model.specs.Database.{IsValid};
 ghost use Rattle.scql_model.specs.Moves as moves;
 ghost use Rattle.scql_model.specs.Objects.{object_stamped};
 
-use plain_database::{PlainDatabase, Privilege, is_opened};
+use plain_database::{Privilege, ValidDatabase, is_opened};
 use scql_base::{Actor, Cursor, Object, StatusWord};
 
 /// A cursor that was opened.
@@ -21,17 +20,17 @@ pub(crate) fn opened(cursor: &Option<Cursor>) -> Result<&Cursor, StatusWord>
 
 /// The object of a cursor, where it appears to an actor, who may select from it.
 pub(crate) fn readable<'a>(
-    database: &'a PlainDatabase,
+    database: &ValidDatabase<'a>,
     actor: Actor,
     cursor: &Cursor,
 ) -> Result<&'a Object, StatusWord>
-    requires valid { IsValid database.now }
     ensures rows { IfOk result (λ _. moves.rows_under database.now actor cursor.now ≡ Ok (moves.chosen (contents_of database.now cursor.now.object) cursor.now)) }
     ensures object { IfOk result (λ object. object_stamped database.now.objects cursor.now.object ≡ Some object.now) }
     ensures refused { IfErr result (λ word. moves.rows_under database.now actor cursor.now ≡ Err word) }
 {
+    let records = database.database();
     match database.seen_stamped(actor, cursor.object) {
-        Some(object) if database.holds(actor, object, Privilege::Select) => Ok(object),
+        Some(object) if records.holds(actor, object, Privilege::Select) => Ok(object),
         Some(_) => Err(StatusWord::SECURITY_NOT_SATISFIED),
         None => Err(StatusWord::NOT_FOUND),
     }

@@ -2,13 +2,13 @@
 ghost use Rattle.std.specs.Prelude.{ℕ, ◌≡◌, ◌+◌, ◌<◌, ◌≤◌, [], ◌∷◌, ◌++◌, length, refl};
 ghost use Rattle.scql_base.specs.Row.{row_size};
 ghost use Rattle.scql_base.specs.declared.row.TheConstants.Row.{LARGEST, LONGEST_VALUE, MOST};
-ghost use Rattle.scql_model.specs.Database.{Database, IsValid};
+ghost use Rattle.scql_model.specs.Database.{Database};
 ghost use Rattle.scql_model.specs.Dictionaries as model;
 ghost use Rattle.scql_model.specs.Objects.{StampedRow};
 
 use crate::names::{grantee_name, object_name, object_owner, user_name};
 use crate::texts::columns_text;
-use plain_database::{PlainDatabase, Stamped};
+use plain_database::{Stamped, ValidDatabase};
 use scql_base::{Grant, Object, ObjectKind, Row, User};
 
 /// A record of which dictionaries tell.
@@ -20,13 +20,11 @@ pub(crate) trait Told: Stamped {
     ghost owned_by: { Database → Self → ℕ };
 
     /// The stamp of its owner.
-    fn owner(&self, database: &PlainDatabase) -> u32
-        requires valid { IsValid database.now }
+    fn owner(&self, database: &ValidDatabase<'_>) -> u32
         ensures { result ≡ owned_by database.now self.now };
 
     /// The values of its row.
-    fn values(&self, database: &PlainDatabase) -> Row
-        requires valid { IsValid database.now }
+    fn values(&self, database: &ValidDatabase<'_>) -> Row
         ensures { result ≡ (told database.now self.now).values };
 
     /// Its row has its stamp.
@@ -40,11 +38,11 @@ impl Told for Object {
 
     ghost same_stamp = { λ _ _. refl };
 
-    fn owner(&self, _database: &PlainDatabase) -> u32 {
+    fn owner(&self, _database: &ValidDatabase<'_>) -> u32 {
         self.owner
     }
 
-    fn values(&self, database: &PlainDatabase) -> Row {
+    fn values(&self, database: &ValidDatabase<'_>) -> Row {
         let mut row = Row::new();
         put(&mut row, self.name.octets());
         put(&mut row, &[kind_letter(&self.kind)]);
@@ -63,11 +61,11 @@ impl Told for User {
 
     ghost same_stamp = { λ _ _. refl };
 
-    fn owner(&self, _database: &PlainDatabase) -> u32 {
+    fn owner(&self, _database: &ValidDatabase<'_>) -> u32 {
         self.owner
     }
 
-    fn values(&self, database: &PlainDatabase) -> Row {
+    fn values(&self, database: &ValidDatabase<'_>) -> Row {
         let mut row = Row::new();
         put(&mut row, self.name.octets());
         put(&mut row, &[self.profile.code()]);
@@ -83,11 +81,11 @@ impl Told for Grant {
 
     ghost same_stamp = { λ _ _. refl };
 
-    fn owner(&self, database: &PlainDatabase) -> u32 {
+    fn owner(&self, database: &ValidDatabase<'_>) -> u32 {
         object_owner(database, self.object)
     }
 
-    fn values(&self, database: &PlainDatabase) -> Row {
+    fn values(&self, database: &ValidDatabase<'_>) -> Row {
         let mut row = Row::new();
         put(&mut row, object_name(database, self.object));
         put(&mut row, grantee_name(database, self.grantee));
@@ -108,8 +106,7 @@ fn kind_letter(kind: &ObjectKind) -> u8
 }
 
 // Puts what BASE tells.
-fn put_base(row: &mut Row, database: &PlainDatabase, kind: &ObjectKind)
-    requires valid { IsValid database.now }
+fn put_base(row: &mut Row, database: &ValidDatabase<'_>, kind: &ObjectKind)
     requires count { length row.old < MOST }
     requires room { row_size row.old + 8 < LARGEST }
     ensures put { row.new ≡ row.old ++ model.base_told database.now kind.now ∷ [] }

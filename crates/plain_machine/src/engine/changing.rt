@@ -1,11 +1,11 @@
 // Commands that change what a channel reads.
-ghost use Rattle.std.specs.Prelude.{◌≡◌, ◌<◌, OnErr, true};
-ghost use Rattle.scql_model.specs.Sessions as model;
 ghost use Rattle.scql_model.specs.Step as stepping;
-ghost use Rattle.scql_model.specs.ValidMachine.{IsValidMachine};
-ghost use Rattle.plain_reading.specs.Outcomes.{ended_with};
+ghost use Rattle.plain_database.specs.Effects.{Ends};
+ghost use Rattle.plain_reading.specs.Outcomes.{Answers};
 ghost use Rattle.plain_machine.specs.Answers.{base_changed, outcome_left};
+ghost use Rattle.plain_machine.specs.Serving.{IsServed};
 
+use crate::channel::Channel;
 use crate::engine::Engine;
 use apdu::Reply;
 use scql_base::{Operation, StatusWord};
@@ -14,15 +14,12 @@ impl Engine {
     // A change of the working database where the open transaction is the channel's own, else of the committed one.
     pub(super) fn change(
         &mut self,
-        channel: u8,
+        channel: Channel,
         operation: &Operation,
         reply: &mut Reply,
     ) -> Result<(), StatusWord>
-        requires channel { channel < 4 }
-        requires open { model.is_channel_open self.old channel ≡ true }
-        requires valid { IsValidMachine self.old }
-        ensures answers { ended_with result (record { reply = reply.new; after = self.new }) ≡ outcome_left (stepping.changed self.old channel operation.now) }
-        ensures same { OnErr result (self.new ≡ self.old) }
+        requires { IsServed self.old channel }
+        ensures { Answers self.old self.new reply.new result (outcome_left (stepping.changed self.old channel operation.now)) }
     {
         self.change_base(channel, operation)?;
         self.finish(channel, reply);
@@ -30,12 +27,9 @@ impl Engine {
     }
 
     // Changes what a channel reads and changes.
-    fn change_base(&mut self, channel: u8, operation: &Operation) -> Result<(), StatusWord>
-        requires channel { channel < 4 }
-        requires open { model.is_channel_open self.old channel ≡ true }
-        requires valid { IsValidMachine self.old }
-        ensures changed { ended_with result self.new ≡ base_changed self.old channel operation.now }
-        ensures same { OnErr result (self.new ≡ self.old) }
+    fn change_base(&mut self, channel: Channel, operation: &Operation) -> Result<(), StatusWord>
+        requires { IsServed self.old channel }
+        ensures { Ends self.old self.new result (base_changed self.old channel operation.now) }
     {
         let actor = self.actor(channel);
         if self.has_transaction(channel) {

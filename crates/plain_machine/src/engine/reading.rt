@@ -1,15 +1,16 @@
 // Commands that read.
-ghost use Rattle.std.specs.Prelude.{◌≡◌, ◌<◌, OnErr, true};
+ghost use Rattle.std.specs.Prelude.{◌≡◌, OnErr};
 ghost use Rattle.scql_model.specs.Machine as machine;
 ghost use Rattle.scql_model.specs.Moves.{moved};
 ghost use Rattle.scql_model.specs.Sessions as model;
 ghost use Rattle.scql_model.specs.Step as stepping;
 ghost use Rattle.scql_model.specs.Touched.{without_touched};
-ghost use Rattle.scql_model.specs.ValidMachine.{IsValidMachine};
+ghost use Rattle.plain_database.specs.Effects.{ended};
 ghost use Rattle.plain_reading.specs.Commands.{HasLe, command_seen};
-ghost use Rattle.plain_reading.specs.Outcomes.{ended_with};
 ghost use Rattle.plain_machine.specs.Answers.{left_by_answer};
+ghost use Rattle.plain_machine.specs.Serving.{IsServed};
 
+use crate::channel::Channel;
 use crate::engine::{Engine, say};
 use apdu::Reply;
 use plain_reading::ReadingCommand;
@@ -17,10 +18,8 @@ use scql_base::StatusWord;
 
 impl Engine {
     // A reading command moves over what its channel reads, for whom it acts.
-    pub(super) fn read(&mut self, channel: u8, command: &ReadingCommand<'_>, reply: &mut Reply)
-        requires channel { channel < 4 }
-        requires open { model.is_channel_open self.old channel ≡ true }
-        requires valid { IsValidMachine self.old }
+    pub(super) fn read(&mut self, channel: Channel, command: &ReadingCommand<'_>, reply: &mut Reply)
+        requires served { IsServed self.old channel }
         requires le { HasLe command.now }
         ensures { record { reply = reply.new; after = self.new } ≡ left_by_answer (stepping.reading_done self.old channel (command_seen command.now)) }
     {
@@ -32,25 +31,25 @@ impl Engine {
     // Reads what a channel reads and changes, or refuses it.
     fn read_base(
         &mut self,
-        channel: u8,
+        channel: Channel,
         command: &ReadingCommand<'_>,
         reply: &mut Reply,
     ) -> Result<(), StatusWord>
-        requires channel { channel < 4 }
-        requires open { model.is_channel_open self.old channel ≡ true }
-        requires valid { IsValidMachine self.old }
+        requires served { IsServed self.old channel }
         requires le { HasLe command.now }
-        ensures moved { ended_with result (record { reply = reply.new; after = model.reading_of self.new channel }) ≡ moved (machine.base self.old channel) (machine.actor self.old channel) (model.reading_of self.old channel) (command_seen command.now) }
+        ensures moved { ended result (record { reply = reply.new; after = model.reading_of self.new channel }) ≡ moved (machine.base self.old channel) (machine.actor self.old channel) (model.reading_of self.old channel) (command_seen command.now) }
         ensures machine { self.new ≡ without_touched (model.changing_session (model.reading_so (model.reading_of self.new channel)) self.old channel) }
         ensures same { OnErr result (self.new ≡ self.old) }
     {
         let actor = self.actor(channel);
         if self.has_transaction(channel) {
+            let database = self.working.as_valid();
             self.sessions
-                .read(channel, &self.working, actor, command, reply)
+                .read(channel, &database, actor, command, reply)
         } else {
+            let database = self.committed.as_valid();
             self.sessions
-                .read(channel, &self.committed, actor, command, reply)
+                .read(channel, &database, actor, command, reply)
         }
     }
 }

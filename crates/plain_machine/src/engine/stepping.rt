@@ -1,16 +1,15 @@
 // A step: octets are taken, and the command that they are is carried out.
-ghost use Rattle.std.specs.Prelude.{◌≡◌, ◌<◌, OnErr, true};
-ghost use Rattle.scql_model.specs.Accepting as accepting;
+ghost use Rattle.std.specs.Prelude.{◌≡◌};
 ghost use Rattle.scql_model.specs.Operations.{kind_of};
-ghost use Rattle.scql_model.specs.Sessions as model;
 ghost use Rattle.scql_model.specs.Step as stepping;
 ghost use Rattle.scql_model.specs.Transactions.{is_kept_waiting, waits};
 ghost use Rattle.scql_model.specs.ValidMachine.{IsValidMachine};
 ghost use Rattle.scql_model.specs.WellFormed.{HasForm, IsWellFormed};
-ghost use Rattle.plain_reading.specs.Outcomes.{ended_with};
+ghost use Rattle.plain_reading.specs.Outcomes.{Answers};
 ghost use Rattle.plain_machine.specs.Answers.{left_by_answer, outcome_left};
+ghost use Rattle.plain_machine.specs.Serving.{IsServed};
 
-use crate::engine::channels::channel_meant;
+use crate::channel::Channel;
 use crate::engine::{Engine, say};
 use apdu::Reply;
 use apdu_chain::Taken;
@@ -31,7 +30,7 @@ impl Engine {
         };
         match self.sessions.take(octets, limit, &mut command) {
             Taken::Refused { word } => say(reply, word),
-            Taken::Kept => self.finish(channel_named(octets), reply),
+            Taken::Kept => self.finish(Channel::named(octets), reply),
             Taken::Whole => {
                 if let Err(word) = self.carry_out(&command, reply) {
                     say(reply, word);
@@ -43,12 +42,10 @@ impl Engine {
     // An open transaction may stand against a command; else it reads, or does what its operation does.
     fn carry_out(&mut self, command: &Command, reply: &mut Reply) -> Result<(), StatusWord>
         requires formed { IsWellFormed command.now }
-        requires open { model.is_channel_open self.old command.now.channel ≡ true }
-        requires valid { IsValidMachine self.old }
-        ensures answers { ended_with result (record { reply = reply.new; after = self.new }) ≡ outcome_left (stepping.carried_out self.old command.now) }
-        ensures same { OnErr result (self.new ≡ self.old) }
+        requires served { IsServed self.old command.now.channel }
+        ensures { Answers self.old self.new reply.new result (outcome_left (stepping.carried_out self.old command.now)) }
     {
-        let channel = command.channel;
+        let channel = Channel::new(command.channel);
         if self.keeps_waiting(channel, &command.operation) {
             return Err(StatusWord::CONDITIONS_NOT_SATISFIED);
         }
@@ -64,16 +61,13 @@ impl Engine {
     // What an operation does that doesn't read.
     fn operate(
         &mut self,
-        channel: u8,
+        channel: Channel,
         operation: &Operation,
         reply: &mut Reply,
     ) -> Result<(), StatusWord>
-        requires channel { channel < 4 }
-        requires open { model.is_channel_open self.old channel ≡ true }
-        requires valid { IsValidMachine self.old }
+        requires served { IsServed self.old channel }
         requires formed { HasForm operation.now }
-        ensures answers { ended_with result (record { reply = reply.new; after = self.new }) ≡ outcome_left (stepping.operated self.old channel operation.now) }
-        ensures same { OnErr result (self.new ≡ self.old) }
+        ensures { Answers self.old self.new reply.new result (outcome_left (stepping.operated self.old channel operation.now)) }
     {
         match operation {
             Operation::Begin => self.begin(channel, reply),
@@ -82,16 +76,18 @@ impl Engine {
             Operation::PresentUser { name } => self.present_user(channel, name, reply),
             Operation::DeleteUser { name } => self.delete_user(channel, name, operation, reply),
             Operation::Verify { secret } => self.verify(channel, secret.as_slice(), reply),
-            Operation::OpenChannel { number } => self.open_channel(channel, *number, reply),
+            Operation::OpenChannel { number } => {
+                self.open_channel(channel, Channel::new(*number), reply)
+            },
             Operation::CloseChannel { number } => {
-                self.close_channel(channel, channel_meant(channel, *number), reply)
+                self.close_channel(channel, channel.meant(Channel::new(*number)), reply)
             }
             _ => self.change(channel, operation, reply),
         }
     }
 
     // Whether the open transaction keeps a command waiting.
-    fn keeps_waiting(&self, channel: u8, operation: &Operation) -> bool
+    fn keeps_waiting(&self, channel: Channel, operation: &Operation) -> bool
         ensures { result ≡ is_kept_waiting (waits (kind_of operation.now)) self.now.transaction channel }
     {
         let Some(own) = self.transaction else {
@@ -109,18 +105,7 @@ impl Engine {
             Operation::PresentUser { .. }
             | Operation::Verify { .. }
             | Operation::DeleteUser { .. } => true,
-            _ => own != channel,
+            _ => own != channel.number(),
         }
-    }
-}
-
-// The channel that the class of a command names.
-fn channel_named(command: &[u8]) -> u8
-    ensures named { result ≡ accepting.channel_named command.now }
-    ensures few { result < 4 }
-{
-    match command {
-        [class, ..] => class % 4,
-        [] => 0,
     }
 }

@@ -1,15 +1,15 @@
 // PRESENT USER, VERIFY and DELETE USER on a channel.
-ghost use Rattle.std.specs.Prelude.{◌≡◌, ◌<◌, Some, IfSome, OnErr, option_copied, true};
+ghost use Rattle.std.specs.Prelude.{◌≡◌, Some, IfSome, option_copied};
 ghost use Rattle.scql_base.specs.Words as words;
 ghost use Rattle.scql_base.specs.declared.operation.Operation.TheVariants as asks;
 ghost use Rattle.scql_model.specs.Database.{IsValid, user_stamped};
 ghost use Rattle.scql_model.specs.Machine as machine;
-ghost use Rattle.scql_model.specs.Sessions as model;
 ghost use Rattle.scql_model.specs.Step as stepping;
-ghost use Rattle.scql_model.specs.ValidMachine.{IsValidMachine};
-ghost use Rattle.plain_reading.specs.Outcomes.{ended_with};
+ghost use Rattle.plain_reading.specs.Outcomes.{Answers};
 ghost use Rattle.plain_machine.specs.Answers.{outcome_left, presented_named, unproved_user};
+ghost use Rattle.plain_machine.specs.Serving.{IsServed};
 
+use crate::channel::Channel;
 use crate::engine::{Engine, say};
 use apdu::Reply;
 use scql_base::{Name, Operation, PresentedUser, StatusWord, User};
@@ -18,13 +18,11 @@ impl Engine {
     // PRESENT USER: the session is a new one of the named user, or of nobody where the name is PUBLIC.
     pub(super) fn present_user(
         &mut self,
-        channel: u8,
+        channel: Channel,
         name: &Name,
         reply: &mut Reply,
     ) -> Result<(), StatusWord>
-        requires channel { channel < 4 }
-        ensures answers { ended_with result (record { reply = reply.new; after = self.new }) ≡ outcome_left (stepping.user_presented self.old channel name.now) }
-        ensures same { OnErr result (self.new ≡ self.old) }
+        ensures { Answers self.old self.new reply.new result (outcome_left (stepping.user_presented self.old channel name.now)) }
     {
         let user = self.presented(channel, name)?;
         self.sessions.open(channel, user);
@@ -35,14 +33,12 @@ impl Engine {
     // VERIFY: the right secret gives all tries back and proves the user, and a wrong one leaves one try less.
     pub(super) fn verify(
         &mut self,
-        channel: u8,
+        channel: Channel,
         secret: &[u8],
         reply: &mut Reply,
     ) -> Result<(), StatusWord>
-        requires channel { channel < 4 }
-        requires valid { IsValid self.old.committed }
-        ensures answers { ended_with result (record { reply = reply.new; after = self.new }) ≡ outcome_left (stepping.verified self.old channel secret.now) }
-        ensures same { OnErr result (self.new ≡ self.old) }
+        requires { IsValid self.old.committed }
+        ensures { Answers self.old self.new reply.new result (outcome_left (stepping.verified self.old channel secret.now)) }
     {
         let Some(user) = self.unproved_user(channel) else {
             return Err(StatusWord::CONDITIONS_NOT_SATISFIED);
@@ -66,17 +62,14 @@ impl Engine {
     // DELETE USER: besides the change, each session that presented the user has neither user nor cursor any more.
     pub(super) fn delete_user(
         &mut self,
-        channel: u8,
+        channel: Channel,
         name: &Name,
         operation: &Operation,
         reply: &mut Reply,
     ) -> Result<(), StatusWord>
-        requires channel { channel < 4 }
-        requires open { model.is_channel_open self.old channel ≡ true }
-        requires valid { IsValidMachine self.old }
+        requires served { IsServed self.old channel }
         requires deletes { operation.now ≡ asks.DeleteUser name.now }
-        ensures answers { ended_with result (record { reply = reply.new; after = self.new }) ≡ outcome_left (stepping.user_and_sessions_deleted self.old channel name.now) }
-        ensures same { OnErr result (self.new ≡ self.old) }
+        ensures { Answers self.old self.new reply.new result (outcome_left (stepping.user_and_sessions_deleted self.old channel name.now)) }
     {
         let Some(user) = self.base(channel).user_named(name) else {
             return Err(StatusWord::NOT_FOUND);
@@ -88,7 +81,7 @@ impl Engine {
     }
 
     // The user of a name as it is presented, or nobody where the name is PUBLIC.
-    fn presented(&self, channel: u8, name: &Name) -> Result<Option<PresentedUser>, StatusWord>
+    fn presented(&self, channel: Channel, name: &Name) -> Result<Option<PresentedUser>, StatusWord>
         ensures { result ≡ presented_named (machine.base self.now channel) name.now }
     {
         if name.octets() == Name::PUBLIC {
@@ -104,9 +97,8 @@ impl Engine {
     }
 
     // The user of a channel, where that one isn't proved.
-    fn unproved_user(&self, channel: u8) -> Option<&User>
-        requires channel { channel < 4 }
-        requires valid { IsValid self.now.committed }
+    fn unproved_user(&self, channel: Channel) -> Option<&User>
+        requires { IsValid self.now.committed }
         ensures user { option_copied result ≡ unproved_user self.now channel }
         ensures stamped { IfSome result (λ u. user_stamped self.now.committed.users u.now.stamp ≡ Some u.now) }
     {
@@ -114,7 +106,7 @@ impl Engine {
         if user.proved {
             None
         } else {
-            self.committed.user_stamped(user.stamp)
+            self.committed.as_valid().user_stamped(user.stamp)
         }
     }
 }

@@ -10,7 +10,7 @@ use Rattle.plain_reading.proofs.ToldRows.{dictionary-contents}
 use Rattle.plain_reading.proofs.found.find_row.Goals as goal
 
 pub returns-in_err-resolved-in-Table : goal.returns-in_err-resolved-in-Table
-returns-in_err-resolved-in-Table c = absurd (is_resolved c.args.database.now c.args.cursor.now.object c.args.object.now c.requires.valid c.requires.object (elim c.in-Table.is [ inl t ↦ rw t.1 refl | inr v ↦ rw v.3 refl ]) (sym (rw c.in_err-resolved-in-Table.was at c.resolved.ensures)))
+returns-in_err-resolved-in-Table c = absurd (is_resolved c.args.database.now c.args.cursor.now.object c.args.object.now c.database-valid.ensures.valid c.requires.object (elim c.in-Table.is [ inl t ↦ rw t.1 refl | inr v ↦ rw v.3 refl ]) (sym (rw c.in_err-resolved-in-Table.was at c.resolved.ensures)))
 
 pub returns-in-Dictionary : goal.returns-in-Dictionary
 returns-in-Dictionary c =

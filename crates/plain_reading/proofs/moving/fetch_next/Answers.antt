@@ -5,9 +5,12 @@ use Rattle.plain_database.specs.Sought.{row_shown}
 use Rattle.plain_reading.proofs.MovedRows.{fetched-next}
 use Rattle.plain_reading.proofs.moving.fetch_next.Goals as goal
 
-pub returns-in-Some-clause-moved : goal.returns-in-Some-clause-moved
-returns-in-Some-clause-moved c =
+pub returns-in-Some : goal.returns-in-Some
+returns-in-Some c =
     let cursor = c.in_ok-cursor.cursor.now in
     let own = ap (λ (r : Reading). r.cursor) c.reading.view_is in
-    c.give_row.ensures.gave cursor (sym own ∙ c.in_ok-cursor.ensures.opened.0)
-    ∙ sym (fetched-next c.args.database.now c.args.actor c.args.reading.now cursor c.args.le (row_shown c.in-Some.found) (rw own at c.in_ok-cursor.ensures.opened.1) c.in_ok-object.ensures.rows c.in-Some.ensures)
+    record {
+      answered = c.give_row.ensures.gave cursor (sym own ∙ c.in_ok-cursor.ensures.opened.0)
+          ∙ sym (fetched-next c.args.database.now c.args.actor c.args.reading.now cursor c.args.le (row_shown c.in-Some.found) (rw own at c.in_ok-cursor.ensures.opened.1) c.in_ok-object.ensures.rows c.in-Some.ensures);
+      same = c.give_row.ensures.same;
+    }

@@ -5,7 +5,7 @@ use Rattle.plain_reading.proofs.ReadableObjects.{readable-rows}
 use Rattle.plain_reading.proofs.readable.readable.Goals as goal
 
 pub returns-in-Some-clause-rows : goal.returns-in-Some-clause-rows
-returns-in-Some-clause-rows c = readable-rows c.args.database.now c.args.actor c.args.cursor.now c.in-Some.object.now (sym c.in-Some.ensures) (sym c.holds.ensures ∙ c.if-holds.true)
+returns-in-Some-clause-rows c = readable-rows c.args.database.now c.args.actor c.args.cursor.now c.in-Some.object.now (sym c.in-Some.ensures) (rw c.database-records.ensures.same at (sym c.holds.ensures ∙ c.if-holds.true))
 
 pub returns-in-Some-clause-object : goal.returns-in-Some-clause-object
-returns-in-Some-clause-object c = seen-there c.args.database.now c.args.actor c.args.cursor.now.object c.in-Some.object.now c.requires.valid (sym c.in-Some.ensures)
+returns-in-Some-clause-object c = seen-there c.args.database.now c.args.actor c.args.cursor.now.object c.in-Some.object.now c.database-records.ensures.valid (sym c.in-Some.ensures)

@@ -12,7 +12,7 @@ push_reserved-requires c =
     let many = ap (λ (db : Database). length db.grants) c.self.view_is in
     omega (arith, made.few.grants, made.room, cells, many, c.self.inside.grants.ok.0, c.self.invariant.for_grants)
 
-pub returns-clause-ended : goal.returns-clause-ended
-returns-clause-ended c =
+pub returns : goal.returns
+returns c =
     let made = is_made c.args.self.now (of_grant c.args.grant) (rw c.cells.ensures.cells at (sym c.if-not-has_room.ensures)) in
-    rw (made.edits, c.push_reserved.ensures.items, ← c.self.view_is) refl
+    record { ended = rw (made.edits, c.push_reserved.ensures.items, ← c.self.view_is) refl; same = tt }

@@ -6,5 +6,5 @@ use Rattle.plain_database.proofs.database.PlainDatabase.change_grant.Goals as go
 pub replace-requires : goal.replace-requires
 replace-requires c = record { rises = (subst IsValid (sym c.self.view_is) c.requires.valid).grants.rises }
 
-pub returns-clause-changed : goal.returns-clause-changed
-returns-clause-changed c = rw (c.replace.ensures.items, ← c.self.view_is) (grant-changed _ c.args.grant (subst IsValid (sym c.self.view_is) c.requires.valid))
+pub returns : goal.returns
+returns c = rw (c.replace.ensures.items, ← c.self.view_is) (grant-changed _ c.args.grant (subst IsValid (sym c.self.view_is) c.requires.valid))

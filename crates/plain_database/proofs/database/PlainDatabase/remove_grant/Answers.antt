@@ -7,7 +7,7 @@ use Rattle.scql_model.specs.Database.{IsValid}
 use Rattle.plain_database.proofs.Removed.{grant-removed}
 use Rattle.plain_database.proofs.database.PlainDatabase.remove_grant.Goals as goal
 
-pub returns-clause-removed : goal.returns-clause-removed
-returns-clause-removed c = λ (g : Grant) is.
+pub returns : goal.returns
+returns c = λ (g : Grant) is.
     let grants = filter_same _ (λ (v : Grant). not (v.stamp == c.args.stamp)) _ (λ x b f' k. search rules) _ _ c.retain.ensures.filtered in
     rw (grants, ← is, ← c.self.view_is) (grant-removed _ g (subst IsValid (sym c.self.view_is) c.requires.valid))

@@ -9,8 +9,8 @@ use Rattle.scql_model.specs.Database.{IsValid}
 use Rattle.plain_database.proofs.Removed.{table-removed}
 use Rattle.plain_database.proofs.database.PlainDatabase.remove_table.Goals as goal
 
-pub returns-clause-removed : goal.returns-clause-removed
-returns-clause-removed c = λ (o : Object) is.
+pub returns : goal.returns
+returns c = λ (o : Object) is.
     let objects = filter_same _ (λ (v : Object). not (v.stamp == c.args.stamp)) _ (λ x b f' k. search rules) _ _ c.retain.ensures.filtered in
     let grants = filter_same _ (λ (v : Grant). not (v.object == c.args.stamp)) _ (λ x b f' k. search rules) _ _ c.retain-2.ensures.filtered in
     let rows = filter_same _ (λ (v : RowRecord). not (v.table == c.args.stamp)) _ (λ x b f' k. search rules) _ _ c.retain-3.ensures.filtered in

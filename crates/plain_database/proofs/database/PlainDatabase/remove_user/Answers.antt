@@ -8,8 +8,8 @@ use Rattle.scql_model.specs.Database.{IsValid}
 use Rattle.plain_database.proofs.Removed.{user-removed}
 use Rattle.plain_database.proofs.database.PlainDatabase.remove_user.Goals as goal
 
-pub returns-clause-removed : goal.returns-clause-removed
-returns-clause-removed c = λ (u : User) is.
+pub returns : goal.returns
+returns c = λ (u : User) is.
     let users = filter_same _ (λ (v : User). not (v.stamp == c.args.stamp)) _ (λ x b f' k. search rules) _ _ c.retain.ensures.filtered in
     let grants = filter_same _ (λ (v : Grant). not (v.grantee == c.args.stamp)) _ (λ x b f' k. search rules) _ _ c.retain-2.ensures.filtered in
     rw (users, grants, ← is, ← c.self.view_is) (user-removed _ u (subst IsValid (sym c.self.view_is) c.requires.valid))

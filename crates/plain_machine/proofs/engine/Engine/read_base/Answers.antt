@@ -7,4 +7,4 @@ use Rattle.plain_machine.proofs.engine.Engine.read_base.Goals as goal
 pub returns-else-has_transaction-clause-moved : goal.returns-else-has_transaction-clause-moved
 returns-else-has_transaction-clause-moved c =
     moved-committed c.self.inside.committed c.self.inside.working c.self.inside.transaction c.self.inside.sessions c.args.channel c.args.self.now c.actor-actor.result (command_seen c.args.command.now) _
-    c.self.view_is (sym c.if-has_transaction.ensures) c.actor-actor.ensures c.read-else-has_transaction.ensures.moved
+    c.self.view_is (sym c.if-has_transaction.ensures) c.actor-actor.ensures (rw c.as_valid-database-else-has_transaction.ensures at c.read-else-has_transaction.ensures.moved)

@@ -20,12 +20,13 @@ taking c = record {
   takes = c.take.ensures.sessions;
 }
 
-pub carry_out-requires-clause-open : goal.carry_out-requires-clause-open
-carry_out-requires-clause-open c =
-    open-whole c.args.self.now c.args.octets.now (taking (goal.at.carry_out-requires-clause-open c).After-take) c.take.new.command (c.take.ensures.whole c.in-Whole.is)
-
-pub carry_out-requires-clause-valid : goal.carry_out-requires-clause-valid
-carry_out-requires-clause-valid c = valid-next c.args.self.now c.args.octets.now (taking (goal.at.carry_out-requires-clause-valid c).After-take) c.requires
+pub carry_out-requires-clause-served : goal.carry_out-requires-clause-served
+carry_out-requires-clause-served c =
+    let taken = taking (goal.at.carry_out-requires-clause-served c).After-take in
+    record {
+      is_open = open-whole c.args.self.now c.args.octets.now taken c.take.new.command (c.take.ensures.whole c.in-Whole.is);
+      valid = valid-next c.args.self.now c.args.octets.now taken c.requires;
+    }
 
 pub returns-in-Refused : goal.returns-in-Refused
 returns-in-Refused c =
@@ -33,14 +34,14 @@ returns-in-Refused c =
 
 pub returns-in-Kept : goal.returns-in-Kept
 returns-in-Kept c =
-    kept-step c.args.self.now c.args.octets.now (taking (goal.at.returns-in-Kept c).After-take) c.channel_named.result c.finish.new.reply c.finish.new.self
-    (sym c.in-Kept.is ∙ c.take.ensures.taken) c.channel_named.ensures.named c.finish.ensures.reply c.finish.ensures.machine
+    kept-step c.args.self.now c.args.octets.now (taking (goal.at.returns-in-Kept c).After-take) c.named.result c.finish.new.reply c.finish.new.self
+    (sym c.in-Kept.is ∙ c.take.ensures.taken) c.named.ensures c.finish.ensures.reply c.finish.ensures.machine
 
 pub returns-in-Err : goal.returns-in-Err
 returns-in-Err c =
     refused-whole c.args.self.now c.args.octets.now (taking (goal.at.returns-in-Err c).After-take) c.take.new.command (c.take.ensures.whole c.in-Whole.is)
-    c.in-Err.word c.say-in-Err.new.reply c.carry_out.new.self c.in-Err.ensures.answers c.in-Err.ensures.same c.say-in-Err.ensures
+    c.in-Err.word c.say-in-Err.new.reply c.carry_out.new.self c.in-Err.ensures.answered c.in-Err.ensures.same c.say-in-Err.ensures
 
 pub returns-in_default : goal.returns-in_default
 returns-in_default c =
-    done-whole c.args.self.now c.args.octets.now (taking (goal.at.returns-in_default c).After-take) c.take.new.command (c.take.ensures.whole c.in-Whole.is) _ c.in_default.ensures.answers
+    done-whole c.args.self.now c.args.octets.now (taking (goal.at.returns-in_default c).After-take) c.take.new.command (c.take.ensures.whole c.in-Whole.is) _ c.in_default.ensures.answered

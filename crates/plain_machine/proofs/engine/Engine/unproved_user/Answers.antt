@@ -16,4 +16,4 @@ found-again users stamp (Some u) is = stamped-again users stamp u.now (sym is)
 pub returns-else-user-clause-stamped : goal.returns-else-user-clause-stamped
 returns-else-user-clause-stamped c =
     subst (λ (m : Machine). IfSome c.user_stamped.result (λ u. user_stamped m.committed.users u.now.stamp ≡ Some u.now)) c.self.view_is
-    (found-again c.self.inside.committed.users c.in_ok-user.user.stamp c.user_stamped.result c.user_stamped.ensures)
+    (found-again c.self.inside.committed.users c.in_ok-user.user.stamp c.user_stamped.result (rw c.as_valid.ensures at c.user_stamped.ensures))

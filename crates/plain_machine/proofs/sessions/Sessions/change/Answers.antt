@@ -14,13 +14,15 @@ use Rattle.plain_machine.proofs.sessions.Sessions.change.Goals as goal
 -- the cursor of the session that was found is that of the channel
 cursors : (c : After-session) → (reading_on c.args.self.now c.args.channel).cursor ≡ c.session.inside.0.1.0.cursor
 cursors c =
-    ap (λ (reading : machine.Reading). reading.cursor)
-    (found-reading c.self.inside.channels c.self.inside.chains c.args.self.now c.args.channel c.index-self-channel.result c.self.invariant c.requires.channel c.self.view_is c.index-self-channel.is c.in-Some.session c.in-Some.is)
-    ∙ ap (λ (s : Session). s.reading.cursor) (sym c.session.view_is)
+    let reads : reading_on c.args.self.now c.args.channel ≡ c.in-Some.session.reading = rw (← c.place-place.ensures.place)
+    (found-reading c.self.inside.channels c.self.inside.chains c.args.self.now c.place-place.result c.index-self-place.result c.self.invariant c.place-place.ensures.few c.self.view_is c.index-self-place.is c.in-Some.session c.in-Some.is) in
+    ap (λ (reading : machine.Reading). reading.cursor) reads ∙ ap (λ (s : Session). s.reading.cursor) (sym c.session.view_is)
 
 pub change-requires-clause-cursor : goal.change-requires-clause-cursor
 change-requires-clause-cursor c = subst (λ (cursor : Option Cursor). IfSome cursor (IsCursorOf c.args.database.now)) (cursors c) c.requires.cursor
 
-pub returns-clause-ended : goal.returns-clause-ended
-returns-clause-ended c =
-    c.change.ensures.ended ∙ ap (λ (cursor : Option Cursor). change_of c.args.database.now c.args.actor cursor c.args.operation.now) (sym (cursors (goal.at.returns-clause-ended c).After-session))
+pub returns-clause-ends : goal.returns-clause-ends
+returns-clause-ends c = record {
+  ended = c.change.ensures.ends.ended ∙ ap (λ (cursor : Option Cursor). change_of c.args.database.now c.args.actor cursor c.args.operation.now) (sym (cursors (goal.at.returns-clause-ends c).After-session));
+  same = c.change.ensures.ends.same;
+}

@@ -7,11 +7,11 @@ use Rattle.plain_machine.proofs.sessions.Sessions.drop_pending.Goals as goal
 
 pub returns : goal.returns
 returns c =
-    elim c.match-self-channel.branch [
-      | in-Some w ↦ rw w.self-inside-is
-          (found-changed c.self.inside.channels c.self.inside.chains c.args.self.now c.args.channel c.index-self-channel.result c.self.invariant c.requires c.self.view_is c.index-self-channel.is
+    elim c.match-self-place.branch [
+      | in-Some w ↦ rw (w.self-inside-is, ← c.place-place.ensures.place)
+          (found-changed c.self.inside.channels c.self.inside.chains c.args.self.now c.place-place.result c.index-self-place.result c.self.invariant c.place-place.ensures.few c.self.view_is c.index-self-place.is
           without_pending w.in-Some.session (record w.in-Some.session { reading = w.drop_pending.new.self }) w.in-Some.is (λ chain. rw w.drop_pending.ensures refl))
-      | in_default w ↦ rw w.self-inside-is
-          (none-changed c.self.inside.channels c.self.inside.chains c.args.self.now c.args.channel c.index-self-channel.result c.self.invariant c.requires c.self.view_is c.index-self-channel.is
+      | in_default w ↦ rw (w.self-inside-is, ← c.place-place.ensures.place)
+          (none-changed c.self.inside.channels c.self.inside.chains c.args.self.now c.place-place.result c.index-self-place.result c.self.invariant c.place-place.ensures.few c.self.view_is c.index-self-place.is
           without_pending w.in_default.is)
     ]

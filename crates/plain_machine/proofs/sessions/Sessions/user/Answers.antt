@@ -7,5 +7,6 @@ use Rattle.plain_machine.proofs.sessions.Sessions.user.Goals as goal
 
 pub returns-in-Some : goal.returns-in-Some
 returns-in-Some c =
-    sym (ap (λ (s : Option machine.Session). option_and_then (λ (s : machine.Session). s.user) s)
-    (found-session c.self.inside.channels c.self.inside.chains c.args.self.now c.args.channel c.index-self-channel.result c.self.invariant c.requires c.self.view_is c.index-self-channel.is (Some c.in-Some.session) c.in-Some.is))
+    rw (← c.place-place.ensures.place)
+    (sym (ap (λ (s : Option machine.Session). option_and_then (λ (s : machine.Session). s.user) s)
+    (found-session c.self.inside.channels c.self.inside.chains c.args.self.now c.place-place.result c.index-self-place.result c.self.invariant c.place-place.ensures.few c.self.view_is c.index-self-place.is (Some c.in-Some.session) c.in-Some.is)))
