@@ -306,16 +306,31 @@ def functions():
             elif clause and name:
                 found[name][-1][1].add(clause[1])
             if name and ensures:
-                for word in set(re.findall(r"\w+", line)) & records(crate).keys():
-                    found[name][-1][1].update(records(crate)[word])
+                for word in set(re.findall(r"\w+", line)):
+                    found[name][-1][1].update(fields_of(path, word))
     return found
 
 
+def fields_of(path, word):
+    """The fields of the record that a file of a crate's source names so, one of the crate or one that the file uses; none where that is no record."""
+    of_crate = records(tuple(sorted((CRATES / path.relative_to(CRATES).parts[0] / "specs").rglob("*.antt"))))
+    if word in of_crate:
+        return of_crate[word]
+    for used, name in source(path).uses.get(word, []):
+        of, _ = file_of(used)
+        if of and of.suffix == ".antt":
+            return records((of,)).get(name or word, [])
+    return []
+
+
 @functools.lru_cache(maxsize=None)
-def records(crate):
-    """The fields of each record of a crate's definitions: what a clause says that names it."""
-    texts = "\n".join(path.read_text(encoding="utf-8") for path in (CRATES / crate / "specs").rglob("*.antt"))
-    return {name: re.findall(r"^  pub (\w+) :", fields, re.M) for name, fields in re.findall(r"^pub record (\w+)\b.*? where\n((?:  .*\n)+)", texts + "\n", re.M)}
+def records(paths):
+    """The fields of each record of definitions, also of one that stands in a module of theirs: what a clause says that names it."""
+    texts = "\n".join(path.read_text(encoding="utf-8") for path in paths)
+    return {
+        name: re.findall(rf"^{indent}  pub (\w+) :", fields, re.M)
+        for indent, name, fields in re.findall(r"^( *)pub record (\w+)\b.*? where\n((?:\1  .*\n)+)", texts + "\n", re.M)
+    }
 
 
 def names_in(text):

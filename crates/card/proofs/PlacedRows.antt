@@ -11,7 +11,7 @@ use Rattle.std.proofs.lemmas.Option.{none-some, same_Some}
 use Rattle.eeprom.specs.Chip.{Chip, Becomes, RisesAtMost}
 use Rattle.eeprom.specs.Slots.{AreApart, Rises, has, in_order, in_slot}
 use Rattle.eeprom.specs.StoreOf.{Slots, Stored, slots_at, store_of}
-use Rattle.eeprom.proofs.InOrder.{count-below, count_by-in_order, counts, counts_not, Rises-in_order}
+use Rattle.eeprom.proofs.InOrder.{AreApart-rising, Rises-in_order}
 use Rattle.record_store.specs.declared.side.Side.TheVariants.{Committed, Working}
 use Rattle.record_store.specs.Held.{Held, contents, stored, with_limit}
 use Rattle.record_store.specs.Opening.{HeldSoFar, front_octets, journal_octets, most_octets}
@@ -25,11 +25,10 @@ use Rattle.scql_base.specs.declared.records.RowRecord.{RowRecord}
 use Rattle.scql_model.specs.Records.{row_in, user_in, object_in, grant_in}
 use Rattle.scql_model.specs.Database.{Database}
 use Rattle.scql_model.specs.Opens.{Opens}
-use Rattle.row_index.specs.Index.{ArePlaces, HasRows, Index, Indexes}
+use Rattle.row_index.specs.Index.{ArePlacesIn, HasRows, Index, Indexes}
 use Rattle.row_index.specs.Places.{numbered, place_in, place_of, place_slot, place_stamp, row_places}
 use Rattle.row_index.specs.declared.place.RowPlace.{RowPlace}
-use Rattle.row_index.proofs.Changes.{length-in_order}
-use Rattle.row_index.proofs.Tables.{all-in_order}
+use Rattle.record_table.specs.Listed.{slots_of}
 use Rattle.record_table.specs.AtRest.{IsAtRest}
 use Rattle.card.specs.Card.{HoldsSome}
 use Rattle.card.specs.Opening.{gathered, record_in}
@@ -69,52 +68,8 @@ place-stamp (kept_as.Grant g) place is = absurd (none-some place is)
 place-stamp (kept_as.Row slot r) place is = sym (ap place_stamp (same_Some (place_of slot r) place is))
 
 -- The rows among the records of slots, in rising order of their stamps, stand where those of the slots do.
-pub row_places-gathered : (slots : Slots) → AreApart stamp_of (gathered 0 slots) → row_places slots ≡ places_in (in_order stamp_of (gathered 0 slots))
-row_places-gathered slots apart = ap (in_order place_stamp) (sym (places-gathered 0 slots)) ∙ sym (filter_map-in_order stamp_of place_stamp as_place (gathered 0 slots) place-stamp apart)
-
--- The rows among these records stand each in a slot of its own before this one.
-pub record StandBefore (slot : ℕ) (records : List KeptRecord) : Type 0 where
-  pub before : AllByRecursion (λ place. place_slot place < slot) (places_in records)
-  pub apart : AreApart place_slot (places_in records)
-
-pub stand-none : (records : List KeptRecord) → records ≡ [] → StandBefore 0 records
-stand-none records empty = rw empty (record { before = tt; apart = λ k. omega arith })
-
-later : (slot : ℕ) (places : List RowPlace) → AllByRecursion (λ place. place_slot place < slot) places → AllByRecursion (λ place. place_slot place < slot + 1) places
-later slot [] all = tt
-later slot (x ∷ xs) all = (omega (arith, all.0), later slot xs all.1)
-
--- what holds of all and of one more
-all-push : {X : Type 0} (P : X → Type 0) (xs : List X) (x : X) → AllByRecursion P xs → P x → AllByRecursion P (xs ++ x ∷ [])
-all-push P [] x all here = (here, tt)
-all-push P (y ∷ ys) x all here = (all.0, all-push P ys x all.1 here)
-
--- one slot more
-pub stand-next : (slot : ℕ) (v : Option (List ℕ)) (records next : List KeptRecord) → next ≡ records ++ cons_option (in_slot (record_in slot) v) [] → StandBefore slot records → StandBefore (slot + 1) next
-stand-next slot v records next is so_far = record { before = subst (AllByRecursion (λ place. place_slot place < slot + 1)) (sym whole) both.0; apart = subst (AreApart place_slot) (sym whole) both.1 }
-  where
-    whole : places_in next ≡ places_in records ++ cons_option (place_in (slot, v)) []
-    whole = ap places_in is ∙ filter_map-append as_place records (cons_option (in_slot (record_in slot) v) [])
-        ∙ ap (λ ys. places_in records ++ ys) (filter_map-cons_option as_place (in_slot (record_in slot) v) [] ∙ ap (λ o. cons_option o []) (place-gathered slot v))
-
-    go : (o : Option RowRecord) → AllByRecursion (λ place. place_slot place < slot + 1) (places_in records ++ cons_option (option_map (place_of slot) o) []) × AreApart place_slot (places_in records ++ cons_option (option_map (place_of slot) o) [])
-    go None = rw (append-nil (places_in records)) (later slot (places_in records) so_far.before, so_far.apart)
-    go (Some row) = (
-      all-push (λ place. place_slot place < slot + 1) (places_in records) (place_of slot row) (later slot (places_in records) so_far.before) (omega arith),
-      λ k.
-          let test = has place_slot k in
-          let split = sum_by-append (λ y. cond (test y) 1 0) (places_in records) (place_of slot row ∷ []) in
-          (elim (cases_Bool (eqb slot k)) [
-            | inl t ↦ (let same = eqb-true slot k t in
-                let none = subst (λ k. count_by (has place_slot k) (places_in records) ≡ 0) same (count-below place_slot slot (places_in records) so_far.before) in
-                let one = counts test (place_of slot row) [] t in
-                omega arith)
-            | inr f ↦ (let a = so_far.apart k in let one = counts_not test (place_of slot row) [] f in omega arith)
-          ]),
-    )
-
-    both : AllByRecursion (λ place. place_slot place < slot + 1) (places_in records ++ cons_option (place_in (slot, v)) []) × AreApart place_slot (places_in records ++ cons_option (place_in (slot, v)) [])
-    both = go _
+stamped-gathered : (slots : Slots) → AreApart stamp_of (gathered 0 slots) → places_in (in_order stamp_of (gathered 0 slots)) ≡ in_order place_stamp (filter_map place_in (numbered 0 slots))
+stamped-gathered slots apart = filter_map-in_order stamp_of place_stamp as_place (gathered 0 slots) place-stamp apart ∙ ap (in_order place_stamp) (places-gathered 0 slots)
 
 rises-places : (records : List KeptRecord) → Rises stamp_of records → Rises place_stamp (places_in records)
 rises-places [] rises = tt
@@ -128,46 +83,21 @@ rises-places (s ∷ records) rises = go (as_place s) refl (rises-places records 
       rest,
     )
 
-few-places : (records : List KeptRecord) → length (places_in records) ≤ length records
-few-places [] = omega arith
-few-places (s ∷ records) = go (as_place s) (few-places records)
-  where
-    go : (o : Option RowPlace) → length (places_in records) ≤ length records → length (cons_option o (places_in records)) ≤ suc (length records)
-    go None few = omega arith
-    go (Some place) few = omega arith
-
--- An index can hold the places of records that stand in its slots, in rising order of their stamps.
-pub ArePlaces-gathered : (cells count : ℕ) (records sorted : List KeptRecord) → StandBefore count records → AreApart stamp_of records → sorted ≡ in_order stamp_of records → length records ≤ count → count ≤ cells
-    → ArePlaces cells (places_in sorted)
-ArePlaces-gathered cells count records sorted stand apart is few within = subst (λ (records : List KeptRecord). ArePlaces cells (places_in records)) (sym is) (record {
-  rises = rises-places (in_order stamp_of records) (Rises-in_order stamp_of records apart);
-  apart = λ k. subst (λ (n : ℕ). n ≤ 1) (sym (ap (count_by (has place_slot k)) same ∙ count_by-in_order place_stamp (has place_slot k) (places_in records))) (stand.apart k);
-  within = subst (AllByRecursion (λ place. place_slot place < cells)) (sym same) (all-in_order place_stamp (λ place. place_slot place < cells) (places_in records) (all (places_in records) stand.before));
-  few = omega (arith, few-places (in_order stamp_of records), length-in_order stamp_of records, few, within);
-})
-  where
-    same : places_in (in_order stamp_of records) ≡ in_order place_stamp (places_in records)
-    same = filter_map-in_order stamp_of place_stamp as_place records place-stamp apart
-
-    all : (places : List RowPlace) → AllByRecursion (λ place. place_slot place < count) places → AllByRecursion (λ place. place_slot place < cells) places
-    all [] before = tt
-    all (x ∷ xs) before = (omega (arith, before.0, within), all xs before.1)
-
 -- Where the committed slots have these records, their rows stand in these places.
 rows_told : (store : Held) (image : Option (List ℕ)) (count next : ℕ) (records sorted : List KeptRecord) → IfSome image (λ image. store_of image ≡ stored store Committed image)
     → IfSome image (λ image. (was : Stored) → store_of image ≡ Some was → Gathers was.row_limit count was.slots (Some next) records) → AreApart stamp_of records → sorted ≡ in_order stamp_of records
-    → IfSome (option_and_then (contents store Committed) image) (HasRows count (places_in sorted))
+    → IfSome (option_and_then (contents store Committed) image) (ArePlacesIn count (places_in sorted))
 rows_told store None count next records sorted opened gathers apart sort = tt
 rows_told store (Some image) count next records sorted opened gathers apart sort = go (contents store Committed image) refl
   where
-    go : (o : Option Slots) → contents store Committed image ≡ o → IfSome o (HasRows count (places_in sorted))
+    go : (o : Option Slots) → contents store Committed image ≡ o → IfSome o (ArePlacesIn count (places_in sorted))
     go None is = tt
     go (Some slots) is =
         let g = gathers (record { row_limit = store.row_limit; slots = slots }) (opened ∙ ap (with_limit store.row_limit) is) in
         record {
           all = g.count_is;
-          are = ap places_in sort ∙ ap (λ (records : List KeptRecord). places_in (in_order stamp_of records)) (sym g.records_are)
-              ∙ sym (row_places-gathered slots (subst (AreApart stamp_of) (sym g.records_are) apart));
+          are = ap places_in sort ∙ ap (λ (records : List KeptRecord). places_in (in_order stamp_of records)) (sym g.records_are) ∙ stamped-gathered slots (subst (AreApart stamp_of) (sym g.records_are) apart);
+          apart = AreApart-rising place_stamp (places_in sorted) (rises-places sorted (subst (Rises stamp_of) (sym sort) (Rises-in_order stamp_of records apart)));
         }
 
 -- without a transaction both sides have the same slots
@@ -176,17 +106,22 @@ idle_sides store None idle = refl
 idle_sides store (Some image) idle = sym (ap (λ (begun : Bool). slots_at image store.chains.cells (if begun then store.working else store.committed)) idle)
 
 -- So an index of them stands for the store.
-pub indexed : (index : Index) (store : Held) (chip : Chip) (cells count next : ℕ) (records sorted : List KeptRecord) → index ≡ record { cells = cells; begun = false; committed = places_in sorted; working = places_in sorted } → cells ≡ count
-    → store.begun ≡ false → count ≡ store.chains.cells → IfSome chip.image (λ image. store_of image ≡ stored store Committed image)
+pub indexed : (index : Index) (store : Held) (chip : Chip) (cells count next : ℕ) (records sorted : List KeptRecord) → index.cells ≡ cells → index.working ≡ index.committed → cells ≡ count
+    → store.begun ≡ false → count ≡ store.chains.cells → IfSome (slots_of store Committed chip) (λ slots. ArePlacesIn cells (places_in sorted) slots → HasRows index.cells index.committed slots) → IfSome chip.image (λ image. store_of image ≡ stored store Committed image)
     → IfSome chip.image (λ image. (was : Stored) → store_of image ≡ Some was → Gathers was.row_limit count was.slots (Some next) records) → AreApart stamp_of records → sorted ≡ in_order stamp_of records
     → Indexes index store chip
-indexed index store chip cells count next records sorted is all idle claimed opened gathers apart sort =
-    let rows = subst (λ (n : ℕ). IfSome (option_and_then (contents store Committed) chip.image) (HasRows n (places_in sorted))) (sym all) (rows_told store chip.image count next records sorted opened gathers apart sort) in
-    subst (λ (index : Index). Indexes index store chip) (sym is) (record {
-      cells = all ∙ claimed;
+indexed index store chip cells count next records sorted same both all idle claimed filled opened gathers apart sort =
+    let places = subst (λ (n : ℕ). IfSome (option_and_then (contents store Committed) chip.image) (ArePlacesIn n (places_in sorted))) (sym all) (rows_told store chip.image count next records sorted opened gathers apart sort) in
+    let rows = told (slots_of store Committed chip) places filled in
+    record {
+      cells = same ∙ all ∙ claimed;
       committed = rows;
-      working = subst (λ (o : Option Slots). IfSome o (HasRows cells (places_in sorted))) (idle_sides store chip.image idle) rows;
-    })
+      working = rw both (subst (λ (o : Option Slots). IfSome o (HasRows index.cells index.committed)) (idle_sides store chip.image idle) rows);
+    }
+  where
+    told : (o : Option Slots) → IfSome o (ArePlacesIn cells (places_in sorted)) → IfSome o (λ slots. ArePlacesIn cells (places_in sorted) slots → HasRows index.cells index.committed slots) → IfSome o (HasRows index.cells index.committed)
+    told None places filled = tt
+    told (Some slots) places filled = filled places
 
 -- The store holds the database that its image opens to.
 pub holds-opened : (store : Held) (chip : Chip) (count next : ℕ) (records : List KeptRecord) → count ≡ store.chains.cells → IfSome chip.image (λ image. store_of image ≡ stored store Committed image)

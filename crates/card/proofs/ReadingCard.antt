@@ -80,10 +80,6 @@ pub Performs-err : (P : EepromFault → Type 0) {m : Machine} {answer : Answer} 
     → Performs m answer most body result card old new
 Performs-err P {result = result} is moments = record { step = err-ok _ _ result is; moments = moments; unwritten = err-on _ _ result is; octets = err-on _ _ result is }
 
-pub on-any : (X : Type 0) (r : Result StatusWord EepromFault) → X → OnOk r X
-on-any X (Ok word) x = x
-on-any X (Err fault) x = tt
-
 -- The cursor of a session is the machine's, and one of what its channel reads.
 pub cursor-card : (card : Kept) (chip : Chip) (m : Machine) (sessions : List (Option Session)) (chains : List (Option Chain)) (channel : ℕ) (session : Session) → IsAt card chip m → card.sessions ≡ sessions_of sessions chains
     → length sessions ≡ length chains → slice_index_or sessions channel None ≡ Some session → (cursor_of m channel ≡ session.cursor) × IfSome session.cursor (IsCursorOf (base m channel))

@@ -1,5 +1,5 @@
 -- What a reading command reads, from what its parts read.
-use Rattle.std.proofs.Common.{◌≡◌, ◌≤◌, ◌==◌, ◌+◌, ◌*◌, ℕ, true, false, List, [], ◌∷◌, length, take, drop, Option, None, Some, Result, Ok, Err, if◌then◌else◌, refl, sym, ap, subst, ◌∙◌, arith, inl, inr}
+use Rattle.std.proofs.Common.{◌≡◌, ◌≤◌, ◌==◌, ◌+◌, ◌*◌, ℕ, false, List, [], ◌∷◌, length, take, drop, Option, None, Some, Result, Ok, Err, if◌then◌else◌, refl, sym, ap, subst, ◌∙◌, arith, inl, inr}
 use Rattle.std.specs.Prelude.{IfSome, OnOk}
 use Rattle.std.specs.Option.{option_map_or}
 use Rattle.std.proofs.lemmas.Bool.{cases_Bool, eqb-true}
@@ -12,7 +12,7 @@ use Rattle.eeprom.specs.declared.fault.EepromFault.{EepromFault}
 use Rattle.record_store.specs.Held.{Held}
 use Rattle.record_store.specs.declared.side.Side.{Side}
 use Rattle.record_store.specs.declared.tags.Tag.TheVariants.{Stamp}
-use Rattle.scql_base.specs.Words.{conditions_not_satisfied, done}
+use Rattle.scql_base.specs.Words.{done}
 use Rattle.scql_base.specs.declared.cursor.Cursor.{Cursor}
 use Rattle.scql_base.specs.declared.operation.Command.{Command}
 use Rattle.scql_base.specs.declared.operation.Operation.{Operation}
@@ -34,8 +34,6 @@ use Rattle.scql_model.specs.ReadBound.{RisesAtLeast}
 use Rattle.scql_model.specs.Rules.{user_stamped}
 use Rattle.scql_model.specs.ReadingCommands.{Move, ReadingCommand, get_response, or_stays, reading_command, row_octets}
 use Rattle.scql_model.specs.Sessions.{changing_session, command_chain, reading_of, without_chain}
-use Rattle.scql_model.specs.Step.{reading_done}
-use Rattle.scql_model.specs.Transactions.{is_kept_waiting, waits}
 use Rattle.scql_model.proofs.FormedParts.{read_on}
 use Rattle.scql_model.proofs.ReadingSteps.{ended-actor, ended-reading}
 use Rattle.scql_model.proofs.LongerLists.{find-passes}
@@ -53,7 +51,6 @@ use Rattle.record_table.proofs.TaggedCosts.{user-of_stamp}
 use Rattle.db_read.specs.Searched.{cells_selected, octets_for_operation, octets_for_reading, user_cells}
 use Rattle.card.specs.ReadCosts.{ReadsAsked, ReadsFor, ReadsOctets, ReadsOn, row_answered, size_given}
 use Rattle.card.specs.Reading.{is_reading}
-use Rattle.apdu_chain.proofs.CarriedOut.{carried_out-reads, carried_out-waits}
 use Rattle.card.proofs.ReadingMoves.{given-word, stays-answered}
 
 pub on-then : {P Q : Type 0} (r : Result StatusWord EepromFault) → (P → Q) → OnOk r P → OnOk r Q
@@ -140,12 +137,6 @@ row-read db actor reading command le word cursor values move a b moves gives rea
 pub reads-none : (operation : Operation) (le : Option ℕ) (command : ReadingCommand) → is_reading (kind_of operation) ≡ false → reading_command operation le ≡ Some command → ⊥
 reads-none (asks.DeclareCursor object columns conditions) le command none is = absurd cc
 reads-none operation le command none is = absurd cc
-
--- and what reads waits for no transaction
-pub waits-none : (m : Machine) (c : Command) (command : ReadingCommand) → is_kept_waiting (waits (kind_of c.operation)) m.transaction c.channel ≡ true → reading_command c.operation c.le ≡ Some command → ⊥
-waits-none m c command kept is =
-    let wrong : Ok (reading_done m c.channel command) ≡ Err conditions_not_satisfied = sym (carried_out-reads m c command is) ∙ carried_out-waits m c kept in
-    absurd cc
 
 -- What was taken, once octets were read.
 module _ (m : Machine) (octets : List ℕ) (a b : Option ℕ) where

@@ -1,7 +1,7 @@
 -- What a reading command's word, row and cursor make of a session, as the model's move.
-use Rattle.std.proofs.Common.{◌≡◌, ◌≤◌, ◌==◌, ℕ, true, false, List, [], ◌∷◌, length, Option, Some, None, is_some, option_map, Result, Ok, Err, if◌then◌else◌, refl, sym, ap, subst, ◌∙◌, arith, inl, inr}
+use Rattle.std.proofs.Common.{◌≡◌, ◌==◌, ℕ, true, false, List, [], Option, Some, None, is_some, option_map, Result, Ok, Err, if◌then◌else◌, refl, sym, ap, subst, ◌∙◌, inl, inr}
 use Rattle.std.specs.Prelude.{IfOk, IfSome, IsTrue, unwrap_or}
-use Rattle.std.proofs.lemmas.Bool.{cases_Bool, eqb-true, false≢true}
+use Rattle.std.proofs.lemmas.Bool.{cases_Bool, false≢true}
 use Rattle.std.proofs.lemmas.Option.{none-some, same_Some}
 use Rattle.eeprom.specs.declared.fault.EepromFault.{EepromFault}
 use Rattle.scql_base.specs.declared.cursor.Cursor.{Cursor}
@@ -16,7 +16,7 @@ use Rattle.scql_model.specs.Database.{Database}
 use Rattle.scql_model.specs.Machine.{Reading}
 use Rattle.scql_model.specs.Matching.{Values}
 use Rattle.scql_model.specs.Contents.{Contents, contents_of}
-use Rattle.scql_model.specs.Moves.{chosen, gave_more, giving, move_of, moved, rows_under}
+use Rattle.scql_model.specs.Moves.{chosen, gave_more, move_of, moved, rows_under}
 use Rattle.scql_model.specs.Objects.{StampedRow}
 use Rattle.scql_model.specs.Refusals.{◌>>=◌, or_refused}
 use Rattle.scql_model.specs.Rights.{holds, seen_stamped}
@@ -108,11 +108,6 @@ pub if_ok-then : {P Q : StatusWord → Type 0} (r : Result StatusWord EepromFaul
 if_ok-then (Ok word) then' holds = then' word holds
 if_ok-then (Err fault) then' holds = tt
 
--- Le is 1 to 256.
-pub le-bounds : (o : Option ℕ) (le : ℕ) → le ≡ unwrap_or o 256 → IfSome o (λ le. (1 ≤ le) × (le ≤ 256)) → (1 ≤ le) × (le ≤ 256)
-le-bounds None le said is = (omega (arith, said), omega (arith, said))
-le-bounds (Some n) le said is = (omega (arith, said, is.0), omega (arith, said, is.1))
-
 -- The rows of a cursor may be read where its object may be selected from.
 pub rows_under-may : (db : Database) (actor : Actor) (c : Cursor) (o : Object) → selectable db actor (seen_stamped db actor c.object) ≡ Ok o → rows_under db actor c ≡ Ok (chosen (contents_of db o.stamp) c)
 rows_under-may db actor c o may = asked-Ok db actor (seen_stamped db actor c.object) (λ (x : Object) (contents : Contents). Ok (chosen contents c)) o may
@@ -146,15 +141,3 @@ module _ (db : Database) (actor : Actor) (before : Reading) (le : ℕ) where
     more-may rows move is same =
         ap (or_stays before) (on_rows rows is)
         ∙ (ap (λ (o : Option Cursor). or_stays (record { cursor = o; pending = before.pending }) (gave_more c le before.pending)) stands ∙ same)
-
--- what is pending is nothing, or something
-pub none-pending : (octets : List ℕ) → (length octets == 0) ≡ true → octets ≡ []
-none-pending [] is = refl
-none-pending (octet ∷ octets) is = absurd (let wrong = eqb-true (length (octet ∷ octets)) 0 is in omega (arith, wrong))
-
-pub some-pending : (octets : List ℕ) → (length octets == 0) ≡ false → octets ≡ [] → ⊥
-some-pending octets is none = let wrong : true ≡ false = rw none at is in absurd cc
-
-pub gives-more : (c : Cursor) (le : ℕ) (octets : List ℕ) → (octets ≡ [] → ⊥) → gave_more c le octets ≡ Ok (giving c.place c le octets)
-gives-more c le [] some = absurd (some refl)
-gives-more c le (octet ∷ octets) some = refl

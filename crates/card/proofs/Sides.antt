@@ -13,9 +13,7 @@ use Rattle.record_store.specs.declared.side.Side.{Side}
 use Rattle.record_store.specs.declared.side.Side.TheVariants.{Committed, Working}
 use Rattle.record_table.specs.Listed.{slots_of}
 use Rattle.record_table.specs.Making.{GoesOn, IsHeld}
-use Rattle.row_index.specs.Index.{Index, Indexes, is_above}
-use Rattle.row_index.specs.Places.{place_stamp}
-use Rattle.row_index.specs.declared.place.RowPlace.{RowPlace}
+use Rattle.row_index.specs.Index.{Index, Indexes}
 use Rattle.scql_base.specs.declared.words.StatusWord.{StatusWord}
 use Rattle.scql_base.specs.Words.{done}
 use Rattle.scql_model.specs.Database.{Database, IsValid}
@@ -29,7 +27,7 @@ use Rattle.scql_base.specs.declared.words.Actor.{Actor}
 use Rattle.scql_model.specs.Sessions.{reading_so}
 use Rattle.scql_model.specs.Machine.{Reading}
 use Rattle.card.specs.Acting.{acting}
-use Rattle.card.specs.Card.{Kept, StandsOver, IsAt, IsReady, IsStillFound, HoldsSome, KeepsStamps, WorksOn}
+use Rattle.card.specs.Card.{Kept, StandsOver, IsAt, IsReady, IsStillFound, HoldsSome, WorksOn}
 use Rattle.card.specs.Sessions.{cursor_on, proved_user, session_on}
 use Rattle.card.specs.declared.found.Found.{Found}
 use Rattle.card.specs.declared.found.ChannelActor.{ChannelActor}
@@ -37,7 +35,7 @@ use Rattle.card.proofs.SeenSessions.{changed-on}
 use Rattle.card.specs.Waiting.{side_of}
 use Rattle.record_table.proofs.AtRest.{held-same}
 use Rattle.record_table.proofs.Steps.{told-image}
-use Rattle.card.proofs.IndexedStore.{last-held, working-idle}
+use Rattle.card.proofs.IndexedStore.{working-idle}
 use Rattle.card.proofs.Performing.{IsAtRest-at}
 
 -- where slots are told, a side holds some database
@@ -76,16 +74,6 @@ IsHeld-base card chip m channel ready at =
     each None works valid = let rest : IsHeld card.store Committed chip m.committed = IsAtRest-at card chip m ready at in rest
     each (Some t) works valid = either t (t.channel == channel) works valid
 
--- sides with the same slots hold databases with the same next stamp
-pub stamps-held : (store other : Held) (side from : Side) (chip old : Chip) (a b : Database) → slots_of store side chip ≡ slots_of other from old → IsHeld store side chip a → IsHeld other from old b → a.next ≡ b.next
-stamps-held store other side from chip old a b same held was =
-    let slots : held.slots ≡ was.slots = same_Some held.slots was.slots (sym held.told ∙ (same ∙ was.told)) in
-    let counts : a.next ∷ [] ≡ b.next ∷ [] = sym held.holds.counter ∙ (ap (kept counter_stamp counter_in) slots ∙ was.holds.counter) in
-    cc
-
-pub KeepsStamps-same : (store : Held) (chip : Chip) → slots_of store Working chip ≡ slots_of store Committed chip → KeepsStamps store chip
-KeepsStamps-same store chip same = λ db working held works. (let next = stamps-held store store Working Committed chip chip working db same works held in omega (arith, next))
-
 -- A side that has the slots of another holds what that one holds.
 pub HoldsSome-same : (store other : Held) (side from : Side) (old new : Chip) → HoldsSome other from old → is_some new.image ≡ is_some old.image → slots_of store side new ≡ slots_of other from old
     → store.chains.cells ≡ other.chains.cells → store.row_limit ≡ other.row_limit → HoldsSome store side new
@@ -105,24 +93,9 @@ StandsOver-idle card chip live none idle over holds index_idle index = record {
   over = over;
   holds = holds;
   works = HoldsSome-same card.store card.store Working Committed chip chip holds refl (working-idle card.store chip idle) refl refl;
-  stamps = KeepsStamps-same card.store chip (working-idle card.store chip idle);
   index_begun = index_idle ∙ sym (ap is_some none);
   index = index;
 }
-
--- no place is above a later stamp either
-above-more : (stamp next : ℕ) (places : List RowPlace) → stamp ≤ next → is_above stamp places ≡ true → is_above next places ≡ true
-above-more stamp next [] le all = refl
-above-more stamp next (place ∷ places) le all =
-    let parts = and_parts (ltb (place_stamp place) stamp) (is_above stamp places) all in
-    and_from (ltb (place_stamp place) next) (is_above next places) (lt-ltb (place_stamp place) next (omega (arith, le, ltb-true (place_stamp place) stamp parts.0))) (above-more stamp next places le parts.1)
-
--- The next stamp of what a channel works on is above those of all rows that are committed.
-pub last-works : (card : Kept) (chip : Chip) (working : Database) → StandsOver card chip → IsHeld card.store Working chip working → is_above working.next card.index.committed ≡ true
-last-works card chip working ready works =
-    let image = told-image card.store Working chip works.slots works.told in
-    let some = some-held card.store Committed chip ready.holds image.0 image.1 in
-    above-more some.0.next working.next card.index.committed (ready.stamps some.0 working some.1 works) (last-held card.index card.store chip some.0 ready.index some.1)
 
 -- A card is ready still where nothing but sessions changed.
 pub StandsOver-sessions : (card after : Kept) (old new : Chip) (sessions : List (Option Session)) → after ≡ record card { sessions = sessions } → new ≡ old → StandsOver card old → StandsOver after new
@@ -132,7 +105,6 @@ StandsOver-sessions card after old new sessions is same ready = subst (λ (kept 
   over = ready.over;
   holds = ready.holds;
   works = ready.works;
-  stamps = ready.stamps;
   index_begun = ready.index_begun;
   index = ready.index;
 }))
@@ -146,21 +118,14 @@ StandsOver-settled word card channel chip ready = elim (cases_Bool (word.word ==
 
 -- Within a transaction a card stays ready whose working side goes on, and whose committed one stays.
 pub StandsOver-within : (card : Kept) (store : Held) (index : Index) (old new : Chip) → StandsOver card old → is_some card.transaction ≡ true → GoesOn card.store store old new
-    → slots_of store Committed new ≡ slots_of card.store Committed old → HoldsSome store Working new → ((db next : Database) → IsHeld card.store Working old db → IsHeld store Working new next → db.next ≤ next.next)
+    → slots_of store Committed new ≡ slots_of card.store Committed old → HoldsSome store Working new
     → IsTrue index.begun → Indexes index store new → StandsOver (record card { store = store; index = index }) new
-StandsOver-within card store index old new ready there goes_on stays works later begun stands = record {
+StandsOver-within card store index old new ready there goes_on stays works begun stands = record {
   live = ready.live;
   begun = goes_on.begun ∙ ready.begun;
   over = goes_on.over;
   holds = HoldsSome-same store card.store Committed Committed old new ready.holds goes_on.told stays goes_on.cells goes_on.rows;
   works = works;
-  stamps = λ db working held worked.
-      let image = told-image card.store Committed old held.slots (sym stays ∙ held.told) in
-      let some = some-held card.store Working old ready.works image.0 image.1 in
-      let back = held-same store card.store Committed Committed new old db held (sym stays) (sym goes_on.cells) (sym goes_on.rows) in
-      let first = ready.stamps db some.0 back some.1 in
-      let second = later some.0 working some.1 worked in
-      omega (arith, first, second);
   index_begun = begun ∙ sym there;
   index = stands;
 }
@@ -173,7 +138,6 @@ StandsOver-found card found chip stands = record {
   over = stands.over;
   holds = stands.holds;
   works = stands.works;
-  stamps = stands.stamps;
   index_begun = stands.index_begun;
   index = stands.index;
 }

@@ -1,6 +1,5 @@
 -- Records in rising order of their stamps pass the test of a database, or those in any order don't.
 use Rattle.std.proofs.Common.{◌≡◌, ℕ, Bool, true, false, List, Option, Some, sym, subst, ◌∙◌}
-use Rattle.std.specs.Prelude.{IsTrue}
 use Rattle.std.specs.List.Sorted.{IsPermutation}
 use Rattle.std.proofs.lemmas.Bool.{false≢true}
 use Rattle.std.proofs.lemmas.List.Sorted.{IsPermutation-sym}
@@ -28,7 +27,3 @@ refused-sorted counter next other all sorted permuted rises counts invalid count
     let same : next ≡ other = same_Some next other (sym counts ∙ counts') in
     let invalid' = subst (λ (records : List KeptRecord). is_valid_list next records ≡ false) (in_order-permuted stamp_of all sorted permuted rises) invalid in
     false≢true (sym (subst (λ (n : ℕ). is_valid_list n (in_order stamp_of all) ≡ false) same invalid') ∙ passed.valid)
-
--- where they don't rise in their order, two have one stamp
-pub refused-unsorted : (other : ℕ) (all sorted : List KeptRecord) (rise : Bool) → (AreApart stamp_of all → Rises stamp_of sorted) → (Rises stamp_of sorted → IsTrue rise) → rise ≡ false → PassTest other all → ⊥
-refused-unsorted other all sorted rise up rises fall passed = false≢true (sym fall ∙ rises (up passed.apart))

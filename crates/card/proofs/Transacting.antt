@@ -26,15 +26,15 @@ use Rattle.scql_model.specs.Machine.{Machine, Transaction, actor, base}
 use Rattle.scql_model.specs.Opens.{Holds}
 use Rattle.scql_model.specs.Refusals.{◌>>=◌}
 use Rattle.scql_model.specs.Replies.{said}
-use Rattle.scql_model.specs.Sessions.{cursor_of, without_cursor, without_pending}
+use Rattle.scql_model.specs.Sessions.{cursor_of, without_pending}
 use Rattle.scql_model.specs.Sessions as sessions
-use Rattle.scql_model.specs.Step.{Answer, answered, changed, done_with, transaction_begun, transaction_committed, transaction_rolled_back}
+use Rattle.scql_model.specs.Step.{Answer, answered, changed, done_with, transaction_begun, transaction_committed}
 use Rattle.scql_model.specs.Transactions.{for_others, own_transaction}
 use Rattle.scql_model.specs.Cursors.{IsCursorOf}
 use Rattle.scql_model.specs.ValidMachine.{IsValidWork}
 use Rattle.record_table.specs.Listed.{slots_of}
 use Rattle.record_table.specs.Making.{GoesOn, IsHeld, Makes}
-use Rattle.row_index.specs.Index.{Index, side_places}
+use Rattle.row_index.specs.Index.{Index, side_rows}
 use Rattle.record_table.specs.Touching.{IsTouched}
 use Rattle.card.specs.Answering.{HoldsAnswer, Performs, changing_session, replied, settled}
 use Rattle.record_table.specs.AtRest.{IsAtRest, LeavesOneOf}
@@ -43,13 +43,13 @@ use Rattle.card.specs.Acting.{acting}
 use Rattle.card.specs.Changing.{Changes, ConcludesWithin, new_of}
 use Rattle.card.specs.Waiting.{keeps_waiting}
 use Rattle.card.specs.Sessions.{proved_user}
-use Rattle.record_table.proofs.AtRest.{held-same, leaves-committed, leaves-kept, opens-rest, over-begun, same-slots, slots-committed}
+use Rattle.record_table.proofs.AtRest.{held-same, leaves-committed, leaves-kept, opens-rest, same-slots, slots-committed}
 use Rattle.apdu_chain.proofs.CarriedOut.{base-own, changed-own, committed-base, outcome_with}
 use Rattle.card.proofs.FreeCommands.{own-open}
 use Rattle.card.proofs.Leaving.{rises-none}
-use Rattle.card.proofs.IndexedStore.{Indexes-begun, Indexes-ended}
-use Rattle.card.proofs.Performing.{HoldsAnswer-done, HoldsMachine-changing, HoldsMachine-rest, IsAtRest-at, Performs-changed, Performs-unwritten, actor-at, refused-not_done}
-use Rattle.card.proofs.Sides.{HoldsSome-same, IsHeld-works, StandsOver-idle, KeepsStamps-same}
+use Rattle.card.proofs.IndexedStore.{Indexes-ended}
+use Rattle.card.proofs.Performing.{HoldsAnswer-done, HoldsMachine-rest, IsAtRest-at, Performs-changed, Performs-unwritten, actor-at, refused-not_done}
+use Rattle.card.proofs.Sides.{HoldsSome-same, IsHeld-works, StandsOver-idle}
 use Rattle.record_table.proofs.TouchedRecords.{IsTouched-after, IsTouched-begun, entries-touched}
 
 -- Within a transaction nothing is committed.
@@ -230,9 +230,6 @@ pub begun-answer : (m : Machine) (channel : ℕ) → m.transaction ≡ None
     → transaction_begun m channel ≡ Ok (done_with (record m { transaction = Some (record { channel = channel; working = m.committed; touched = [] }) }) channel [])
 begun-answer m channel none = rw none refl
 
-begun-refused : (m : Machine) (channel : ℕ) → is_some m.transaction ≡ true → transaction_begun m channel ≡ Err conditions_not_satisfied
-begun-refused m channel there = rw there refl
-
 some-of : (t : Option Transaction) (own : Option ℕ) → option_map (λ (t : Transaction). t.channel) t ≡ own → is_some own ≡ true → is_some t ≡ true
 some-of None own is some = ap is_some is ∙ some
 some-of (Some t) own is some = refl
@@ -262,35 +259,10 @@ HoldsAnswer-begun card after store index chip m channel closed at is starts stay
       sessions = at.held.sessions;
     }) ended)
 
-pub HoldsAnswer-begun_already : (card : Kept) (chip : Chip) (m : Machine) (channel : ℕ) → is_some card.transaction ≡ true → HoldsMachine card chip m
-    → HoldsAnswer (answered m (transaction_begun m channel)) (said conditions_not_satisfied) card chip
-HoldsAnswer-begun_already card chip m channel there at =
-    subst (λ (o : Result Answer StatusWord). HoldsAnswer (answered m o) (said conditions_not_satisfied) card chip) (sym (begun-refused m channel (some-of m.transaction card.transaction at.transaction there))) (record { reply = refl; held = at })
-
--- A store with the working side begun as the committed one has the card ready.
-pub StandsOver-begun : (card after : Kept) (chip : Chip) → StandsOver card chip → card.transaction ≡ None → after.live ≡ card.live → is_some after.transaction ≡ true → after.store ≡ begun_from card.store
-    → ((image : List ℕ) → StandsFor card.store image → StandsFor after.store image)
-    → ((image : List ℕ) → contents after.store Working image ≡ contents card.store Committed image) → ((image : List ℕ) → contents after.store Committed image ≡ contents card.store Committed image)
-    → after.index ≡ record { cells = card.index.cells; begun = true; committed = card.index.committed; working = card.index.committed } → StandsOver after chip
-StandsOver-begun card after chip ready closed live there is stands starts stays index =
-    let committed = same-slots after.store card.store Committed Committed chip stays in
-    let working = same-slots after.store card.store Working Committed chip starts in
-    let cells : after.store.chains.cells ≡ card.store.chains.cells = ap (λ (s : Held). s.chains.cells) is in
-    let rows : after.store.row_limit ≡ card.store.row_limit = ap (λ (s : Held). s.row_limit) is in record {
-      live = subst IsTrue (sym live) ready.live;
-      begun = ap (λ (s : Held). s.begun) is ∙ sym there;
-      over = over-begun card.store after.store chip chip ready.over refl is stands;
-      holds = HoldsSome-same after.store card.store Committed Committed chip chip ready.holds refl committed cells rows;
-      works = HoldsSome-same after.store card.store Working Committed chip chip ready.holds refl working cells rows;
-      stamps = KeepsStamps-same after.store chip (working ∙ sym committed);
-      index_begun = ap (λ (i : Index). i.begun) index ∙ sym there;
-      index = Indexes-begun card.index after.index card.store after.store chip chip ready.index refl index is starts stays;
-    }
-
 -- The end of a transaction: the slots of one side are committed.
 pub StandsOver-ended : (card after : Kept) (side : Side) (old new : Chip) → StandsOver card old → HoldsSome card.store side old → IsTrue after.live → after.transaction ≡ None → after.store.begun ≡ false → IsOver after.store new
     → is_some new.image ≡ is_some old.image → slots_of after.store Committed new ≡ slots_of card.store side old → after.store.chains.cells ≡ card.store.chains.cells → after.store.row_limit ≡ card.store.row_limit
-    → after.index ≡ record { cells = card.index.cells; begun = false; committed = side_places card.index side; working = side_places card.index side } → StandsOver after new
+    → after.index ≡ record { cells = card.index.cells; begun = false; committed = side_rows card.index side; working = side_rows card.index side } → StandsOver after new
 StandsOver-ended card after side old new ready holds live none idle over told same cells rows index =
     StandsOver-idle after new live none idle over (HoldsSome-same after.store card.store Committed side old new holds told same cells rows) (ap (λ (i : Index). i.begun) index)
     (Indexes-ended card.index after.index side card.store after.store old new ready.index index idle cells same)
@@ -306,14 +278,6 @@ over-committed store after old new over commits done_now cells = record {
     told None is = tt
     told (Some image) is = (done_now image is).2.stands
 
--- and so is one that was rolled back
-pub over-rolled_back : (store after : Held) (chip : Chip) → IsOver store chip → ((image : List ℕ) → StandsFor store image → StandsFor after image) → after.chains.cells ≡ store.chains.cells → IsOver after chip
-over-rolled_back store after chip over stands cells = record { room = subst (λ (n : ℕ). HasRoom n chip) (sym cells) over.room; stands = told chip.image over.stands }
-  where
-    told : (o : Option (List ℕ)) → IfSome o (StandsFor store) → IfSome o (StandsFor after)
-    told None is = tt
-    told (Some image) is = stands image is
-
 -- What is left once a transaction was dropped.
 pub HoldsMachine-undone : (card after : Kept) (chip : Chip) (m : Machine) → HoldsMachine card chip m → ((image : List ℕ) → contents after.store Committed image ≡ contents card.store Committed image)
     → after.store.row_limit ≡ card.store.row_limit → after.sessions ≡ card.sessions → after.transaction ≡ None → HoldsMachine after chip (record m { transaction = None })
@@ -327,26 +291,6 @@ HoldsMachine-undone card after chip m at stays rows sessions none = record {
   works = tt;
   sessions = at.sessions ∙ sym sessions;
 }
-
--- ROLLBACK.
-pub HoldsAnswer-rolled_back : (undone after : Kept) (chip : Chip) (m : Machine) (channel : ℕ) (t : Transaction) → own_transaction m.transaction channel ≡ Some t → HoldsMachine undone chip (record m { transaction = None })
-    → after ≡ changing_session without_pending (changing_session without_cursor undone channel) channel → HoldsAnswer (answered m (transaction_rolled_back m channel)) (said done) after chip
-HoldsAnswer-rolled_back undone after chip m channel t own held ended =
-    subst (λ (o : Result Answer StatusWord). HoldsAnswer (answered m o) (said done) after chip) (sym (rolled m channel t own))
-    (HoldsAnswer-done (changing_session without_cursor undone channel) after chip (sessions.changing_session without_cursor (record m { transaction = None }) channel) channel []
-    (HoldsMachine-changing without_cursor undone chip (record m { transaction = None }) channel held) ended)
-  where
-    rolled : (m : Machine) (channel : ℕ) (t : Transaction) → own_transaction m.transaction channel ≡ Some t
-        → transaction_rolled_back m channel ≡ Ok (done_with (sessions.changing_session without_cursor (record m { transaction = None }) channel) channel [])
-    rolled m channel t own = rw own refl
-
-pub HoldsAnswer-no_rollback : (card : Kept) (chip : Chip) (m : Machine) (channel : ℕ) → own_transaction m.transaction channel ≡ None → HoldsMachine card chip m
-    → HoldsAnswer (answered m (transaction_rolled_back m channel)) (said conditions_not_satisfied) card chip
-HoldsAnswer-no_rollback card chip m channel none at =
-    subst (λ (o : Result Answer StatusWord). HoldsAnswer (answered m o) (said conditions_not_satisfied) card chip) (sym (refused m channel none)) (record { reply = refl; held = at })
-  where
-    refused : (m : Machine) (channel : ℕ) → own_transaction m.transaction channel ≡ None → transaction_rolled_back m channel ≡ Err conditions_not_satisfied
-    refused m channel none = rw none refl
 
 -- COMMIT.
 committed-answer : (m : Machine) (channel : ℕ) (t : Transaction) → own_transaction m.transaction channel ≡ Some t

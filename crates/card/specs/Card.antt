@@ -40,10 +40,6 @@ committed_slots store image = option_and_then (contents store Committed) image
 abbrev pub HoldsSome : Held → Side → Chip → Type 0
 HoldsSome store side chip = IfSome chip.image (λ image. (db : Database) × IsHeld store side chip db)
 
--- the working database has given out all stamps that the committed one has
-abbrev pub KeepsStamps : Held → Chip → Type 0
-KeepsStamps store chip = (db working : Database) → IsHeld store Committed chip db → IsHeld store Working chip working → db.next ≤ working.next
-
 -- The card answers, its store is over the EEPROM and holds a database on each side, the index stands for the rows of both, and a transaction is begun where
 -- a channel has one.
 pub record StandsOver (card : Kept) (chip : Chip) : Type 0 where
@@ -52,7 +48,6 @@ pub record StandsOver (card : Kept) (chip : Chip) : Type 0 where
   pub over : IsOver card.store chip
   pub holds : HoldsSome card.store Committed chip
   pub works : HoldsSome card.store Working chip
-  pub stamps : KeepsStamps card.store chip
   pub index_begun : card.index.begun ≡ is_some card.transaction
   pub index : Indexes card.index card.store chip
 

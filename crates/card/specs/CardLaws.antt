@@ -56,7 +56,6 @@ module _ (card : Kept) (old new : Chip) (image : new.image ≡ old.image) where
     };
     holds = some-given Committed ready.holds;
     works = some-given Working ready.works;
-    stamps = λ db working held works. ready.stamps db working (held-before Committed db held) (held-before Working working works);
     index_begun = ready.index_begun;
     index = record {
       cells = ready.index.cells;

@@ -12,6 +12,7 @@ pub mod KeptRecords
 pub mod LiveCard
 pub mod LiveCardLaws
 pub mod Making
+pub mod Opened
 pub mod Opening
 pub mod Pool
 pub mod Proved

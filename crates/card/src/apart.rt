@@ -5,7 +5,7 @@ ghost use Rattle.scql_base.specs.declared.name.TheConstants.Name.{LONGEST};
 ghost use Rattle.card.specs.Apart as apart;
 ghost use Rattle.card.specs.declared.apart.Label.TheVariants.{ObjectName};
 
-use crate::kept_records::KeptRecords;
+use crate::sorted_records::SortedRecords;
 use crate::spelled_record::SpelledRecord;
 use eeprom::Heap;
 use scql_base::{Name, Object};
@@ -20,7 +20,11 @@ pub(crate) enum Label {
 
 impl Label {
     /// Whether no two records share it. The numbers are kept in `numbers`, which has room for one of each record.
-    pub(crate) fn is_never_shared(self, records: &KeptRecords, numbers: &mut Vec<u64, Heap>) -> bool
+    pub(crate) fn is_never_shared(
+        self,
+        records: &SortedRecords,
+        numbers: &mut Vec<u64, Heap>,
+    ) -> bool
         requires room { length records.now.items ≤ vec_capacity numbers.old }
         ensures never { result ≡ apart.is_never_shared self records.now.items }
         ensures room { vec_capacity numbers.old ≤ vec_capacity numbers.new }

@@ -1,8 +1,8 @@
 // A card, which answers commands over the EEPROM that it was opened on.
-ghost use Rattle.std.specs.Prelude.{◌≡◌, ◌↔◌, ℕ, ◌<◌, ◌≤◌, [], ◌∷◌, None, false, drop, option_map, IfSome, IfOk, OnOk, IsErrOf};
+ghost use Rattle.std.specs.Prelude.{◌≡◌, ◌↔◌, ℕ, ◌<◌, ◌≤◌, [], ◌∷◌, false, drop, option_map, IfSome, IfOk, OnOk, IsErrOf};
 ghost use Rattle.eeprom.specs.Chip.{Chip, Becomes, Keeps};
 ghost use Rattle.eeprom.specs.Fault.{Counts, Rose};
-ghost use Rattle.eeprom.specs.StoreOf.{fewest_cells, image_size, is_gate_open, most_cells};
+ghost use Rattle.eeprom.specs.StoreOf.{fewest_cells, image_size, most_cells};
 ghost use Rattle.cell_store.specs.Reading.{ReadsAtMost};
 ghost use Rattle.record_store.specs.Faults.{is_open_fault};
 ghost use Rattle.record_store.specs.Opening.{ReadsFront, most_octets};
@@ -18,8 +18,8 @@ ghost use Rattle.card.specs.Behind.{KeepsBehind, own_cells};
 ghost use Rattle.card.specs.Card.{Kept, IsReady, IsAt, fresh_card};
 ghost use Rattle.record_table.specs.AtRest.{LeavesOneOf};
 ghost use Rattle.card.specs.Counting.{counts_of};
-ghost use Rattle.card.specs.Making.{LeavesMade};
-ghost use Rattle.card.specs.Opening.{ReadsCard};
+ghost use Rattle.card.specs.Making.{LeavesMade, OpensToNone};
+ghost use Rattle.card.specs.Opened.{IsOpenTo, OpensTo};
 ghost use Rattle.card.specs.Replied.{RepliedTo};
 
 use crate::engine::Engine;
@@ -75,18 +75,15 @@ impl Card {
     /// short behind an open gate is redone first. The records are let go at the end.
     pub fn open<B: Eeprom>(alloc: Heap, bench: &mut B) -> Result<Card, OpenRefusal>
         ensures opens { IfOk result (λ card. IfSome (B.chip bench.old).image (λ image. (db : Database) × Opens image db)) }
-        ensures starts { IfOk result (λ card. IfSome (B.chip bench.old).image (λ image.
-            (db : Database) → Opens image db → IsAt card (B.chip bench.new) (machine.start db))) }
+        ensures opened { (db : Database) → IsOpenTo (B.chip bench.old) db
+            → OpensTo db result (B.chip bench.old) (B.chip bench.new) (B.octets_read bench.old) (B.octets_read bench.new) }
         ensures ready { IfOk result (λ card. IsReady card (B.chip bench.new)) }
         // No card is smaller.
         ensures cells { IfOk result (λ card. fewest_cells ≤ card.store.chains.cells) }
-        // Where the gate is closed as many octets are read as begin the image, and as the cells of the records have.
-        ensures octets_read { OnOk result (IfSome (B.chip bench.old).image (λ image. (db : Database) → Opens image db → is_gate_open image ≡ false
-            → Becomes (ReadsCard db) (B.octets_read bench.old) (B.octets_read bench.new))) }
         ensures most_read { Becomes (ReadsAtMost most_octets) (B.octets_read bench.old) (B.octets_read bench.new) }
         // Memory is wanting only before the first record is read.
         ensures no_memory { IsErrOf result OpenRefusal.NoMemory → (n : ℕ) × ReadsFront n (B.chip bench.old).image (B.octets_read bench.old) (B.octets_read bench.new) }
-        ensures not_a_card { IsErrOf result OpenRefusal.NotACard → IfSome (B.chip bench.old).image (λ image. (db : Database) → Opens image db → ⊥) }
+        ensures not_a_card { IsErrOf result OpenRefusal.NotACard → IfSome (B.chip bench.old).image OpensToNone }
         // A power loss leaves an image that opens as before, also where it is refused; and where the gate is closed nothing is written.
         ensures recovers { Recovers is_open_fault B.chip B.faults bench.old bench.new result }
         ensures behind { KeepsBehind own_cells (B.chip bench.old) (B.chip bench.new) }

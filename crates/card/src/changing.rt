@@ -1,7 +1,7 @@
 // Changes of the database, each for who acts, in a transaction of its own.
-ghost use Rattle.std.specs.Prelude.{◌≡◌, ℕ, ◌≤◌, ◌*◌, List, Option, drop, false, true, is_some, IfOk, IfSome, IsTrue, IsErrOf, OnOk, OnErr};
+ghost use Rattle.std.specs.Prelude.{◌≡◌, ℕ, ◌*◌, List, Option, drop, false, true, IfOk, IfSome, OnOk};
 ghost use Rattle.eeprom.specs.Chip.{Becomes, Keeps};
-ghost use Rattle.eeprom.specs.Fault.{Counts, CountsFaults, each_error};
+ghost use Rattle.eeprom.specs.Fault.{Counts, each_error};
 ghost use Rattle.eeprom.specs.Frame.{Reads};
 ghost use Rattle.eeprom.specs.StoreOf.{store_of, cell_size, image_size};
 ghost use Rattle.record_store.specs.Held.{IsOver};
@@ -9,16 +9,15 @@ ghost use Rattle.record_store.specs.declared.side.Side.TheVariants.{Committed, W
 ghost use Rattle.scql_base.specs.declared.cursor.Cursor as model;
 ghost use Rattle.scql_base.specs.declared.operation.Operation.TheVariants as asks;
 ghost use Rattle.scql_model.specs.Changing.{edits_of};
-ghost use Rattle.scql_model.specs.Creating.{IsActorOf, actor_stamp};
+ghost use Rattle.scql_model.specs.Creating.{actor_stamp};
 ghost use Rattle.scql_model.specs.Cursors.{IsCursorOf};
 ghost use Rattle.scql_model.specs.Database.{Database};
 ghost use Rattle.scql_model.specs.Operations.{kind_of};
 ghost use Rattle.scql_model.specs.WellFormed.{HasForm, FitsCard};
 ghost use Rattle.cursor.specs.Costs.{RisesBetween};
 ghost use Rattle.record_table.specs.Listed.{slots_of};
-ghost use Rattle.record_table.specs.Making.{IsHeld, Ends, GoesOn, is_stop_fault};
-ghost use Rattle.row_index.specs.Index.{Indexes, is_above};
-ghost use Rattle.row_table.specs.Tables.{Ended, EndedBy, Stand};
+ghost use Rattle.record_table.specs.Making.{IsHeld, GoesOn};
+ghost use Rattle.row_table.specs.Tables.{Ended, EndedBy, InTransaction, Stand};
 ghost use Rattle.db_write.specs.Reached.{IsThrough};
 ghost use Rattle.record_table.specs.AtRest.{IsAtRest};
 ghost use Rattle.card.specs.Card.{HoldsSome};
@@ -105,10 +104,8 @@ pub(crate) fn change_within<B: Eeprom>(
     operation: &Operation,
     scan: &mut Scan,
 ) -> Result<StatusWord, EepromFault>
-    requires begun { IsTrue tables.old.store.begun }
-    requires stand { Stand tables.old (B.chip bench.old) }
+    requires open { InTransaction tables.old (B.chip bench.old) }
     requires works { HoldsSome tables.old.store Working (B.chip bench.old) }
-    requires last { (db : Database) → IsHeld tables.old.store Working (B.chip bench.old) db → is_above db.next tables.old.index.committed ≡ true }
     requires known { (db : Database) → IsHeld tables.old.store Working (B.chip bench.old) db → IfSome known (λ actor. actor ≡ acting db user) }
     requires right { (db : Database) → IsHeld tables.old.store Working (B.chip bench.old) db → IsRightFor db (acting db user) scan.old cursor.now }
     requires formed { HasForm operation.now }
@@ -117,8 +114,6 @@ pub(crate) fn change_within<B: Eeprom>(
         → IfOk result (λ word. ConcludesWithin db (edits_of db (acting db user) cursor.now operation.now) word tables.old.store tables.new.store (B.chip bench.old) (B.chip bench.new)) }
     ensures catalog { specs.changes_rows (kind_of operation.now) ≡ true → OnOk result (KeepsCatalog Working tables.old.store tables.new.store (B.chip bench.old) (B.chip bench.new)) }
     ensures works { OnOk result (HoldsSome tables.new.store Working (B.chip bench.new)) }
-    // Whatever the cursor is, no stamp that was given out is left again.
-    ensures stamps { (db next : Database) → IsHeld tables.old.store Working (B.chip bench.old) db → OnOk result (IsHeld tables.new.store Working (B.chip bench.new) next → db.next ≤ next.next) }
     ensures committed { OnOk result (slots_of tables.new.store Committed (B.chip bench.new) ≡ slots_of tables.old.store Committed (B.chip bench.old)) }
     ensures goes_on { OnOk result (GoesOn tables.old.store tables.new.store (B.chip bench.old) (B.chip bench.new)) }
     ensures stand { OnOk result (Stand tables.new (B.chip bench.new)) }
@@ -145,9 +140,7 @@ fn make<B: Eeprom>(
     scan: &mut Scan,
     gone: &mut Option<u32>,
 ) -> Result<(), Stop>
-    requires begun { IsTrue tables.old.store.begun }
-    requires stand { Stand tables.old (B.chip bench.old) }
-    requires last { (db : Database) → IsHeld tables.old.store Working (B.chip bench.old) db → is_above db.next tables.old.index.committed ≡ true }
+    requires open { InTransaction tables.old (B.chip bench.old) }
     requires right { (db : Database) → IsHeld tables.old.store Working (B.chip bench.old) db → IsRightFor db actor scan.old cursor.now }
     requires fits { FitsCard tables.old.store.row_limit operation.now }
     ensures ended { EndedBy B.chip B.faults (λ db. MayChange db actor operation.now) (λ db. IsThrough db (λ cursor. edits_of db actor cursor operation.now) cursor.now) bench.old bench.new tables.old tables.new result }
@@ -169,9 +162,7 @@ fn make_without_cursor<B: Eeprom>(
     operation: &Operation,
     gone: &mut Option<u32>,
 ) -> Result<(), Stop>
-    requires begun { IsTrue tables.old.store.begun }
-    requires stand { Stand tables.old (B.chip bench.old) }
-    requires last { (db : Database) → IsHeld tables.old.store Working (B.chip bench.old) db → is_above db.next tables.old.index.committed ≡ true }
+    requires open { InTransaction tables.old (B.chip bench.old) }
     requires no_cursor { goes_through_cursor (kind_of operation.now) ≡ false }
     requires fits { FitsCard tables.old.store.row_limit operation.now }
     ensures ended { (cursor : Option model.Cursor) → Ended B.chip B.faults (λ db. MayChange db actor operation.now) (λ db. edits_of db actor cursor operation.now) bench.old bench.new tables.old tables.new result }

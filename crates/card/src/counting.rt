@@ -1,5 +1,5 @@
 // How many records of each kind are committed.
-ghost use Rattle.std.specs.Prelude.{◌≡◌, ◌<◌, ◌≤◌, ℕ, List, Some, count_by, slice_index_or, None};
+ghost use Rattle.std.specs.Prelude.{◌≡◌, ◌<◌, ℕ, List, Some, count_by, slice_index_or, None};
 ghost use Rattle.eeprom.specs.StoreOf.{Slots};
 ghost use Rattle.record_store.specs.Held.{StandsFor, contents};
 ghost use Rattle.record_store.specs.declared.side.Side.TheVariants.{Committed};
@@ -55,7 +55,7 @@ fn is_marked<R: Record>(store: &Store, slot: u16) -> bool
     requires { slot < store.now.chains.cells }
     ensures { (image : List ℕ) (slots : Slots) → StandsFor store.now image → contents store.now Committed image ≡ Some slots → result ≡ has_kind_mark R.kind (slice_index_or slots slot None) }
 {
-    match store.kind(Side::Committed, slot) {
+    match store.first_octet(Side::Committed, slot) {
         Some(octet) => R::has_mark(octet),
         None => false,
     }

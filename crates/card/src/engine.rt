@@ -1,5 +1,5 @@
 // The engine of a card: its store, its sessions, and what carries out a command.
-ghost use Rattle.std.specs.Prelude.{◌≡◌, ◌==◌, ℕ, List, slice_get, ◌<◌, ◌*◌, [], ◌∷◌, Some, None, true, false, map, is_some, length, drop, option_map, IfSome, IfOk, OnOk, OnErr, if◌then◌else◌};
+ghost use Rattle.std.specs.Prelude.{◌≡◌, ◌==◌, ℕ, List, slice_get, ◌<◌, ◌*◌, [], Some, None, true, false, map, is_some, length, drop, option_map, IfSome, IfOk, OnOk, OnErr, if◌then◌else◌};
 ghost use Rattle.eeprom.specs.Chip.{Chip, Becomes, Keeps};
 ghost use Rattle.eeprom.specs.Fault.{Counts, each_error};
 ghost use Rattle.eeprom.specs.Frame.{Reads};

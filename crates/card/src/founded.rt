@@ -1,13 +1,12 @@
 // What tables and views rest on: columns that are different, and for a view a base.
 ghost use Rattle.std.specs.Prelude.{◌≡◌, ◌==◌, ◌&&◌, Some, is_some, map, nat_lt, option_copied};
-ghost use Rattle.eeprom.specs.Slots.{Rises};
 ghost use Rattle.scql_base.specs.declared.condition.Condition as declared;
 ghost use Rattle.scql_model.specs.Objects as objects;
 ghost use Rattle.scql_model.specs.Rules as rules;
 ghost use Rattle.card.specs.Founded as specs;
-ghost use Rattle.card.specs.KeptRecords.{stamp_of, objects_in};
+ghost use Rattle.card.specs.KeptRecords.{objects_in};
 
-use crate::kept_records::KeptRecords;
+use crate::sorted_records::SortedRecords;
 use crate::validity::find_object;
 use scql_base::{Condition, NameList, Object, ObjectKind};
 
@@ -15,8 +14,7 @@ use scql_base::{Condition, NameList, Object, ObjectKind};
 const DEEPEST: usize = 4;
 
 /// Whether a table's or a view's columns are different, and what a view rests on is there.
-pub(crate) fn is_founded(records: &KeptRecords, object: &Object) -> bool
-    requires rises { Rises stamp_of records.now.items }
+pub(crate) fn is_founded(records: &SortedRecords, object: &Object) -> bool
     ensures { result ≡ rules.is_founded (objects_in records.now.items) object.now }
 {
     match &object.kind {
@@ -40,13 +38,12 @@ pub(crate) fn is_founded(records: &KeptRecords, object: &Object) -> bool
 
 // Whether a view of these columns and conditions may rest on a base.
 fn rests_on(
-    records: &KeptRecords,
+    records: &SortedRecords,
     view: &Object,
     columns: &NameList,
     conditions: &[Condition],
     base: &Object,
 ) -> bool
-    requires rises { Rises stamp_of records.now.items }
     requires there { objects.object_stamped (objects_in records.now.items) base.now.stamp ≡ Some base.now }
     ensures { result ≡ rules.rests_on (objects_in records.now.items) view.now columns.now conditions.now base.now }
 {
@@ -80,8 +77,7 @@ fn own_columns(kind: &ObjectKind) -> Option<&NameList>
 }
 
 // Whether a table is less than four views under the object of a stamp.
-fn may_have_view(records: &KeptRecords, stamp: u32) -> bool
-    requires rises { Rises stamp_of records.now.items }
+fn may_have_view(records: &SortedRecords, stamp: u32) -> bool
     ensures { result ≡ is_some (objects.depth_below DEEPEST (objects_in records.now.items) stamp) }
 {
     let mut stamp = stamp;

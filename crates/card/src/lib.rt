@@ -18,6 +18,7 @@ mod rooms;
 mod session;
 mod slot_card;
 mod slot_record;
+mod sorted_records;
 mod spelled_record;
 mod validity;
 

@@ -1,21 +1,23 @@
 // The records of a store, gathered as it is opened: one counter, and what is kept of all others, tested as those of a database.
 // The rows among them fill the index.
-ghost use Rattle.std.specs.Prelude.{◌≡◌, ◌≢◌, ◌⊎◌, ◌↔◌, ◌+◌, ◌*◌, ◌≤◌, ◌<◌, ℕ, [], ◌∷◌, ◌++◌, Some, None, false, true, length, is_some, IsTrue, IfSome, IfOk, IfErr, OnOk, IsErrOf};
+ghost use Rattle.std.specs.Prelude.{◌≡◌, ◌≢◌, ◌⊎◌, ◌+◌, ◌*◌, ◌≤◌, ◌<◌, ℕ, [], ◌++◌, Some, None, false, true, length, is_some, IfSome, IfOk, IfErr, OnOk, IsErrOf};
 ghost use Rattle.std.specs.List.{cons_option};
 ghost use Rattle.std.specs.Vec.{vec_capacity};
-ghost use Rattle.eeprom.specs.Chip.{Becomes};
+ghost use Rattle.eeprom.specs.Chip.{Becomes, Chip};
 ghost use Rattle.eeprom.specs.StoreOf.{store_of, is_gate_open};
-ghost use Rattle.eeprom.specs.Slots.{Rises, in_order, in_slot};
+ghost use Rattle.eeprom.specs.Slots.{in_order, in_slot};
 ghost use Rattle.cell_store.specs.Reading.{ReadsAtMost};
 ghost use Rattle.record_store.specs.Faults.{is_open_fault};
 ghost use Rattle.record_store.specs.Held.{IsOver, stored};
 ghost use Rattle.record_store.specs.Recovery.{Recovers};
 ghost use Rattle.record_store.specs.Opening.{ReadsFront, most_octets, slot_with};
 ghost use Rattle.record_store.specs.declared.side.Side.TheVariants.{Committed};
+ghost use Rattle.record_table.specs.Listed.{slots_of};
 ghost use Rattle.scql_model.specs.Records.{counter_in};
 ghost use Rattle.scql_model.specs.Database.{Database};
 ghost use Rattle.scql_model.specs.Opens.{Opens};
-ghost use Rattle.row_index.specs.Index.{ArePlaces, Indexes};
+ghost use Rattle.row_index.specs.Index.{ArePlacesIn, HasRows, Indexes};
+ghost use Rattle.row_index.specs.SideRows.{no_rows};
 ghost use Rattle.card.specs.Card.{HoldsSome};
 ghost use Rattle.scql_base.specs.declared.records.TheConstants.RowRecord.{LONGEST};
 ghost use Rattle.card.specs.KeptRecords.{places_in, stamp_of};
@@ -26,6 +28,7 @@ ghost use Rattle.scql_model.specs.Machine.{start};
 use crate::kept_records::KeptRecords;
 use crate::rooms::{Rooms, room_for_a_command};
 use crate::slot_record::SlotRecord;
+use crate::sorted_records::SortedRecords;
 use crate::validity::are_valid;
 use eeprom::{Eeprom, Heap};
 use record_store::{OpenRefusal, Opening, RecordOctets, Store};
@@ -99,7 +102,7 @@ pub(crate) fn open_records<B: Eeprom>(alloc: Heap, bench: &mut B) -> Result<Open
     let Some(records) = gathered.tested(&mut room.numbers) else {
         return Err(OpenRefusal::NotACard);
     };
-    let index = room.index_of(&records);
+    let index = room.index_of(&store, &records);
     Ok(Opened {
         store,
         index,
@@ -111,7 +114,7 @@ pub(crate) fn open_records<B: Eeprom>(alloc: Heap, bench: &mut B) -> Result<Open
 impl Room {
     // Room for what a store of so many cells has.
     fn for_cells(alloc: Heap, cells: u16) -> Result<Room, AllocError>
-        ensures index { IfOk result (λ room. room.index ≡ record { cells = cells; begun = false; committed = []; working = [] }) }
+        ensures index { IfOk result (λ room. room.index ≡ record { cells = cells; begun = false; committed = no_rows cells; working = no_rows cells }) }
         ensures places { IfOk result (λ room. (room.places.items ≡ []) × (vec_capacity room.places ≡ cells)) }
         ensures numbers { IfOk result (λ room. vec_capacity room.numbers ≡ cells) }
     {
@@ -122,13 +125,17 @@ impl Room {
         })
     }
 
-    // The index of the rows among records.
-    fn index_of(self, records: &KeptRecords) -> RowIndex
+    // The index of the rows of a store, which are those among these records.
+    fn index_of(self, store: &Store, records: &SortedRecords) -> RowIndex
         requires idle { self.index.begun ≡ false }
-        requires none { self.places.items ≡ [] }
+        requires no_rows { self.index.committed.slots ≡ [] }
+        requires no_places { self.places.items ≡ [] }
         requires room { length records.now.items ≤ vec_capacity self.places }
-        requires kept { ArePlaces self.index.cells (places_in records.now.items) }
-        ensures { result ≡ record { cells = self.index.cells; begun = false; committed = places_in records.now.items; working = places_in records.now.items } }
+        ensures cells { result.cells ≡ self.index.cells }
+        ensures idle { result.begun ≡ false }
+        ensures both { result.working ≡ result.committed }
+        ensures filled { (chip : Chip) → IsOver store.now chip → IfSome (slots_of store.now Committed chip)
+            (λ slots. ArePlacesIn self.index.cells (places_in records.now.items) slots → HasRows result.cells result.committed slots) }
     {
         let Room {
             mut index,
@@ -140,7 +147,7 @@ impl Room {
                 places.push_reserved(place);
             }
         }
-        index.fill(places.as_slice());
+        index.fill(store, places.as_slice());
         index
     }
 }
@@ -192,24 +199,18 @@ impl Gathered {
 
     // The records in rising order of their stamps, where they are those of a valid database.
     #[inline(never)]
-    fn tested(self, numbers: &mut Vec<u64, Heap>) -> Option<KeptRecords>
+    fn tested(self, numbers: &mut Vec<u64, Heap>) -> Option<SortedRecords>
         requires room { length self.records.items ≤ vec_capacity numbers.old }
         ensures records { IfSome result (λ records. records.items ≡ in_order stamp_of self.records.items) }
         ensures passed { IfSome result (λ records. (next : ℕ) × (self.counter ≡ Some next) × PassTest next self.records.items) }
         ensures refused { result ≡ None → (next : ℕ) → self.counter ≡ Some next → PassTest next self.records.items → ⊥ }
     {
-        let Gathered {
-            counter,
-            mut records,
-        } = self;
+        let Gathered { counter, records } = self;
         let next = counter?;
-        records.sort();
-        if !records.do_stamps_rise() {
+        let sorted = SortedRecords::of(records)?;
+        if !are_valid(next, &sorted, numbers) {
             return None;
         }
-        if !are_valid(next, &records, numbers) {
-            return None;
-        }
-        Some(records)
+        Some(sorted)
     }
 }

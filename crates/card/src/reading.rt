@@ -2,10 +2,8 @@
 ghost use Rattle.std.specs.Prelude.{◌≡◌, ◌≤◌, [], Option, Some, true, if◌then◌else◌, IfOk, IfSome, OnErr, OnOk};
 ghost use Rattle.eeprom.specs.Chip.{Becomes, RisesAtMost};
 ghost use Rattle.eeprom.specs.Fault.{each_error};
-ghost use Rattle.eeprom.specs.Frame.{Reads};
 ghost use Rattle.record_store.specs.Held.{IsOver};
 ghost use Rattle.record_table.specs.Making.{IsHeld};
-ghost use Rattle.row_index.specs.Index.{Indexes};
 ghost use Rattle.scql_base.specs.declared.cursor.Cursor as model;
 ghost use Rattle.scql_model.specs.Cursors.{IsCursorOf};
 ghost use Rattle.scql_model.specs.Database.{Database};
@@ -16,7 +14,7 @@ ghost use Rattle.scql_model.specs.ReadingCommands.{or_stays};
 ghost use Rattle.scql_model.specs.WellFormed.{IsWellFormed};
 ghost use Rattle.cursor.specs.Moved as outcomes;
 ghost use Rattle.db_read.specs.Answered.{given};
-ghost use Rattle.db_read.specs.Reader.{GoesOn};
+ghost use Rattle.db_read.specs.Reader.{ReadsOn, Stands};
 ghost use Rattle.db_read.specs.Scan.{IsRightFor};
 ghost use Rattle.db_read.specs.Searched.{octets_for_operation};
 ghost use Rattle.card.specs.ReadCosts.{OperatesWithin};
@@ -57,8 +55,7 @@ pub(crate) fn read<B: Eeprom>(
     row: &mut Row,
     scan: &mut Scan,
 ) -> Result<StatusWord, EepromFault>
-    requires over { IsOver reader.old.store.now (B.chip reader.old.bench.now) }
-    requires index { Indexes reader.old.index.now reader.old.store.now (B.chip reader.old.bench.now) }
+    requires stands { Stands B.chip reader.old }
     requires formed { IsWellFormed command.now }
     requires reads { specs.is_reading (kind_of command.now.operation) ≡ true }
     requires empty { reply.old.body ≡ [] }
@@ -69,8 +66,7 @@ pub(crate) fn read<B: Eeprom>(
     ensures right { (db : Database) → IsHeld reader.old.store.now reader.old.side (B.chip reader.old.bench.now) db → IsRightFor db actor scan.old session.old.cursor → IsRightFor db actor scan.new session.new.cursor }
     ensures user { session.new.user ≡ session.old.user }
     ensures unsaid { OnErr result (reply.new.body ≡ []) }
-    ensures goes_on { GoesOn reader.old reader.new }
-    ensures frame { Reads each_error B.chip B.faults reader.old.bench.now reader.new.bench.now result }
+    ensures reads { ReadsOn each_error B.chip B.faults reader.old reader.new result }
 {
     let le = command.le.unwrap_or(Command::LARGEST_LE);
     match &command.operation {
@@ -126,8 +122,7 @@ fn give_rest<B: Eeprom>(
     ensures cursor { session.new.cursor ≡ session.old.cursor }
     ensures user { session.new.user ≡ session.old.user }
     ensures unsaid { OnErr result (reply.new.body ≡ []) }
-    ensures goes_on { GoesOn reader.old reader.new }
-    ensures frame { Reads each_error B.chip B.faults reader.old.bench.now reader.new.bench.now result }
+    ensures reads { ReadsOn each_error B.chip B.faults reader.old reader.new result }
 {
     let Some(cursor) = &session.cursor else {
         return Ok(StatusWord::CONDITIONS_NOT_SATISFIED);

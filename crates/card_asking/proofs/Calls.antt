@@ -1,10 +1,13 @@
 -- Calls that follow one another.
-use Rattle.std.proofs.Common.{◌≡◌, ℕ, ◌≤◌, Bool, IfSome, refl, ◌∙◌, subst}
+use Rattle.std.proofs.Common.{◌≡◌, ℕ, ◌≤◌, Bool, Result, Err, refl, sym, ◌∙◌, subst}
 use Rattle.eeprom.specs.Chip.{Chip}
 use Rattle.eeprom.specs.Fault.{Rose}
+use Rattle.scql_base.specs.Words.{memory_failure}
 use Rattle.scql_model.specs.Database.{Database}
+use Rattle.scql_model.specs.Replies.{Reply, said}
 use Rattle.card_link.specs.Link.{Holds, LeavesOpen, Mutes}
-use Rattle.card_asking.specs.Calls.{StillAnswers, HasGoneOn}
+use Rattle.card_asking.specs.Calls.{AskingLeaves, HasGoneOn, StillAnswers}
+use Rattle.card_asking.specs.declared.mute.Mute.{Mute}
 use Rattle.card_asking.proofs.Moments.{leaves-all, leaves-both}
 
 pub rest-same : {L : Type 0} (mark : L → ℕ) (keeps goes_on : L → L → Type 0) (l : L) → keeps l l → goes_on l l → HasGoneOn mark keeps goes_on l l
@@ -31,3 +34,9 @@ mutes-then is_live faults old mid new first mutes = record {
   rose = subst (λ n. Rose n (faults new)) first.same mutes.rose;
   later = subst (λ n. n ≤ faults new) first.same mutes.later;
 }
+
+-- a card that is mute ends what it was asked for
+pub leaves-mute : {L A : Type 0} (is_live : L → Bool) (faults mark : L → ℕ) (keeps goes_on : L → L → Type 0) (result : Result A Mute) (e : Mute) (reply : Reply) (old new : L) → result ≡ Err e → Mutes is_live faults old new × (reply ≡ said memory_failure)
+    → HasGoneOn mark keeps goes_on old new → AskingLeaves is_live faults mark keeps goes_on result reply old new
+leaves-mute {L} {A} is_live faults mark keeps goes_on result e reply old new is mute rest =
+    subst (λ (r : Result A Mute). AskingLeaves is_live faults mark keeps goes_on r reply old new) (sym is) (record { replied = tt; mute = mute; rest = rest })

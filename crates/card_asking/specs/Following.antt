@@ -1,18 +1,22 @@
 -- A plan under way on a link: what is left of its run, and how the link goes on with it.
-use Rattle.std.specs.Prelude.{◌≡◌, ℕ, suc, List, [], ◌∷◌, ◌++◌, Option, Some, None}
+use Rattle.std.specs.Prelude.{◌≡◌, ℕ, ◌<◌, suc, List, [], ◌∷◌, ◌++◌, Option, Some, None, Result, IfOk}
+use Rattle.eeprom.specs.Chip.{Chip}
 use Rattle.scql_model.specs.Database.{Database}
 use Rattle.scql_model.specs.Lives.{after_all}
 use Rattle.scql_model.specs.Machine.{Machine}
 use Rattle.scql_model.specs.Replies.{Reply}
+use Rattle.script.specs.Commands.{IsSendable}
+use Rattle.card_link.specs.Link.{IsOneOf, LeavesOpen}
 use Rattle.planner.specs.declared.closing.Closing.{Closing}
 use Rattle.planner.specs.declared.step.Step.{Step}
 use Rattle.planner.specs.declared.step.Step.TheVariants.{Send, Row, ResetCard, Done}
 use Rattle.planner.specs.Held.{transaction_channel}
 use Rattle.planner.specs.Meaning.{answer_to}
-use Rattle.planner.specs.Planned.{Planned, Turn, next_of}
+use Rattle.planner.specs.Planned.{IfSent, Planned, Turn, next_of}
 use Rattle.planner.specs.Readings.{IsReadingAt}
-use Rattle.planner.specs.Turns.{turns_left}
+use Rattle.planner.specs.Turns.{IfGoesOn, turns_left}
 use Rattle.planner.specs.Running.{Ran, run, taken}
+use Rattle.card_asking.specs.declared.mute.Mute.{Mute}
 
 -- a plan's run to its end, and what is left of it at a step
 abbrev pub whole_run : Machine → Option Reply → Planned → Ran
@@ -37,6 +41,11 @@ behind rows commits ran = record ran { rows = rows ++ ran.rows; commits = commit
 abbrev pub to_go : Planned → Step → ℕ
 to_go p (Done closing) = 0
 to_go p step = suc (turns_left p)
+
+-- a plan comes from a step to one that can be sent, and has fewer left
+pub record ComesOn (p : Planned) (step : Step) (q : Planned) (next : Step) : Type 0 where
+  pub next_sendable : IfSent next IsSendable
+  pub less : IfGoesOn step (to_go q next < to_go p step)
 
 -- the row that a step has, if it has one
 abbrev pub given_by : Planned → Step → List (List ℕ)
@@ -70,3 +79,10 @@ pub record Follows {L : Type 0} (is_at : L → Machine → Type 0) (m : Machine)
 pub record IsEnded {L : Type 0} (is_at : L → Machine → Type 0) (ran : Ran) (closing : Closing) (now : L) : Type 0 where
   pub at : is_at now ran.machine
   pub closes : closing ≡ ran.closing
+
+-- A plan was carried out on a card that was at a machine, where this is its run.
+pub record RunsOver {L : Type 0} (is_at : L → Machine → Type 0) (mark : L → ℕ) (chip : L → Chip) (m : Machine) (ran : Ran) (result : Result Closing Mute) (old new : L) : Type 0 where
+  -- The card is behind the run, unless it is mute.
+  pub over : IfOk result (λ closing. IsEnded is_at ran closing new)
+  -- A power loss leaves the database as it was, or one that the run commits.
+  pub moments : LeavesOpen (IsOneOf (mark old) (m.committed ∷ ran.commits)) (chip old) (chip new)

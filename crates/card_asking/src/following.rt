@@ -1,15 +1,13 @@
 // The steps of a plan, followed on a card.
-ghost use Rattle.std.specs.Prelude.{◌≡◌, ◌<◌, ◌∷◌, List, IsTrue, IfOk, OnOk, OnErr};
-ghost use Rattle.scql_base.specs.Words.{memory_failure};
+ghost use Rattle.std.specs.Prelude.{◌≡◌, ◌∷◌, List, IsTrue, IfOk, OnOk, OnErr};
 ghost use Rattle.scql_model.specs.Machine.{Machine};
 ghost use Rattle.scql_model.specs.Matching.{Values};
-ghost use Rattle.scql_model.specs.Replies.{said};
 ghost use Rattle.script.specs.Commands.{IsSendable};
-ghost use Rattle.card_link.specs.Link.{Holds, IsOneOf, LeavesOpen, Mutes};
+ghost use Rattle.card_link.specs.Link.{Holds, IsOneOf, LeavesOpen};
 ghost use Rattle.planner.specs.declared.closing.Closing.{Closing as ModelClosing};
 ghost use Rattle.planner.specs.Planned.{IfSent};
-ghost use Rattle.planner.specs.Turns.{IfGoesOn};
-ghost use Rattle.card_asking.specs.Following.{Follows, IsEnded, given_by, heard_at, run_from, run_of, to_go, turn_by};
+ghost use Rattle.card_asking.specs.Calls.{AskingLeaves};
+ghost use Rattle.card_asking.specs.Following.{ComesOn, Follows, RunsOver, given_by, heard_at, run_from, run_of, turn_by};
 ghost use Rattle.card_asking.specs.Giving.{GivesRows, behind_step};
 
 use crate::{Mute, ask};
@@ -35,14 +33,9 @@ pub fn follow<L: CardLink>(
         → LeavesOpen (Holds (L.mark link.old) m.committed) (L.chip link.old) (L.chip link.new) }
     ensures moments { (m : Machine) → L.is_at link.old m
         → LeavesOpen (IsOneOf (L.mark link.old) (m.committed ∷ (run_from m plan.old step.old).commits)) (L.chip link.old) (L.chip link.new) }
-    ensures replied { OnOk result (IsTrue (L.is_live link.new) × (L.faults link.new ≡ L.faults link.old)) }
-    ensures mute { OnErr result (Mutes L.is_live L.faults link.old link.new × (reply.new ≡ said memory_failure)) }
     ensures stays { OnErr result ((plan.new ≡ plan.old) × (step.new ≡ step.old)) }
-    ensures mark { L.mark link.new ≡ L.mark link.old }
-    ensures next_sendable { OnOk result (IfSent step.new IsSendable) }
-    ensures less { OnOk result (IfGoesOn step.old (to_go plan.new step.new < to_go plan.old step.old)) }
-    ensures keeps { L.keeps link.old link.new }
-    ensures goes_on { L.goes_on link.old link.new }
+    ensures comes_on { OnOk result (ComesOn plan.old step.old plan.new step.new) }
+    ensures leaves { AskingLeaves L.is_live L.faults L.mark L.keeps L.goes_on result reply.new link.old link.new }
 {
     match &*step {
         Step::Send { command } | Step::Row { command } => {
@@ -67,15 +60,9 @@ pub fn carry_out<L: CardLink>(
     reply: &mut Reply,
 ) -> Result<Closing, Mute>
     requires live { IsTrue (L.is_live link.old) }
-    ensures over { (m : Machine) → L.is_at link.old m → IfOk result (λ closing. IsEnded L.is_at (run_of m plan.old) closing link.new) }
+    ensures runs { (m : Machine) → L.is_at link.old m → RunsOver L.is_at L.mark L.chip m (run_of m plan.old) result link.old link.new }
     ensures ended { IfOk result (λ closing. step.new ≡ Step.Done closing) }
-    ensures moments { (m : Machine) → L.is_at link.old m
-        → LeavesOpen (IsOneOf (L.mark link.old) (m.committed ∷ (run_of m plan.old).commits)) (L.chip link.old) (L.chip link.new) }
-    ensures replied { OnOk result (IsTrue (L.is_live link.new) × (L.faults link.new ≡ L.faults link.old)) }
-    ensures mute { OnErr result (Mutes L.is_live L.faults link.old link.new) }
-    ensures mark { L.mark link.new ≡ L.mark link.old }
-    ensures keeps { L.keeps link.old link.new }
-    ensures goes_on { L.goes_on link.old link.new }
+    ensures leaves { AskingLeaves L.is_live L.faults L.mark L.keeps L.goes_on result reply.new link.old link.new }
 {
     plan.next_into(None, step);
     loop {

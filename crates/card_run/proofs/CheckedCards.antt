@@ -8,7 +8,7 @@ use Rattle.scql_model.specs.Database.{Database}
 use Rattle.card.specs.Counting.{check_text}
 use Rattle.program.specs.declared.status.Status.{Status}
 use Rattle.program.specs.declared.status.Status.TheVariants.{Done, Eeprom, WriteFault, NoMemory}
-use Rattle.card_run.specs.Beginning.{IsOpenTo}
+use Rattle.card.specs.Opened.{IsOpenTo}
 use Rattle.card_run.specs.Checking.{Checks, Says}
 use Rattle.program.specs.Ends.{AllFaults, EndsBy}
 use Rattle.card_run.specs.Ends.{ends_opening}

@@ -18,10 +18,10 @@ use Rattle.record_store.specs.Recovery.{KeepsStore}
 use Rattle.record_store.proofs.Fronts.{Keeps-then}
 use Rattle.card.specs.Making.{LeavesMade, OpensAsBefore, OpensToNone}
 use Rattle.card.proofs.Starting.{opens-same}
-use Rattle.card.specs.Card.{Kept, IsAt}
 use Rattle.card_run.specs.declared.words.Form.{Form}
 use Rattle.card_run.specs.declared.words.Form.TheVariants.{New}
-use Rattle.card_run.specs.Beginning.{IsOpenTo, Begins, BeginsWith, LacksCard, LeavesUntilOpen}
+use Rattle.card_run.specs.Beginning.{Begins, BeginsWith, LacksCard, LeavesUntilOpen}
+use Rattle.card.specs.Opened.{IsOpenTo}
 use Rattle.card_run.specs.Words.{IsWithinLimits}
 use Rattle.program.specs.declared.status.Status.{Status}
 use Rattle.program.specs.declared.status.Status.TheVariants.{Done, Refused, Eeprom, ReadFault, WriteFault, NoMemory, TooLong}
@@ -39,12 +39,6 @@ use Rattle.line_input.specs.Reading.{longest_input}
 use Rattle.line_run.specs.Extent.{RunsInput}
 use Rattle.card_run.specs.Run.{IsQuiet, AnswersAll, RunsLines, TellsRefusals}
 use Rattle.card_run.proofs.Asking.{eeprom-rose, limits-asked, unopened}
-
--- the card that was opened is at the start of the database to which its EEPROM opens
-pub is_at : (card : Kept) (mid opened : Chip) (db : Database) → IsOpenTo mid db → IfSome mid.image (λ (image : List ℕ). (d : Database) → Opens image d → IsAt card opened (start d))
-    → IsAt card opened (start db)
-is_at card mid opened db opens starts =
-    subst (λ (o : Option (List ℕ)). IfSome o (λ (image : List ℕ). (d : Database) → Opens image d → IsAt card opened (start d))) opens.1 starts db opens.2
 
 -- an EEPROM that tells its image, which opens to some database, is open to it
 pub open_to : (chip : Chip) → IsSome chip.image → IfSome chip.image (λ (image : List ℕ). (db : Database) × Opens image db) → (db : Database) × IsOpenTo chip db

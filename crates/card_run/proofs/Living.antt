@@ -29,7 +29,8 @@ use Rattle.program.specs.declared.status.Status.{Status}
 use Rattle.program.specs.declared.status.Status.TheVariants.{Done, Refused, Eeprom, WriteFault}
 use Rattle.card_run.specs.declared.words.Form.{Form}
 use Rattle.card_run.specs.declared.words.Form.TheVariants.{New, Apdu, Term, Check, Load, Migrate}
-use Rattle.card_run.specs.Beginning.{Begins, EndsUnread, IsOpenTo, LeavesUntilOpen}
+use Rattle.card_run.specs.Beginning.{Begins, EndsUnread, LeavesUntilOpen}
+use Rattle.card.specs.Opened.{IsOpenTo}
 use Rattle.card_run.specs.Checking.{Checks}
 use Rattle.program.specs.Ends.{AllFaults}
 use Rattle.eeprom.specs.Output.{Prints}

@@ -18,7 +18,7 @@ use Rattle.program.specs.declared.status.Status.TheVariants as status
 use Rattle.line_run.specs.declared.line_stop.LineStop.TheVariants.{Eeprom, Outlet}
 use Rattle.card_run.specs.declared.words.Form.TheVariants.{Load}
 use Rattle.line_run.specs.Answering.{Failed}
-use Rattle.card_run.specs.Beginning.{IsOpenTo}
+use Rattle.card.specs.Opened.{IsOpenTo}
 use Rattle.line_run.specs.CutOff.{IsCutShort}
 use Rattle.program.specs.Numbers.{ends_as}
 use Rattle.program.specs.Ends.{AllFaults, EndsBy}

@@ -20,7 +20,7 @@ use Rattle.card.proofs.Leaving.{Opens-at}
 use Rattle.card.proofs.Starting.{opens-same}
 use Rattle.program.specs.declared.status.Status.{Status}
 use Rattle.program.specs.declared.status.Status.TheVariants.{Done, Eeprom, WriteFault, NoMemory}
-use Rattle.card_run.specs.Beginning.{IsOpenTo}
+use Rattle.card.specs.Opened.{IsOpenTo}
 use Rattle.program.specs.Ends.{AllFaults, EndsBy}
 use Rattle.card_run.specs.Ends.{ends_opening}
 use Rattle.card_run.specs.Migrating.{IsInMigration, IsMigratedFrom, KeepsOthers, LeavesLongRows, WritesNothing, MigratesTo, Migrates, StaysMigrating}

@@ -8,7 +8,8 @@ use Rattle.scql_model.specs.Opens.{Opens}
 use Rattle.card_run.specs.declared.words.Form.{Form}
 use Rattle.card_run.specs.declared.words.Form.TheVariants.{New, Apdu, Term, Check, Load, Migrate}
 use Rattle.card.specs.Making.{LeavesMade}
-use Rattle.card_run.specs.Beginning.{IsOpenTo, IsThere, Begins, LeavesUntilOpen}
+use Rattle.card_run.specs.Beginning.{IsThere, Begins, LeavesUntilOpen}
+use Rattle.card.specs.Opened.{IsOpenTo}
 use Rattle.card_run.proofs.Finishing.{keeps_same}
 
 -- what was made of an image that was told is told, and opens to what all of it opens to

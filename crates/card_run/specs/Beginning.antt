@@ -7,15 +7,12 @@ use Rattle.scql_model.specs.Opens.{Opens}
 use Rattle.record_store.specs.Opening.{ReadsFront}
 use Rattle.record_store.specs.Recovery.{KeepsStore}
 use Rattle.card.specs.Making.{LeavesMade, OpensToNone}
+use Rattle.card.specs.Opened.{IsOpenTo}
 use Rattle.card_run.specs.declared.words.Form.{Form}
 use Rattle.card_run.specs.declared.words.Form.TheVariants.{New}
 use Rattle.program.specs.declared.status.Status.{Status}
 use Rattle.card_run.specs.Ends.{ends_opening}
 use Rattle.card_run.specs.Words.{form_in, answers_commands}
-
--- the EEPROM tells its image, which opens to this database
-abbrev pub IsOpenTo : Chip → Database → Type 0
-IsOpenTo chip db = (image : List ℕ) × (chip.image ≡ Some image) × Opens image db
 
 -- A run of this form over an EEPROM that tells its image begins with this database: `new` with a fresh one, for which there is room, and any other with the one to which the image opens.
 abbrev pub Begins : Form → Chip → Database → Type 0

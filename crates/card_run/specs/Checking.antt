@@ -6,7 +6,7 @@ use Rattle.scql_model.specs.Database.{Database}
 use Rattle.card.specs.Counting.{check_text}
 use Rattle.program.specs.declared.status.Status.{Status}
 use Rattle.program.specs.declared.status.Status.TheVariants.{Done, Eeprom, WriteFault, NoMemory}
-use Rattle.card_run.specs.Beginning.{IsOpenTo}
+use Rattle.card.specs.Opened.{IsOpenTo}
 use Rattle.line_run.specs.CutOff.{IsCutShort}
 use Rattle.program.specs.Ends.{AllFaults}
 use Rattle.card_run.specs.Ends.{has_opened}

@@ -18,7 +18,8 @@ use Rattle.program.specs.declared.status.Status.TheVariants.{Done, Refused, Eepr
 use Rattle.line_run.specs.declared.line_stop.LineStop.TheVariants.{Eeprom, Outlet}
 use Rattle.card_run.specs.declared.words.Form.TheVariants.{Load}
 use Rattle.line_run.specs.Answering.{Failed}
-use Rattle.card_run.specs.Beginning.{EndsUnread, IsOpenTo}
+use Rattle.card_run.specs.Beginning.{EndsUnread}
+use Rattle.card.specs.Opened.{IsOpenTo}
 use Rattle.program.specs.Numbers.{ends_as}
 use Rattle.program.specs.Ends.{AllFaults}
 use Rattle.card_run.specs.Ends.{has_opened}

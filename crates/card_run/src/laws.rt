@@ -8,7 +8,8 @@ ghost use Rattle.scql_model.specs.Lives.{AreRuns, IsFolded, IsLife, PowerCycle, 
 ghost use Rattle.scql_model.specs.Machine.{start};
 ghost use Rattle.scql_model.specs.Opens.{Opens};
 ghost use Rattle.scql_model.specs.Tries.{IsRestoredBetween, SparesTries};
-ghost use Rattle.card_run.specs.Beginning.{Begins, EndsUnread, IsOpenTo};
+ghost use Rattle.card_run.specs.Beginning.{Begins, EndsUnread};
+ghost use Rattle.card.specs.Opened.{IsOpenTo};
 ghost use Rattle.card_run.specs.Checking.{Checks};
 ghost use Rattle.program.specs.Ends.{AllFaults};
 ghost use Rattle.card_run.specs.Living.{CardState, IsCycle, MakesAndLives, ReadInEach, card_lines};

@@ -4,7 +4,7 @@ ghost use Rattle.eeprom.specs.Frame.{HasRoom};
 ghost use Rattle.eeprom.specs.StoreOf.{fewest_cells};
 ghost use Rattle.scql_model.specs.Database.{Database};
 ghost use Rattle.card.specs.Behind.{KeepsBehind, own_cells};
-ghost use Rattle.card_run.specs.Beginning.{IsOpenTo};
+ghost use Rattle.card.specs.Opened.{IsOpenTo};
 ghost use Rattle.program.specs.Ends.{AllFaults, EndsBy};
 ghost use Rattle.card_run.specs.Ends.{ends_opened};
 ghost use Rattle.card_run.specs.Migrating.{KeepsOthers, LeavesLongRows, MigratesTo, StaysMigrating};

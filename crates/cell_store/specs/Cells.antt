@@ -22,6 +22,11 @@ pub record IsInRange (store : Cells) : Type 0 where
 abbrev pub cells_from : ℕ → List Bool → List ℕ → Cells
 cells_from n used links = record { cells = n; used = used; links = links }
 
+-- there is a mark and a link for each cell
+pub record CoverCells (n : ℕ) (used : List Bool) (links : List ℕ) : Type 0 where
+  pub used_count : length used ≡ 2 * n
+  pub links_count : length links ≡ 2 * n
+
 -- no cell is used
 abbrev pub all_free : ℕ → Cells
 all_free n = cells_from n (replicate (2 * n) false) (replicate (2 * n) no_cell)

@@ -1,8 +1,11 @@
 -- How many octets of an EEPROM are read for a record, by its count before and after; and what is read of it.
-use Rattle.std.specs.Prelude.{◌≡◌, ℕ, ◌+◌, ◌*◌, ◌≤◌, List, ◌++◌, length, Option, Some, None}
+use Rattle.std.specs.Prelude.{◌≡◌, ℕ, ◌+◌, ◌*◌, ◌≤◌, List, ◌++◌, length, Option, Some, None, Result, IfSome, OnOk}
 pub use Rattle.eeprom.specs.Chip.{RisesAtMost as ReadsAtMost}
-use Rattle.eeprom.specs.Chip.{RisesBy}
-use Rattle.eeprom.specs.StoreOf.{cells_for, cell_size}
+use Rattle.eeprom.specs.Chip.{Chip, Becomes, RisesBy}
+use Rattle.eeprom.specs.Fault.{each_error}
+use Rattle.eeprom.specs.Frame.{Reads}
+use Rattle.eeprom.specs.StoreOf.{cells_for, cell_place, cell_size, number_at, payload_of, piece_size, slot_of}
+use Rattle.cell_store.specs.Chains.{IsRecordChain}
 
 -- so many whole cells are read
 abbrev pub ReadsCells : ℕ → ℕ → ℕ → Type 0
@@ -16,3 +19,16 @@ ReadsRecord (Some octets) before after = (before + length octets ≤ after) × (
 -- so many octets are appended
 abbrev pub Extends : ℕ → List ℕ → List ℕ → Type 0
 Extends count old new = (octets : List ℕ) × (length octets ≡ count) × (new ≡ old ++ octets)
+
+-- A cell is read: its payload is appended, and the number of the next cell is that of the image.
+pub record ReadsCell (n cell next : ℕ) (image : Option (List ℕ)) (old new : List ℕ) : Type 0 where
+  pub link : IfSome image (λ image. next ≡ number_at image (cell_place n cell))
+  pub payload : IfSome image (λ image. new ≡ old ++ payload_of image n cell)
+  -- It has its length whatever is told of the image.
+  pub appends : Extends piece_size old new
+
+-- The chain from a cell on is read: where the image has a record there it is this one, for which so many octets are read. Nothing is written.
+pub record ReadsChain {S T E : Type 0} (chip : S → Chip) (faults : S → ℕ) (octets : S → Option ℕ) (n first : ℕ) (out : List ℕ) (before after : S) (result : Result T E) : Type 0 where
+  pub «record» : OnOk result (IfSome (chip before).image (λ image. (chain : List ℕ) → IsRecordChain image n first chain → slot_of image n chain ≡ Some out))
+  pub octets_read : OnOk result (IfSome (chip before).image (λ image. (chain : List ℕ) → IsRecordChain image n first chain → Becomes (ReadsRecord (Some out)) (octets before) (octets after)))
+  pub frame : Reads each_error chip faults before after result

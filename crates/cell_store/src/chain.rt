@@ -1,13 +1,11 @@
 // The record of a chain of cells. A cell has the number of the next one and 30 octets of payload.
-ghost use Rattle.std.specs.Prelude.{◌≡◌, ◌+◌, ◌-◌, ◌*◌, ◌<◌, ◌≤◌, ◌++◌, ℕ, List, Some, length, IfSome, IfOk, OnOk};
-ghost use Rattle.std.specs.List.{flat_map};
+ghost use Rattle.std.specs.Prelude.{◌≡◌, ◌+◌, ◌-◌, ◌*◌, ◌<◌, ◌≤◌, ◌++◌, length, IfOk, OnOk};
 ghost use Rattle.arrayvec.specs.ArrayVec.{array_vec_len};
-ghost use Rattle.eeprom.specs.Chip.{Becomes};
+ghost use Rattle.eeprom.specs.Calls.{FitsInto, ReadsOnly};
 ghost use Rattle.eeprom.specs.Fault.{each_error};
-ghost use Rattle.eeprom.specs.Frame.{HasRoom, Reads};
-ghost use Rattle.eeprom.specs.StoreOf.{most_cells, chain_of, payload_of, slot_of, record_in, number_at, cell_place, piece_size, longest_record, longest_chain};
-ghost use Rattle.cell_store.specs.Chains.{IsRecordChain};
-ghost use Rattle.cell_store.specs.Reading.{Extends, ReadsCells, ReadsRecord};
+ghost use Rattle.eeprom.specs.Frame.{Reads};
+ghost use Rattle.eeprom.specs.StoreOf.{record_in, number_at, piece_size, longest_record, longest_chain};
+ghost use Rattle.cell_store.specs.Reading.{ReadsCell, ReadsCells, ReadsChain};
 ghost use Rattle.cell_store.specs.Walk.{CopiesRecord, GoesAlong};
 
 use crate::layout::{LARGEST_PAYLOAD, LINK_SIZE, number_of};
@@ -30,12 +28,8 @@ pub fn read_record<B: Eeprom>(
     first: u16,
     out: &mut RecordOctets,
 ) -> Result<(), EepromFault>
-    requires many { cells ≤ most_cells }
-    requires room { HasRoom cells (B.chip bench.old) }
-    ensures record { OnOk result (IfSome (B.chip bench.old).image (λ image. (chain : List ℕ) → IsRecordChain image cells first chain → slot_of image cells chain ≡ Some out.new.items)) }
-    ensures octets_read { OnOk result (IfSome (B.chip bench.old).image (λ image. (chain : List ℕ) → IsRecordChain image cells first chain
-        → Becomes (ReadsRecord (Some out.new.items)) (B.octets_read bench.old) (B.octets_read bench.new))) }
-    ensures frame { Reads each_error B.chip B.faults bench.old bench.new result }
+    requires fits { FitsInto cells (B.chip bench.old) }
+    ensures { ReadsChain B.chip B.faults B.octets_read cells first out.new.items bench.old bench.new result }
 {
     let mut piece = Piece::new();
     let next = read_payload(bench, cells, first, 1, &mut piece)?;
@@ -54,8 +48,7 @@ fn read_longer<B: Eeprom>(
     piece: &[u8],
     out: &mut RecordOctets,
 ) -> Result<(), EepromFault>
-    requires many { cells ≤ most_cells }
-    requires room { HasRoom cells (B.chip bench.old) }
+    requires fits { FitsInto cells (B.chip bench.old) }
     requires size { length piece.now ≤ piece_size }
     ensures copies { OnOk result (CopiesRecord cells second (longest_chain - 1) piece.now out.new.items (B.chip bench.old).image (B.octets_read bench.old) (B.octets_read bench.new)) }
     ensures frame { Reads each_error B.chip B.faults bench.old bench.new result }
@@ -76,9 +69,8 @@ fn read_payload<B: Eeprom, const CAP: usize>(
     most: u16,
     payload: &mut ArrayVec<u8, CAP>,
 ) -> Result<u16, EepromFault>
-    requires many { cells ≤ most_cells }
-    requires room { HasRoom cells (B.chip bench.old) }
-    requires fits { array_vec_len payload.old + piece_size * most ≤ CAP }
+    requires fits { FitsInto cells (B.chip bench.old) }
+    requires free { array_vec_len payload.old + piece_size * most ≤ CAP }
     ensures along { IfOk result (λ next. GoesAlong cells first next most payload.old.items payload.new.items (B.chip bench.old).image (B.octets_read bench.old) (B.octets_read bench.new)) }
     ensures frame { Reads each_error B.chip B.faults bench.old bench.new result }
 {
@@ -99,15 +91,11 @@ pub fn read_cell<B: Eeprom, const CAP: usize>(
     cell: u16,
     payload: &mut ArrayVec<u8, CAP>,
 ) -> Result<u16, EepromFault>
-    requires many { cells ≤ most_cells }
+    requires fits { FitsInto cells (B.chip bench.old) }
     requires inside { cell < 2 * cells }
-    requires room { HasRoom cells (B.chip bench.old) }
-    requires fits { array_vec_len payload.old + piece_size ≤ CAP }
-    ensures link { IfOk result (λ next. IfSome (B.chip bench.old).image (λ image. next ≡ number_at image (cell_place cells cell))) }
-    ensures payload { OnOk result (IfSome (B.chip bench.old).image (λ image. payload.new.items ≡ payload.old.items ++ payload_of image cells cell)) }
-    ensures appends { OnOk result (Extends piece_size payload.old.items payload.new.items) }
-    ensures octets_read { Becomes (ReadsCells 1) (B.octets_read bench.old) (B.octets_read bench.new) }
-    ensures frame { Reads each_error B.chip B.faults bench.old bench.new result }
+    requires free { array_vec_len payload.old + piece_size ≤ CAP }
+    ensures cell { IfOk result (λ next. ReadsCell cells cell next (B.chip bench.old).image payload.old.items payload.new.items) }
+    ensures reads { ReadsOnly each_error B.chip B.faults B.octets_read (ReadsCells 1) bench.old bench.new result }
 {
     let mut octets = [0; CELL_SIZE];
     bench.read(cell_place(cells, cell), &mut octets)?;

@@ -1,14 +1,14 @@
 // The claim of a record's chain in an image: each of its cells is free before, and used then.
-ghost use Rattle.std.specs.Prelude.{◌≡◌, ◌+◌, ◌*◌, ◌≤◌, ◌<◌, ◌++◌, ℕ, List, Some, length, IfSome, IfOk, IsErrOf, OnOk};
+ghost use Rattle.std.specs.Prelude.{◌≡◌, ◌+◌, ◌*◌, ◌≤◌, ℕ, List, Some, length, IfSome, IfOk, IsErrOf, OnOk};
 ghost use Rattle.std.specs.List.{flat_map};
 ghost use Rattle.arrayvec.specs.ArrayVec.{array_vec_len};
+ghost use Rattle.eeprom.specs.Calls.{FitsInto, ReadsOnly};
 ghost use Rattle.eeprom.specs.Chip.{Becomes, RisesAtMost};
-ghost use Rattle.eeprom.specs.Frame.{HasRoom, Reads};
-ghost use Rattle.eeprom.specs.StoreOf.{most_cells, chain_of, number_at, cell_place, payload_of, cell_size, piece_size, longest_chain};
-ghost use Rattle.cell_store.specs.Cells.{cells_from, AreLinkedIn};
-ghost use Rattle.cell_store.specs.Claims.{TakesChain, HasRecord, HasNoRecord};
+ghost use Rattle.eeprom.specs.StoreOf.{chain_of, payload_of, cell_size, piece_size, longest_chain};
+ghost use Rattle.cell_store.specs.Cells.{cells_from, CoverCells};
+ghost use Rattle.cell_store.specs.Claims.{ClaimsChain};
 ghost use Rattle.cell_store.specs.Claiming.{ClaimsCell, IsTakenCell, record_cells};
-ghost use Rattle.cell_store.specs.Reading.{Extends, ReadsCells};
+ghost use Rattle.cell_store.specs.Reading.{ReadsCell, ReadsCells};
 ghost use Rattle.cell_store.specs.Faults.{is_claim_fault};
 
 use crate::ClaimRefusal;
@@ -28,23 +28,14 @@ pub fn claim_cells<B: Eeprom>(
     first: u16,
     payload: &mut Payload,
 ) -> Result<u16, ClaimRefusal>
-    requires many { cells ≤ most_cells }
-    requires room { HasRoom cells (B.chip bench.old) }
-    requires used { length used.old ≡ 2 * cells }
-    requires links { length links.old ≡ 2 * cells }
-    ensures takes { IfOk result (λ count. TakesChain (cells_from cells used.old links.old) (cells_from cells used.new links.new) first count) }
-    ensures linked { OnOk result (IfSome (B.chip bench.old).image (λ image. AreLinkedIn (cells_from cells used.old links.old) image → AreLinkedIn (cells_from cells used.new links.new) image)) }
-    ensures record { OnOk result (IfSome (B.chip bench.old).image (HasRecord (cells_from cells used.new links.new) first)) }
+    requires fits { FitsInto cells (B.chip bench.old) }
+    requires covers { CoverCells cells used.old links.old }
+    ensures claims { ClaimsChain B.chip B.faults B.octets_read first (cells_from cells used.old links.old) (cells_from cells used.new links.new) bench.old bench.new result }
     ensures payload { OnOk result (IfSome (B.chip bench.old).image (λ image. (chain : List ℕ) → chain_of image cells (2 * cells) first ≡ Some chain
         → length chain ≤ longest_chain → payload.new.items ≡ flat_map (payload_of image cells) chain)) }
     ensures count { IfOk result (λ count. record_cells payload.new.items ≡ Some count) }
     ensures size { IfOk result (λ count. length payload.new.items ≡ piece_size * count) }
-    ensures octets_read { IfOk result (λ count. Becomes (ReadsCells count) (B.octets_read bench.old) (B.octets_read bench.new)) }
-    ensures most_read { Becomes (RisesAtMost (cell_size * longest_chain)) (B.octets_read bench.old) (B.octets_read bench.new) }
-    ensures bad_chain { IsErrOf result ClaimRefusal.BadChain → IfSome (B.chip bench.old).image (HasNoRecord (cells_from cells used.old links.old) first) }
-    ensures used { length used.new ≡ length used.old }
-    ensures links { length links.new ≡ length links.old }
-    ensures frame { Reads is_claim_fault B.chip B.faults bench.old bench.new result }
+    ensures covers { CoverCells cells used.new links.new }
 {
     payload.clear();
     let mut next = claim_cell(bench, cells, used, links, first, payload)?;
@@ -70,21 +61,15 @@ fn claim_cell<B: Eeprom>(
     cell: u16,
     payload: &mut Payload,
 ) -> Result<u16, ClaimRefusal>
-    requires many { cells ≤ most_cells }
-    requires room { HasRoom cells (B.chip bench.old) }
-    requires used { length used.old ≡ 2 * cells }
-    requires links { length links.old ≡ 2 * cells }
-    requires fits { array_vec_len payload.old + piece_size ≤ piece_size * longest_chain }
+    requires fits { FitsInto cells (B.chip bench.old) }
+    requires covers { CoverCells cells used.old links.old }
+    requires free { array_vec_len payload.old + piece_size ≤ piece_size * longest_chain }
     ensures claims { IfOk result (λ next. ClaimsCell (cells_from cells used.old links.old) (cells_from cells used.new links.new) cell next) }
-    ensures link { IfOk result (λ next. IfSome (B.chip bench.old).image (λ image. next ≡ number_at image (cell_place cells cell))) }
-    ensures payload { OnOk result (IfSome (B.chip bench.old).image (λ image. payload.new.items ≡ payload.old.items ++ payload_of image cells cell)) }
-    ensures appends { OnOk result (Extends piece_size payload.old.items payload.new.items) }
+    ensures cell { IfOk result (λ next. ReadsCell cells cell next (B.chip bench.old).image payload.old.items payload.new.items) }
     ensures octets_read { OnOk result (Becomes (ReadsCells 1) (B.octets_read bench.old) (B.octets_read bench.new)) }
-    ensures most_read { Becomes (RisesAtMost cell_size) (B.octets_read bench.old) (B.octets_read bench.new) }
+    ensures reads { ReadsOnly is_claim_fault B.chip B.faults B.octets_read (RisesAtMost cell_size) bench.old bench.new result }
     ensures taken { IsErrOf result ClaimRefusal.BadChain → IsTakenCell (cells_from cells used.old links.old) cell }
-    ensures used { length used.new ≡ length used.old }
-    ensures links { length links.new ≡ length links.old }
-    ensures frame { Reads is_claim_fault B.chip B.faults bench.old bench.new result }
+    ensures covers { CoverCells cells used.new links.new }
 {
     let place = cell as usize;
     if place >= used.len() || used.is_marked(cell) {

@@ -8,6 +8,7 @@ mod marks;
 mod placing;
 mod refusal;
 mod store;
+mod uncalled;
 
 pub use eeprom::{NO_CELL, RecordOctets};
 pub use layout::{number_of, octets_of};

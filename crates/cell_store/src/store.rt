@@ -1,18 +1,18 @@
 // The cells of an EEPROM, of which it is kept in memory which are used, and how these are linked.
 ghost use Rattle.std.specs.Prelude.{◌≡◌, ◌↔◌, ◌+◌, ◌*◌, ◌≤◌, ◌<◌, ℕ, List, false, Some, length, is_some, replicate, IfSome, IfOk, OnOk, IsErrOf};
-ghost use Rattle.eeprom.specs.Chip.{Becomes, RisesAtMost, RisesBy};
-ghost use Rattle.eeprom.specs.Fault.{CountsFaults, each_error};
-ghost use Rattle.eeprom.specs.Frame.{HasRoom, Reads};
+ghost use Rattle.eeprom.specs.Chip.{Becomes, RisesBy};
+ghost use Rattle.eeprom.specs.Fault.{CountsFaults};
+ghost use Rattle.eeprom.specs.Frame.{HasRoom};
 ghost use Rattle.eeprom.specs.StoreOf.{fewest_cells, most_cells, slot_of, cell_size, longest_record, longest_chain};
 ghost use Rattle.eeprom.specs.StoreOf as image;
 ghost use Rattle.cell_store.specs.Marks.{StaysMarked, unmarked};
 ghost use Rattle.cell_store.specs.Chains.{IsRecordChain, steps};
-ghost use Rattle.cell_store.specs.Cells.{all_free, freed, AreLinkedIn, IsUsedChain};
-ghost use Rattle.cell_store.specs.Claims.{TakesChain, HasRecord, HasNoRecord};
+ghost use Rattle.cell_store.specs.Cells.{all_free, freed, IsUsedChain};
+ghost use Rattle.cell_store.specs.Claims.{ClaimsChain, TakesChain};
 ghost use Rattle.cell_store.specs.Writing.{IsWritten, KeepsChains};
 ghost use Rattle.cell_store.specs.Placed.{KeepsMarked};
-ghost use Rattle.cell_store.specs.Reading.{ReadsCells, ReadsRecord};
-ghost use Rattle.cell_store.specs.Faults.{is_claim_fault, is_write_fault};
+ghost use Rattle.cell_store.specs.Reading.{ReadsChain};
+ghost use Rattle.cell_store.specs.Faults.{is_write_fault};
 
 use crate::chain::{Payload, copy_record, read_record};
 use crate::claims::claim_cells;
@@ -27,7 +27,7 @@ use std::marker::Model;
 #[derive(Drop)]
 pub struct CellStore {
     cells: u16,
-    used: Marks,
+    pub(crate) used: Marks,
     /// The number of the next cell, for each cell that is used.
     links: Vec<u16, Heap>,
 }
@@ -66,22 +66,6 @@ impl CellStore {
         self.cells
     }
 
-    /// Claims the chain that begins at a cell, which the image has a record in, and answers how many cells it has.
-    /// After a refusal the store of cells isn't to be used again.
-    pub fn claim_chain<B: Eeprom>(&mut self, bench: &mut B, first: u16) -> Result<u16, ClaimRefusal>
-        requires room { HasRoom self.old.cells (B.chip bench.old) }
-        ensures takes { IfOk result (λ count. TakesChain self.old self.new first count) }
-        ensures some { IfOk result (λ count. 1 ≤ count) }
-        ensures linked { OnOk result (IfSome (B.chip bench.old).image (λ image. AreLinkedIn self.old image → AreLinkedIn self.new image)) }
-        ensures record { OnOk result (IfSome (B.chip bench.old).image (HasRecord self.new first)) }
-        ensures octets_read { IfOk result (λ count. Becomes (ReadsCells count) (B.octets_read bench.old) (B.octets_read bench.new)) }
-        ensures most_read { Becomes (RisesAtMost (cell_size * longest_chain)) (B.octets_read bench.old) (B.octets_read bench.new) }
-        ensures bad_chain { IsErrOf result ClaimRefusal.BadChain → IfSome (B.chip bench.old).image (HasNoRecord self.old first) }
-        ensures frame { Reads is_claim_fault B.chip B.faults bench.old bench.new result }
-    {
-        self.claim_record(bench, first, &mut RecordOctets::new())
-    }
-
     /// Claims the chain that begins at a cell, hands out the record that the image has in it, and answers how many cells it
     /// has. As many octets are read as these cells have. After a refusal the store of cells isn't to be used again.
     pub fn claim_record<B: Eeprom>(
@@ -91,17 +75,11 @@ impl CellStore {
         out: &mut RecordOctets,
     ) -> Result<u16, ClaimRefusal>
         requires room { HasRoom self.old.cells (B.chip bench.old) }
-        ensures takes { IfOk result (λ count. TakesChain self.old self.new first count) }
-        ensures linked { OnOk result (IfSome (B.chip bench.old).image (λ image. AreLinkedIn self.old image → AreLinkedIn self.new image)) }
-        ensures record { OnOk result (IfSome (B.chip bench.old).image (HasRecord self.new first)) }
+        ensures claims { ClaimsChain B.chip B.faults B.octets_read first self.old self.new bench.old bench.new result }
         ensures reads { OnOk result (IfSome (B.chip bench.old).image (λ image. (chain : List ℕ) → IsRecordChain image self.old.cells first chain
             → slot_of image self.old.cells chain ≡ Some out.new.items)) }
         ensures some { OnOk result (1 ≤ length out.new.items) }
         ensures count { IfOk result (λ count. count ≡ image.cells_for (length out.new.items)) }
-        ensures octets_read { IfOk result (λ count. Becomes (ReadsCells count) (B.octets_read bench.old) (B.octets_read bench.new)) }
-        ensures most_read { Becomes (RisesAtMost (cell_size * longest_chain)) (B.octets_read bench.old) (B.octets_read bench.new) }
-        ensures bad_chain { IsErrOf result ClaimRefusal.BadChain → IfSome (B.chip bench.old).image (HasNoRecord self.old first) }
-        ensures frame { Reads is_claim_fault B.chip B.faults bench.old bench.new result }
     {
         let used = &mut self.used;
         let links = self.links.as_mut_slice();
@@ -156,11 +134,7 @@ impl CellStore {
         out: &mut RecordOctets,
     ) -> Result<(), EepromFault>
         requires room { HasRoom self.now.cells (B.chip bench.old) }
-        ensures record { OnOk result (IfSome (B.chip bench.old).image (λ image. (chain : List ℕ) → IsRecordChain image self.now.cells first chain
-            → slot_of image self.now.cells chain ≡ Some out.new.items)) }
-        ensures octets_read { OnOk result (IfSome (B.chip bench.old).image (λ image. (chain : List ℕ) → IsRecordChain image self.now.cells first chain
-            → Becomes (ReadsRecord (Some out.new.items)) (B.octets_read bench.old) (B.octets_read bench.new))) }
-        ensures frame { Reads each_error B.chip B.faults bench.old bench.new result }
+        ensures { ReadsChain B.chip B.faults B.octets_read self.now.cells first out.new.items bench.old bench.new result }
     {
         read_record(bench, self.cells, first, out)
     }
@@ -174,13 +148,6 @@ impl CellStore {
         ensures count { length self.new.used ≡ length self.old.used }
     {
         unmark_chain(&mut self.used, self.links.as_slice(), first);
-    }
-
-    /// How many cells are free.
-    pub fn free_cells(&self) -> u16
-        ensures { result ≡ unmarked self.now.used }
-    {
-        self.used.count_free()
     }
 
     /// How many cells the used chain has that begins at a cell.

@@ -1,6 +1,6 @@
 -- The links of two readers are lent and put back as they have become.
 use Rattle.std.proofs.Common.{◌≡◌, ◌≢◌, ◌⊎◌, ℕ, ◌==◌, Bool, true, false, List, Option, Some, None, refl, sym, ◌∙◌, ap, subst, inl, inr, if◌then◌else◌}
-use Rattle.std.specs.Prelude.{option_map, IsTrue}
+use Rattle.std.specs.Prelude.{option_map, IsSomeAnd, IsTrue}
 use Rattle.std.specs.Option.{option_map_or}
 use Rattle.std.proofs.lemmas.Bool.{eqb-true, eqb-false}
 use Rattle.std.proofs.lemmas.Option.{same_Some}
@@ -20,7 +20,7 @@ use Rattle.card_asking.specs.Calls.{StillAnswers}
 use Rattle.table_copy.specs.Copying.{CopiesSo, EndsBy, ReadsSo, StandsAt, StaysAt}
 use Rattle.table_copy.specs.declared.copy_end.CopyEnd.{CopyEnd}
 use Rattle.table_copy.specs.declared.copy_end.CopyEnd.TheVariants.{Copied, SourceRefused, DestRefused, SourceMute, DestMute}
-use Rattle.copy_run.specs.Racks.{DestHolds, IsCopied, SitsOn, SourceHolds}
+use Rattle.copy_run.specs.Racks.{DestHolds, IsCopied, LinkBecomes, LinksChange, SitsOn, SourceHolds, with_link_of}
 
 module _ {L : Type 0} where
   -- a reader's link became another one, and the rest of the reader stays
@@ -37,6 +37,22 @@ module _ {L : Type 0} where
       → reader_at new number ≡ option_map (with_link later) (option_map lending found) → Relinked number old new link later
   relinked number old new link later None is held became = absurd (no-link link held)
   relinked number old new link later (Some was) is held became = record { was = was; there = is; held = held; became = became }
+
+-- what a link has become that is another now
+pub becomes : {L : Type 0} {number : ℕ} {old new : List (Reader L)} {link later : L} (P : L → L → Type 0) → Relinked number old new link later → P link later → LinkBecomes number old new P
+becomes {L} {number} {old} {new} {link} {later} P is holds =
+    let first : link_at old number ≡ Some link = ap (λ (found : Option (Reader L)). option_map_or (λ (reader : Reader L). reader.link) found None) is.there ∙ is.held in
+    let second : link_at new number ≡ Some later = ap (λ (found : Option (Reader L)). option_map_or (λ (reader : Reader L). reader.link) found None) is.became in
+    subst (λ (o : Option L). IsSomeAnd o (λ (x : L). IsSomeAnd (link_at new number) (P x))) (sym first) (subst (λ (o : Option L). IsSomeAnd o (P link)) (sym second) holds)
+
+became-with : {L : Type 0} {number : ℕ} {old new : List (Reader L)} {link later : L} → Relinked number old new link later → reader_at new number ≡ option_map (with_link_of (link_at new number)) (reader_at old number)
+became-with {L} {number} {old} {new} {link} {later} is =
+    let now : link_at new number ≡ Some later = ap (λ (found : Option (Reader L)). option_map_or (λ (reader : Reader L). reader.link) found None) is.became in
+    is.became ∙ sym (ap (λ (found : Option (Reader L)). option_map (with_link_of (link_at new number)) found) is.there ∙ ap (λ (o : Option L). Some (with_link_of o is.was)) now)
+
+pub links-change : {L : Type 0} {from to : ℕ} {old new : List (Reader L)} {source next dest later : L} → Relinked from old new source next → Relinked to old new dest later
+    → ((other : ℕ) → IsReader other → other ≢ from → other ≢ to → reader_at new other ≡ reader_at old other) → LinksChange from to old new
+links-change first second others = record { source = became-with first; dest = became-with second; others = others }
 
 module _ {L : Type 0} (is_at : L → Machine → Type 0) (is_live : L → Bool) (faults : L → ℕ) where
   -- a reader whose link is at a machine like the one before sits where it sat

@@ -1,16 +1,19 @@
 -- What a copy from one reader to another one leaves of a rack.
-use Rattle.std.specs.Prelude.{◌≡◌, ◌≢◌, ◌⊎◌, ℕ, Bool, List, Option, IsSomeAnd, option_map}
+use Rattle.std.specs.Prelude.{◌≡◌, ◌≢◌, ◌⊎◌, ℕ, ◌∷◌, Bool, List, Option, IsSomeAnd, option_map}
+use Rattle.eeprom.specs.Chip.{Chip}
 use Rattle.scql_model.specs.Database.{Database}
 use Rattle.scql_model.specs.Lives.{after_all}
 use Rattle.scql_model.specs.Machine.{Machine}
+use Rattle.card_link.specs.Link.{Holds, IsOneOf, LeavesOpen}
 use Rattle.planner.specs.Held.{transaction_channel}
 use Rattle.planner.specs.StatementLines.{TerminalState}
+use Rattle.reader_rack.specs.declared.rack.Rack.{Rack}
 use Rattle.reader_rack.specs.declared.reader.Reader.{Reader}
 use Rattle.reader_rack.specs.RackText.{Held, mute, sits, RackState, with_reader}
-use Rattle.reader_rack.specs.Racks.{IsRack, answers_at, count_at, link_at, reader_at}
+use Rattle.reader_rack.specs.Racks.{HoldsCard, IsRack, answers_at, count_at, link_at, reader_at}
 use Rattle.reader_rack.specs.Statements.{IsReader}
 use Rattle.table_copy.specs.Copy.{Copy}
-use Rattle.table_copy.specs.Copying.{EndsBy}
+use Rattle.table_copy.specs.Copying.{EndsBy, ReadsSo, UndoneSo}
 use Rattle.table_copy.specs.declared.copy_end.CopyEnd.{CopyEnd}
 use Rattle.table_copy.specs.declared.copy_end.CopyEnd.TheVariants.{SourceMute, DestMute}
 
@@ -60,3 +63,27 @@ abbrev pub EndsAt : {L : Type 0} → (L → Bool) → (L → ℕ) → ℕ → �
 EndsAt {L} is_live faults from to end old new =
     EndsBy (λ (readers : List (Reader L)). answers_at is_live readers from) (λ (readers : List (Reader L)). count_at faults readers from)
     (λ (readers : List (Reader L)). answers_at is_live readers to) (λ (readers : List (Reader L)). count_at faults readers to) end old new old new
+
+-- A copy may go from one reader of a rack to another one: both hold a card that answers.
+pub record MayCopy {L : Type 0} (is_live : L → Bool) (readers : List (Reader L)) (from to : ℕ) : Type 0 where
+  pub source : HoldsCard is_live readers from
+  pub dest : HoldsCard is_live readers to
+  pub apart : to ≢ from
+
+-- A copy went from one reader of a rack to another one, and ended so. Of two machines it is to make this.
+pub record CopiesBetween {O L : Type 0} (is_at : L → Machine → Type 0) (is_live : L → Bool) (faults mark : L → ℕ) (chip : L → Chip) (from to : ℕ) (copy : Machine → Machine → Copy) (end : CopyEnd) (old new : Rack O L) : Type 0 where
+  -- It ended as it is to of the machines of both terminals, and the rack is one behind it.
+  pub ends : (state : RackState) (s d : TerminalState) → IsRack is_at is_live old.readers old.current.number state → state.reader from ≡ sits s → state.reader to ≡ sits d
+      → IsCopied is_at is_live new.readers new.current.number state from to s d (copy s.machine d.machine) end
+  -- A source that still answers stays as it was, and where the copy wasn't done so does a destination.
+  pub reads : LinkBecomes from old.readers new.readers (λ link later. (s : Machine) → is_at link s → ReadsSo is_at is_live s later)
+  pub undone : LinkBecomes to old.readers new.readers (λ link later. (d : Machine) → is_at link d → UndoneSo is_at d end later)
+  -- A power loss leaves the database that the source had, and on the destination the one that it had, or one that the copy commits.
+  pub source_moments : LinkBecomes from old.readers new.readers (λ link later. (s : Machine) → is_at link s → LeavesOpen (Holds (mark link) s.committed) (chip link) (chip later))
+  pub dest_moments : IsSomeAnd (link_at old.readers from) (λ source. LinkBecomes to old.readers new.readers (λ link later. (s d : Machine) → is_at source s → is_at link d
+      → LeavesOpen (IsOneOf (mark link) (d.committed ∷ (copy s d).commits)) (chip link) (chip later)))
+  -- It ended so since that card failed, or none did.
+  pub causes : EndsAt is_live faults from to end old.readers new.readers
+  -- Nothing but the two links is another now.
+  pub links : LinksChange from to old.readers new.readers
+  pub rest : (new.current ≡ old.current) × (new.outlet ≡ old.outlet)

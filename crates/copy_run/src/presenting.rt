@@ -1,8 +1,8 @@
 // Users are presented on two cards, and what is shown to the one is copied for the other.
-ghost use Rattle.std.specs.Prelude.{◌≡◌, ◌∷◌, IsTrue};
+ghost use Rattle.std.specs.Prelude.{IsTrue};
 ghost use Rattle.scql_model.specs.Machine.{Machine};
-ghost use Rattle.card_link.specs.Link.{Holds, IsOneOf, LeavesOpen};
-ghost use Rattle.table_copy.specs.Copying.{CopiesSo, EndsBy, ReadsSo, UndoneSo};
+ghost use Rattle.table_copy.specs.Copying.{EndsBy, UndoneSo};
+ghost use Rattle.table_copy.specs.Leaving.{CopiesOver, ReadsOver};
 ghost use Rattle.table_copy.specs.Progress.{ShowsCopy};
 ghost use Rattle.copy_run.specs.Copies as model;
 
@@ -20,12 +20,9 @@ fn copy_to<S: CardLink, D: CardLink, P: Person>(
     person: &mut P,
 ) -> CopyEnd
     requires live { IsTrue (S.is_live source.old) × IsTrue (D.is_live dest.old) }
-    ensures copies { (s d : Machine) → S.is_at source.old s → D.is_at dest.old d → CopiesSo D.is_at d (model.copy_to s d names.now) result dest.new }
+    ensures copied { (s d : Machine) → S.is_at source.old s → D.is_at dest.old d → CopiesOver D.is_at D.mark D.chip d (model.copy_to s d names.now) result dest.old dest.new }
     ensures undone { (d : Machine) → D.is_at dest.old d → UndoneSo D.is_at d result dest.new }
-    ensures reads { (s : Machine) → S.is_at source.old s → ReadsSo S.is_at S.is_live s source.new }
-    ensures source_moments { (s : Machine) → S.is_at source.old s → LeavesOpen (Holds (S.mark source.old) s.committed) (S.chip source.old) (S.chip source.new) }
-    ensures dest_moments { (s d : Machine) → S.is_at source.old s → D.is_at dest.old d
-        → LeavesOpen (IsOneOf (D.mark dest.old) (d.committed ∷ (model.copy_to s d names.now).commits)) (D.chip dest.old) (D.chip dest.new) }
+    ensures read { (s : Machine) → S.is_at source.old s → ReadsOver S.is_at S.is_live S.mark S.chip s source.old source.new }
     ensures causes { EndsBy S.is_live S.faults D.is_live D.faults result source.old source.new dest.old dest.new }
     ensures shows { ShowsCopy P.lost P.shown result person.old person.new }
 {
@@ -44,12 +41,9 @@ pub(crate) fn copy_for<S: CardLink, D: CardLink, P: Person>(
     person: &mut P,
 ) -> CopyEnd
     requires live { IsTrue (S.is_live source.old) × IsTrue (D.is_live dest.old) }
-    ensures copies { (s d : Machine) → S.is_at source.old s → D.is_at dest.old d → CopiesSo D.is_at d (model.copy_for s d names.now) result dest.new }
+    ensures copied { (s d : Machine) → S.is_at source.old s → D.is_at dest.old d → CopiesOver D.is_at D.mark D.chip d (model.copy_for s d names.now) result dest.old dest.new }
     ensures undone { (d : Machine) → D.is_at dest.old d → UndoneSo D.is_at d result dest.new }
-    ensures reads { (s : Machine) → S.is_at source.old s → ReadsSo S.is_at S.is_live s source.new }
-    ensures source_moments { (s : Machine) → S.is_at source.old s → LeavesOpen (Holds (S.mark source.old) s.committed) (S.chip source.old) (S.chip source.new) }
-    ensures dest_moments { (s d : Machine) → S.is_at source.old s → D.is_at dest.old d
-        → LeavesOpen (IsOneOf (D.mark dest.old) (d.committed ∷ (model.copy_for s d names.now).commits)) (D.chip dest.old) (D.chip dest.new) }
+    ensures read { (s : Machine) → S.is_at source.old s → ReadsOver S.is_at S.is_live S.mark S.chip s source.old source.new }
     ensures causes { EndsBy S.is_live S.faults D.is_live D.faults result source.old source.new dest.old dest.new }
     ensures shows { ShowsCopy P.lost P.shown result person.old person.new }
 {

@@ -1,13 +1,13 @@
 // CREATE USER.
-ghost use Rattle.std.specs.Prelude.{◌≡◌, ◌*◌, None, Some, drop, IfOk, IfSome, IsTrue, IsErrOf, if◌then◌else◌};
-ghost use Rattle.eeprom.specs.Chip.{Becomes, Keeps, RisesAtMost};
-ghost use Rattle.eeprom.specs.Fault.{CountsFaults, each_error};
+ghost use Rattle.std.specs.Prelude.{◌≡◌, ◌*◌, None, Some, IfOk, IfSome, if◌then◌else◌};
+ghost use Rattle.eeprom.specs.Chip.{Becomes, RisesAtMost};
+ghost use Rattle.eeprom.specs.Fault.{each_error};
 ghost use Rattle.eeprom.specs.Frame.{Reads};
-ghost use Rattle.eeprom.specs.StoreOf.{store_of, image_size, cell_size};
+ghost use Rattle.eeprom.specs.StoreOf.{cell_size};
 ghost use Rattle.record_store.specs.Held.{IsOver};
 ghost use Rattle.record_store.specs.Tags as tags;
 ghost use Rattle.record_store.specs.declared.tags.Tag.TheVariants as by;
-ghost use Rattle.record_store.specs.declared.side.Side.TheVariants.{Committed, Working};
+ghost use Rattle.record_store.specs.declared.side.Side.TheVariants.{Working};
 ghost use Rattle.scql_base.specs.declared.operation.Operation.TheVariants as operation;
 ghost use Rattle.scql_base.specs.declared.words.StatusWord.{StatusWord};
 ghost use Rattle.scql_model.specs.Creating as model;
@@ -18,7 +18,7 @@ ghost use Rattle.catalog_codec.specs.Catalog.{user_kind};
 ghost use Rattle.record_table.specs.Listed.{slots_of};
 ghost use Rattle.record_table.specs.Making.{IsHeld};
 ghost use Rattle.record_table.specs.Tagged.{cells_tagged};
-ghost use Rattle.row_table.specs.Tables.{Ended, Stand};
+ghost use Rattle.row_table.specs.Tables.{Ended, InTransaction};
 
 use eeprom::{Eeprom, EepromFault};
 use record_store::{Side, Store};
@@ -36,8 +36,7 @@ pub fn create_user<B: Eeprom>(
     profile: Profile,
     secret: &Octets<8>,
 ) -> Result<(), Stop>
-    requires begun { IsTrue tables.old.store.begun }
-    requires stand { Stand tables.old (B.chip bench.old) }
+    requires open { InTransaction tables.old (B.chip bench.old) }
     ensures { Ended B.chip B.faults (λ db. IsActorOf db actor × HasForm (operation.CreateUser name profile secret.now)) (λ db. user_added db actor name profile secret.now) bench.old bench.new tables.old tables.new result }
 {
     let Some(owner) = owner_for(actor, profile) else {

@@ -1,12 +1,10 @@
 // DELETE USER.
-ghost use Rattle.std.specs.Prelude.{◌≡◌, ◌<◌, Some, drop, option_map, IfOk, IfSome, IsTrue, IsErrOf};
+ghost use Rattle.std.specs.Prelude.{◌≡◌, ◌<◌, Some, option_map, IfOk, IfSome};
 ghost use Rattle.std.specs.List.{list_any};
-ghost use Rattle.eeprom.specs.Chip.{Keeps};
-ghost use Rattle.eeprom.specs.Fault.{CountsFaults, each_error};
+ghost use Rattle.eeprom.specs.Fault.{each_error};
 ghost use Rattle.eeprom.specs.Frame.{Reads};
-ghost use Rattle.eeprom.specs.StoreOf.{store_of, image_size};
 ghost use Rattle.record_store.specs.Held.{IsOver};
-ghost use Rattle.record_store.specs.declared.side.Side.TheVariants.{Committed, Working};
+ghost use Rattle.record_store.specs.declared.side.Side.TheVariants.{Working};
 ghost use Rattle.scql_base.specs.declared.words.StatusWord.{StatusWord};
 ghost use Rattle.scql_model.specs.Database as model;
 ghost use Rattle.scql_model.specs.Database.{Database};
@@ -14,8 +12,8 @@ ghost use Rattle.scql_model.specs.Users as users;
 ghost use Rattle.scql_model.specs.Users.{removing_user, user_deleted};
 ghost use Rattle.catalog_codec.specs.Catalog.{user_kind};
 ghost use Rattle.record_table.specs.Listed.{at_slot, slots_of};
-ghost use Rattle.record_table.specs.Making.{IsHeld, Ends, GoesOn, KeepsRows, is_stop_fault};
-ghost use Rattle.row_table.specs.Tables.{Ended, Stand};
+ghost use Rattle.record_table.specs.Making.{IsHeld, is_stop_fault};
+ghost use Rattle.row_table.specs.Tables.{Ended, InTransaction};
 ghost use Rattle.db_access.specs.Asked.{AnswersNamed};
 ghost use Rattle.db_access.specs.Depending.{is_for, is_object_of, is_user_of};
 
@@ -34,8 +32,7 @@ pub fn delete_user<B: Eeprom>(
     actor: Actor,
     name: Name,
 ) -> Result<u32, Stop>
-    requires begun { IsTrue tables.old.store.begun }
-    requires stand { Stand tables.old (B.chip bench.old) }
+    requires open { InTransaction tables.old (B.chip bench.old) }
     ensures ended { Ended B.chip B.faults (λ _. Unit {0}) (λ db. user_deleted db actor name) bench.old bench.new tables.old tables.new result }
     ensures gone { (db : Database) → IsHeld tables.old.store Working (B.chip bench.old) db → IfOk result (λ stamp. option_map (λ user. user.stamp) (model.user_named db.users name) ≡ Some stamp) }
 {

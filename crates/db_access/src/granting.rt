@@ -1,9 +1,9 @@
 // GRANT.
-ghost use Rattle.std.specs.Prelude.{◌≡◌, bit_or, IsTrue};
+ghost use Rattle.std.specs.Prelude.{◌≡◌, bit_or};
 ghost use Rattle.scql_base.specs.declared.operation.Operation.TheVariants as operation;
 ghost use Rattle.scql_model.specs.Granting.{privileges_granted};
 ghost use Rattle.scql_model.specs.WellFormed.{HasForm};
-ghost use Rattle.row_table.specs.Tables.{Ended, Stand};
+ghost use Rattle.row_table.specs.Tables.{Ended, InTransaction};
 
 use crate::pairs::{find_named, with_privileges};
 use eeprom::Eeprom;
@@ -22,8 +22,7 @@ pub fn grant<B: Eeprom>(
     object: Name,
     grantee: Name,
 ) -> Result<(), Stop>
-    requires begun { IsTrue tables.old.store.begun }
-    requires stand { Stand tables.old (B.chip bench.old) }
+    requires open { InTransaction tables.old (B.chip bench.old) }
     ensures { Ended B.chip B.faults (λ _. HasForm (operation.Grant privileges object grantee)) (λ db. privileges_granted db actor privileges object grantee) bench.old bench.new tables.old tables.new result }
 {
     let pair = find_named(&tables.store, bench, actor, object, grantee)?;

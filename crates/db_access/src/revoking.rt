@@ -1,14 +1,9 @@
 // REVOKE.
-ghost use Rattle.std.specs.Prelude.{◌≡◌, ◌==◌, None, Some, drop, IsTrue, IsErrOf, if◌then◌else◌};
-ghost use Rattle.eeprom.specs.Chip.{Keeps};
-ghost use Rattle.eeprom.specs.Fault.{CountsFaults};
-ghost use Rattle.eeprom.specs.StoreOf.{store_of, image_size};
-ghost use Rattle.record_store.specs.Held.{IsOver};
-ghost use Rattle.record_store.specs.declared.side.Side.TheVariants.{Committed, Working};
+ghost use Rattle.std.specs.Prelude.{◌≡◌, ◌==◌, None, Some, if◌then◌else◌};
+ghost use Rattle.record_store.specs.declared.side.Side.TheVariants.{Working};
 ghost use Rattle.scql_base.specs.declared.words.StatusWord.{StatusWord};
-ghost use Rattle.scql_model.specs.Database.{Database};
 ghost use Rattle.scql_model.specs.Granting.{privileges_left, privileges_revoked};
-ghost use Rattle.row_table.specs.Tables.{Ended, Stand};
+ghost use Rattle.row_table.specs.Tables.{Ended, InTransaction};
 
 use crate::pairs::{find_named, with_privileges};
 use eeprom::Eeprom;
@@ -27,8 +22,7 @@ pub fn revoke<B: Eeprom>(
     object: Name,
     grantee: Name,
 ) -> Result<(), Stop>
-    requires begun { IsTrue tables.old.store.begun }
-    requires stand { Stand tables.old (B.chip bench.old) }
+    requires open { InTransaction tables.old (B.chip bench.old) }
     ensures { Ended B.chip B.faults (λ _. Unit {0}) (λ db. privileges_revoked db actor privileges object grantee) bench.old bench.new tables.old tables.new result }
 {
     let pair = find_named(&tables.store, bench, actor, object, grantee)?;

@@ -1,5 +1,6 @@
 // CREATE DICTIONARY.
-ghost use Rattle.std.specs.Prelude.{◌≡◌, IsTrue};
+ghost use Rattle.std.specs.Prelude.{◌≡◌, OnOk};
+ghost use Rattle.record_store.specs.declared.side.Side.TheVariants.{Working};
 ghost use Rattle.scql_base.specs.declared.operation.Operation.TheVariants as operation;
 ghost use Rattle.scql_base.specs.declared.records.ObjectKind.TheVariants.{Dictionary};
 ghost use Rattle.scql_model.specs.Creating as model;
@@ -8,7 +9,9 @@ ghost use Rattle.scql_model.specs.Defining.{object_created};
 ghost use Rattle.scql_model.specs.WellFormed.{HasForm};
 ghost use Rattle.catalog_codec.specs.Catalog.{object_kind};
 ghost use Rattle.catalog_codec.specs.Kinds.{FitsChain};
-ghost use Rattle.row_table.specs.Tables.{Ended, Stand};
+ghost use Rattle.record_table.specs.Listed.{slots_of};
+ghost use Rattle.record_table.specs.Making.{KeepsRows};
+ghost use Rattle.row_table.specs.Tables.{Ended, InTransaction};
 
 use crate::making::{find_new_stamp, makes_objects};
 use eeprom::Eeprom;
@@ -27,10 +30,10 @@ pub fn create_dictionary<B: Eeprom>(
     name: Name,
     subject: Subject,
 ) -> Result<(), Stop>
-    requires begun { IsTrue tables.old.store.begun }
-    requires stand { Stand tables.old (B.chip bench.old) }
-    ensures { Ended B.chip B.faults (λ db. IsActorOf db actor × HasForm (operation.CreateDictionary name subject)) (λ db. object_created db actor name (Dictionary subject))
+    requires open { InTransaction tables.old (B.chip bench.old) }
+    ensures ended { Ended B.chip B.faults (λ db. IsActorOf db actor × HasForm (operation.CreateDictionary name subject)) (λ db. object_created db actor name (Dictionary subject))
         bench.old bench.new tables.old tables.new result }
+    ensures rows { OnOk result (KeepsRows (slots_of tables.old.store Working (B.chip bench.old)) (slots_of tables.new.store Working (B.chip bench.new))) }
 {
     if !makes_objects(actor) {
         return refused(StatusWord::SECURITY_NOT_SATISFIED);

@@ -1,5 +1,5 @@
 // CREATE VIEW and DROP VIEW.
-ghost use Rattle.std.specs.Prelude.{◌≡◌, ◌≤◌, ℕ, List, Err, IsTrue, IfOk, IfErr, length};
+ghost use Rattle.std.specs.Prelude.{◌≡◌, ◌≤◌, ℕ, List, Err, IfOk, IfErr, OnOk, length};
 ghost use Rattle.std.specs.List.{list_all, list_any};
 ghost use Rattle.std.specs.Str.{bytes_eq};
 ghost use Rattle.eeprom.specs.Frame.{Reads};
@@ -17,8 +17,9 @@ ghost use Rattle.scql_model.specs.Records as records;
 ghost use Rattle.scql_model.specs.WellFormed.{HasForm};
 ghost use Rattle.catalog_codec.specs.Catalog.{object_kind};
 ghost use Rattle.catalog_codec.specs.Kinds.{FitsChain};
-ghost use Rattle.record_table.specs.Making.{Ends, IsHeld, is_stop_fault};
-ghost use Rattle.row_table.specs.Tables.{Ended, Stand};
+ghost use Rattle.record_table.specs.Making.{Ends, IsHeld, KeepsRows, is_stop_fault};
+ghost use Rattle.record_table.specs.Listed.{slots_of};
+ghost use Rattle.row_table.specs.Tables.{Ended, InTransaction};
 
 use crate::base::{Base, find_base, is_shallow};
 use crate::dropped::Dropped;
@@ -43,11 +44,11 @@ pub fn create_view<B: Eeprom>(
     columns: &NameList,
     conditions: &Conditions,
 ) -> Result<(), Stop>
-    requires begun { IsTrue tables.old.store.begun }
-    requires stand { Stand tables.old (B.chip bench.old) }
+    requires open { InTransaction tables.old (B.chip bench.old) }
     requires short { length (records.conditions.spell conditions.now) ≤ LONGEST_DATA }
-    ensures { Ended B.chip B.faults (λ db. IsActorOf db actor × HasForm (operation.CreateView name base columns.now conditions.now))
+    ensures ended { Ended B.chip B.faults (λ db. IsActorOf db actor × HasForm (operation.CreateView name base columns.now conditions.now))
         (λ db. view_created db actor name base columns.now conditions.now) bench.old bench.new tables.old tables.new result }
+    ensures rows { OnOk result (KeepsRows (slots_of tables.old.store Working (B.chip bench.old)) (slots_of tables.new.store Working (B.chip bench.new))) }
 {
     let base = find_view_base(&tables.store, bench, actor, base, columns, conditions)?;
     let counter = find_new_stamp(&tables.store, bench, &name)?;
@@ -63,8 +64,7 @@ pub fn drop_view<B: Eeprom>(
     actor: Actor,
     name: Name,
 ) -> Result<(), Stop>
-    requires begun { IsTrue tables.old.store.begun }
-    requires stand { Stand tables.old (B.chip bench.old) }
+    requires open { InTransaction tables.old (B.chip bench.old) }
     ensures { Ended B.chip B.faults (λ _. Unit {0}) (λ db. view_dropped db actor name) bench.old bench.new tables.old tables.new result }
 {
     let view = find_to_drop(&tables.store, bench, actor, name, Dropped::View)?;

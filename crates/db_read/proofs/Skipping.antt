@@ -167,10 +167,6 @@ reads-nothing (Some list) most a = λ after told. (after, told, (omega (arith), 
 abbrev pub IsStillAhead : Chosen → ℕ → ℕ → Slots → Type 0
 IsStillAhead chosen stamp passed slots = Rises row_kind.key (listed row_kind slots) → find (is_wanted chosen stamp) (listed row_kind slots) ≡ find (is_wanted chosen passed) (listed row_kind slots)
 
-pub left-before : (chosen : Chosen) (stamp : ℕ) (slots : Option Slots) → IfSome slots (IsStillAhead chosen stamp stamp)
-left-before chosen stamp None = tt
-left-before chosen stamp (Some slots) = λ rises. refl
-
 pub left-next : (chosen : Chosen) (stamp passed : ℕ) (slots : Option Slots) (r : RowRecord) → IfSome slots (IsStillAhead chosen stamp passed) → IfSome slots (λ slots. Some r ≡ find (is_row_after chosen.table passed) (listed row_kind slots))
     → is_shown chosen r.row ≡ false → IfSome slots (IsStillAhead chosen stamp r.stamp)
 left-next chosen stamp passed None r left found hidden = tt
@@ -231,10 +227,6 @@ cost-all stamp passed (c ∷ costs) =
 -- what was read up to a stamp
 abbrev pub ReadsBehind : Chosen → ℕ → Option ℕ → Slots → Option ℕ → Option ℕ → Type 0
 ReadsBehind chosen stamp last slots a b = Becomes (RisesBetween 0 (cost_behind stamp last (row_costs chosen.table slots))) a b
-
-pub reads-before : (chosen : Chosen) (stamp : ℕ) (slots : Option Slots) (a : Option ℕ) → IfSome slots (λ slots. ReadsBehind chosen stamp (Some stamp) slots a a)
-reads-before chosen stamp None a = tt
-reads-before chosen stamp (Some slots) a = λ after told. (after, told, (omega arith, omega arith))
 
 pub reads-next : (chosen : Chosen) (stamp passed : ℕ) (slots : Option Slots) (r : RowRecord) (least : ℕ) (a b c : Option ℕ) → stamp ≤ passed → passed < r.stamp → IfSome slots (λ slots. ReadsBehind chosen stamp (Some passed) slots a b)
     → IfSome slots (λ slots. Becomes (RisesBetween least (cost_reached chosen.table slots (Some r))) b c) → IfSome slots (λ slots. Becomes (RisesBetween least (cost_passed chosen.table stamp slots (Some r))) a c)

@@ -2,17 +2,14 @@
 ghost use Rattle.std.specs.Prelude.{◌≡◌, ℕ, List, IfOk, IfSome, IsTrue, OnErr};
 ghost use Rattle.eeprom.specs.Chip.{Becomes, RisesAtMost};
 ghost use Rattle.eeprom.specs.Fault.{each_error};
-ghost use Rattle.eeprom.specs.Frame.{Reads};
-ghost use Rattle.record_store.specs.Held.{IsOver};
 ghost use Rattle.scql_model.specs.Cursors.{IsCursorOf};
 ghost use Rattle.scql_model.specs.Database.{Database};
 ghost use Rattle.scql_model.specs.Moves.{moved};
 ghost use Rattle.scql_model.specs.ReadBound.{IsOnTableOrView, RisesAtLeast};
 ghost use Rattle.record_table.specs.Making.{IsHeld};
-ghost use Rattle.row_index.specs.Index.{Indexes};
 ghost use Rattle.cursor.specs.Moved.{refuses};
 ghost use Rattle.db_read.specs.Motion.{answer_of, command_of, least_by};
-ghost use Rattle.db_read.specs.Reader.{GoesOn};
+ghost use Rattle.db_read.specs.Reader.{ReadsOn, Stands};
 ghost use Rattle.db_read.specs.Scan.{IsRightFor};
 ghost use Rattle.db_read.specs.Searched.{octets_for_operation};
 
@@ -34,8 +31,7 @@ pub fn advance<B: Eeprom>(
     out: &mut Row,
     scan: &mut Scan,
 ) -> Result<StatusWord, EepromFault>
-    requires over { IsOver reader.old.store.now (B.chip reader.old.bench.now) }
-    requires index { Indexes reader.old.index.now reader.old.store.now (B.chip reader.old.bench.now) }
+    requires stands { Stands B.chip reader.old }
     ensures moved { (db : Database) → IsHeld reader.old.store.now reader.old.side (B.chip reader.old.bench.now) db → IfSome cursor.old (IsCursorOf db) → IsRightFor db actor scan.old cursor.old → (pending : List ℕ)
         → IfOk result (λ word. moved db actor (record { cursor = cursor.old; pending = pending }) (command_of motion) ≡ answer_of motion word cursor.new out.new) }
     // A refusal and a fault leave the cursor.
@@ -49,8 +45,7 @@ pub fn advance<B: Eeprom>(
     // A row that is handed out was read.
     ensures least { (db : Database) → IsHeld reader.old.store.now reader.old.side (B.chip reader.old.bench.now) db → IfSome cursor.old (IsCursorOf db) → IsRightFor db actor scan.old cursor.old → IfSome cursor.old (IsOnTableOrView db)
         → IfOk result (λ word. Becomes (RisesAtLeast (least_by motion word out.new)) (B.octets_read reader.old.bench.now) (B.octets_read reader.new.bench.now)) }
-    ensures goes_on { GoesOn reader.old reader.new }
-    ensures frame { Reads each_error B.chip B.faults reader.old.bench.now reader.new.bench.now result }
+    ensures reads { ReadsOn each_error B.chip B.faults reader.old reader.new result }
 {
     let Some(held) = cursor else {
         return Ok(StatusWord::CONDITIONS_NOT_SATISFIED);

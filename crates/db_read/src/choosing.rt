@@ -2,7 +2,6 @@
 ghost use Rattle.std.specs.Prelude.{◌≡◌, ◌*◌, ◌≤◌, Some, IfOk, IfErr, IsTrue, length, is_some, true};
 ghost use Rattle.eeprom.specs.Chip.{Becomes, RisesAtMost};
 ghost use Rattle.eeprom.specs.Fault.{each_error};
-ghost use Rattle.eeprom.specs.Frame.{Reads};
 ghost use Rattle.eeprom.specs.StoreOf.{cell_size};
 ghost use Rattle.record_store.specs.Held.{IsOver};
 ghost use Rattle.scql_base.specs.declared.name_list.TheConstants.NameList.{MOST};
@@ -17,7 +16,7 @@ ghost use Rattle.views.specs.Below.{cells_under};
 ghost use Rattle.views.specs.Resolved.{ArePlaces};
 ghost use Rattle.cursor.specs.Costs.{RisesBetween};
 ghost use Rattle.db_read.specs.Answered.{Stops, WhereRead};
-ghost use Rattle.db_read.specs.Reader.{GoesOn};
+ghost use Rattle.db_read.specs.Reader.{ReadsOn};
 ghost use Rattle.db_read.specs.Scan.{IsResolved, IsRight};
 ghost use Rattle.db_read.specs.Searched.{cells_chosen};
 
@@ -46,8 +45,7 @@ pub(crate) fn choose<B: Eeprom>(
         → IfErr result (Stops (rows_under db actor cursor.now)) }
     ensures octets_read { (db : Database) → IsHeld reader.old.store.now reader.old.side (B.chip reader.old.bench.now) db → IsCursorOf db cursor.now
         → WhereRead result (Becomes (RisesBetween 0 (cell_size * cells_chosen db actor cursor.now.object)) (B.octets_read reader.old.bench.now) (B.octets_read reader.new.bench.now)) }
-    ensures goes_on { GoesOn reader.old reader.new }
-    ensures frame { Reads is_stop_fault B.chip B.faults reader.old.bench.now reader.new.bench.now result }
+    ensures reads { ReadsOn is_stop_fault B.chip B.faults reader.old reader.new result }
 {
     let Scan {
         is_found,
@@ -85,8 +83,7 @@ pub fn resolve<B: Eeprom>(
     ensures octets_read { (db : Database) → IsHeld reader.old.store.now reader.old.side (B.chip reader.old.bench.now) db
         → IfOk result (λ _. Becomes (RisesAtMost (cell_size * cells_under db.objects object.now.kind)) (B.octets_read reader.old.bench.now) (B.octets_read reader.new.bench.now)) }
     ensures rises { IfOk result (λ _. NeverFalls (slots_of reader.old.store.now reader.old.side (B.chip reader.old.bench.now)) (B.octets_read reader.old.bench.now) (B.octets_read reader.new.bench.now)) }
-    ensures goes_on { GoesOn reader.old reader.new }
-    ensures frame { Reads each_error B.chip B.faults reader.old.bench.now reader.new.bench.now result }
+    ensures reads { ReadsOn each_error B.chip B.faults reader.old reader.new result }
 {
     let columns = match &object.kind {
         ObjectKind::View { .. } => {

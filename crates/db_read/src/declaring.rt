@@ -1,10 +1,9 @@
 // DECLARE CURSOR.
-ghost use Rattle.std.specs.Prelude.{◌≡◌, ◌*◌, Some, Ok, IfOk, IfErr, IsTrue, OnErr, false, true, List, ℕ, option_map};
+ghost use Rattle.std.specs.Prelude.{◌≡◌, ◌*◌, Some, Ok, IfOk, IfErr, IsTrue, OnErr, List, ℕ};
 ghost use Rattle.std.specs.List.{list_all, list_any};
 ghost use Rattle.std.specs.Str.{bytes_eq};
 ghost use Rattle.eeprom.specs.Chip.{Becomes, RisesAtMost};
 ghost use Rattle.eeprom.specs.Fault.{each_error};
-ghost use Rattle.eeprom.specs.Frame.{Reads};
 ghost use Rattle.eeprom.specs.StoreOf.{cell_size};
 ghost use Rattle.record_store.specs.Held.{IsOver};
 ghost use Rattle.scql_base.specs.Words.{done};
@@ -17,7 +16,7 @@ ghost use Rattle.scql_model.specs.ReadingCommands.{wanted_of};
 ghost use Rattle.record_table.specs.Making.{IsHeld, is_stop_fault};
 ghost use Rattle.cursor.specs.Moved.{refuses};
 ghost use Rattle.db_read.specs.Answered.{Stops, WhereRead, answered};
-ghost use Rattle.db_read.specs.Reader.{GoesOn};
+ghost use Rattle.db_read.specs.Reader.{ReadsOn};
 ghost use Rattle.db_read.specs.Searched.{cells_named, octets_for_operation};
 
 use crate::columns::columns_of;
@@ -43,8 +42,7 @@ pub fn declare<B: Eeprom>(
     ensures fault { OnErr result (cursor.new ≡ cursor.old) }
     ensures octets_read { (db : Database) → IsHeld reader.old.store.now reader.old.side (B.chip reader.old.bench.now) db → IfOk result (λ _. Becomes
         (RisesAtMost (octets_for_operation db actor cursor.old (commands.declare object columns.now conditions.now))) (B.octets_read reader.old.bench.now) (B.octets_read reader.new.bench.now)) }
-    ensures goes_on { GoesOn reader.old reader.new }
-    ensures frame { Reads each_error B.chip B.faults reader.old.bench.now reader.new.bench.now result }
+    ensures reads { ReadsOn each_error B.chip B.faults reader.old reader.new result }
 {
     match cursor_on(reader, actor, object, columns, conditions) {
         Ok(declared) => {
@@ -71,8 +69,7 @@ fn cursor_on<B: Eeprom>(
         → IfErr result (Stops (moved db actor before (commands.declare object columns.now conditions.now))) }
     ensures octets_read { (db : Database) → IsHeld reader.old.store.now reader.old.side (B.chip reader.old.bench.now) db
         → WhereRead result (Becomes (RisesAtMost (cell_size * cells_named db actor object)) (B.octets_read reader.old.bench.now) (B.octets_read reader.new.bench.now)) }
-    ensures goes_on { GoesOn reader.old reader.new }
-    ensures frame { Reads is_stop_fault B.chip B.faults reader.old.bench.now reader.new.bench.now result }
+    ensures reads { ReadsOn is_stop_fault B.chip B.faults reader.old reader.new result }
 {
     let mut found = None;
     let object = find_named(reader, actor, object, &mut found)?;

@@ -12,7 +12,7 @@ ghost use Rattle.record_table.specs.Listed.{slots_of};
 ghost use Rattle.record_table.specs.Making.{IsHeld, is_stop_fault};
 ghost use Rattle.record_table.specs.Reading.{NeverFalls};
 ghost use Rattle.db_read.specs.Answered.{Stops, WhereRead, selectable};
-ghost use Rattle.db_read.specs.Reader.{GoesOn};
+ghost use Rattle.db_read.specs.Reader.{ReadsOn};
 ghost use Rattle.db_read.specs.Searched.{cells_named, cells_selected, rights_cells};
 
 use crate::reader::Reader;
@@ -36,8 +36,7 @@ pub fn find_selected<B: Eeprom>(
     ensures octets_read { (db : Database) → IsHeld reader.old.store.now reader.old.side (B.chip reader.old.bench.now) db
         → WhereRead result (Becomes (RisesAtMost (cell_size * cells_selected db actor stamp)) (B.octets_read reader.old.bench.now) (B.octets_read reader.new.bench.now)) }
     ensures rises { WhereRead result (NeverFalls (slots_of reader.old.store.now reader.old.side (B.chip reader.old.bench.now)) (B.octets_read reader.old.bench.now) (B.octets_read reader.new.bench.now)) }
-    ensures goes_on { GoesOn reader.old reader.new }
-    ensures frame { Reads is_stop_fault B.chip B.faults reader.old.bench.now reader.new.bench.now result }
+    ensures reads { ReadsOn is_stop_fault B.chip B.faults reader.old reader.new result }
 {
     find_stamp_into(reader.store, reader.bench, reader.side, stamp, place)?;
     select(reader, actor, place)?;
@@ -56,8 +55,7 @@ pub(crate) fn find_named<'a, B: Eeprom>(
     ensures refused { (db : Database) → IsHeld reader.old.store.now reader.old.side (B.chip reader.old.bench.now) db → IfErr result (Stops (selectable db actor (seen_named db actor name))) }
     ensures octets_read { (db : Database) → IsHeld reader.old.store.now reader.old.side (B.chip reader.old.bench.now) db
         → WhereRead result (Becomes (RisesAtMost (cell_size * cells_named db actor name)) (B.octets_read reader.old.bench.now) (B.octets_read reader.new.bench.now)) }
-    ensures goes_on { GoesOn reader.old reader.new }
-    ensures frame { Reads is_stop_fault B.chip B.faults reader.old.bench.now reader.new.bench.now result }
+    ensures reads { ReadsOn is_stop_fault B.chip B.faults reader.old reader.new result }
 {
     find_name_into(reader.store, reader.bench, reader.side, name, place)?;
     select(reader, actor, place)
@@ -78,8 +76,7 @@ fn select<'a, B: Eeprom>(
     ensures octets_read { (db : Database) → IsHeld reader.old.store.now reader.old.side (B.chip reader.old.bench.now) db
         → WhereRead result (Becomes (RisesAtMost (cell_size * rights_cells db actor found.now)) (B.octets_read reader.old.bench.now) (B.octets_read reader.new.bench.now)) }
     ensures rises { WhereRead result (NeverFalls (slots_of reader.old.store.now reader.old.side (B.chip reader.old.bench.now)) (B.octets_read reader.old.bench.now) (B.octets_read reader.new.bench.now)) }
-    ensures goes_on { GoesOn reader.old reader.new }
-    ensures frame { Reads is_stop_fault B.chip B.faults reader.old.bench.now reader.new.bench.now result }
+    ensures reads { ReadsOn is_stop_fault B.chip B.faults reader.old reader.new result }
 {
     let Some(object) = found else {
         return refused(StatusWord::NOT_FOUND);

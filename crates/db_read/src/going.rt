@@ -3,20 +3,18 @@ ghost use Rattle.std.specs.Prelude.{List, IfOk, IfSome};
 ghost use Rattle.eeprom.specs.Chip.{Becomes};
 ghost use Rattle.eeprom.specs.Fault.{each_error};
 ghost use Rattle.eeprom.specs.Frame.{Reads};
-ghost use Rattle.record_store.specs.Held.{IsOver};
 ghost use Rattle.scql_base.specs.declared.cursor.Cursor.{Cursor};
 ghost use Rattle.scql_base.specs.declared.words.Actor.{Actor};
 ghost use Rattle.scql_model.specs.Cursors.{IsCursorOf};
 ghost use Rattle.scql_model.specs.Database.{Database};
 ghost use Rattle.scql_model.specs.Objects.{StampedRow};
 ghost use Rattle.record_table.specs.Making.{IsHeld};
-ghost use Rattle.row_index.specs.Index.{Indexes};
 ghost use Rattle.cursor.specs.Costs.{RisesBetween};
 ghost use Rattle.cursor.specs.Feed as feed;
 ghost use Rattle.cursor.specs.Moved.{AreStamped};
 ghost use Rattle.db_read.specs.Advanced.{Advances};
 ghost use Rattle.db_read.specs.Motion.{Goes, Stays, cost_by, least_by};
-ghost use Rattle.db_read.specs.Reader.{GoesOn};
+ghost use Rattle.db_read.specs.Reader.{ReadsOn, Stands};
 ghost use Rattle.db_read.specs.Scan.{IsChosenFor};
 
 use crate::chosen::Chosen;
@@ -38,13 +36,11 @@ pub(crate) fn go<B: Eeprom>(
     out: &mut Row,
     room: &mut RowRoom,
 ) -> Result<StatusWord, EepromFault>
-    requires over { IsOver reader.old.store.now (B.chip reader.old.bench.now) }
-    requires index { Indexes reader.old.index.now reader.old.store.now (B.chip reader.old.bench.now) }
+    requires stands { Stands B.chip reader.old }
     ensures advances { (db : Database) (actor : Actor) (c : Cursor) → IsHeld reader.old.store.now reader.old.side (B.chip reader.old.bench.now) db → IsCursorOf db c → IsChosenFor db actor c choice.now
         → IfOk result (λ word. Advances db actor c motion place.old place.new word out.new (B.octets_read reader.old.bench.now) (B.octets_read reader.new.bench.now)) }
     ensures stays { IfOk result (Stays motion place.old place.new) }
-    ensures goes_on { GoesOn reader.old reader.new }
-    ensures frame { Reads each_error B.chip B.faults reader.old.bench.now reader.new.bench.now result }
+    ensures reads { ReadsOn each_error B.chip B.faults reader.old reader.new result }
 {
     if let Some(told) = Told::of(choice) {
         let mut rows = ToldRows { reader, told };

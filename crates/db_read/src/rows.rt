@@ -13,14 +13,14 @@ ghost use Rattle.scql_base.specs.declared.cursor.Place.{Place};
 ghost use Rattle.scql_model.specs.Moves as moves;
 ghost use Rattle.catalog_codec.specs.Catalog.{row_kind};
 ghost use Rattle.record_table.specs.Listed.{at_slot, has_kind_mark, kind_cells, listed, slots_of};
-ghost use Rattle.row_index.specs.Index.{Indexes, side_places};
-ghost use Rattle.row_index.specs.Places.{is_later_in, place_stamp};
+ghost use Rattle.row_index.specs.Index.{WhereIndexed};
+ghost use Rattle.row_index.specs.Places.{is_later_in, place_stamp, row_places};
 ghost use Rattle.row_table.specs.Found.{is_row_after};
 ghost use Rattle.cursor.specs.Costs.{RisesBetween, cost_behind, cost_of, size_handed};
 ghost use Rattle.cursor.specs.Moved.{handed, row_handed};
 ghost use Rattle.db_read.specs.Chosen.{IsNextShown, costs_shown, rows_shown};
 ghost use Rattle.db_read.specs.Costs.{cost_passed, cost_reached, least_of, row_costs, row_read};
-ghost use Rattle.db_read.specs.Reader.{GoesOn};
+ghost use Rattle.db_read.specs.Reader.{ReadsOn, Stands};
 
 use crate::chosen::{Chosen, cut_into};
 use crate::reader::Reader;
@@ -39,17 +39,16 @@ pub(crate) fn next_chosen<B: Eeprom>(
     stamp: u32,
     room: &mut RowRoom,
 ) -> Result<Option<u32>, EepromFault>
-    requires over { IsOver reader.old.store.now (B.chip reader.old.bench.now) }
-    requires index { Indexes reader.old.index.now reader.old.store.now (B.chip reader.old.bench.now) }
+    requires stands { Stands B.chip reader.old }
     ensures next { IfOk result (λ next. IfSome (rows_shown chosen.now (slots_of reader.old.store.now reader.old.side (B.chip reader.old.bench.now)))
         (λ rows. next ≡ option_map (λ row. row.stamp) (moves.row_behind (Place.At stamp) rows))) }
     ensures octets_read { IfOk result (λ next. IfSome (costs_shown chosen.now (slots_of reader.old.store.now reader.old.side (B.chip reader.old.bench.now)))
         (λ costs. Becomes (RisesBetween 0 (cost_behind stamp next costs)) (B.octets_read reader.old.bench.now) (B.octets_read reader.new.bench.now))) }
-    ensures goes_on { GoesOn reader.old reader.new }
-    ensures frame { Reads each_error B.chip B.faults reader.old.bench.now reader.new.bench.now result }
+    ensures reads { ReadsOn each_error B.chip B.faults reader.old reader.new result }
 {
     if chosen.shows_all() {
         Ok(stamp_behind(
+            reader.store,
             reader.index,
             reader.side,
             chosen.table,
@@ -69,14 +68,12 @@ pub(crate) fn next_chosen_row<B: Eeprom>(
     out: &mut Row,
     room: &mut RowRoom,
 ) -> Result<Option<u32>, EepromFault>
-    requires over { IsOver reader.old.store.now (B.chip reader.old.bench.now) }
-    requires index { Indexes reader.old.index.now reader.old.store.now (B.chip reader.old.bench.now) }
+    requires stands { Stands B.chip reader.old }
     ensures next { IfOk result (λ next. IfSome (rows_shown chosen.now (slots_of reader.old.store.now reader.old.side (B.chip reader.old.bench.now)))
         (λ rows. row_handed next out.new ≡ moves.row_behind (Place.At stamp) rows)) }
     ensures octets_read { IfOk result (λ next. IfSome (costs_shown chosen.now (slots_of reader.old.store.now reader.old.side (B.chip reader.old.bench.now)))
         (λ costs. Becomes (RisesBetween (size_handed next out.new) (cost_behind stamp next costs)) (B.octets_read reader.old.bench.now) (B.octets_read reader.new.bench.now))) }
-    ensures goes_on { GoesOn reader.old reader.new }
-    ensures frame { Reads each_error B.chip B.faults reader.old.bench.now reader.new.bench.now result }
+    ensures reads { ReadsOn each_error B.chip B.faults reader.old reader.new result }
 {
     if shown_behind(reader, chosen, stamp, room)? {
         cut_into(chosen.places, &room.row.row, out);
@@ -94,14 +91,12 @@ pub(crate) fn chosen_row<B: Eeprom>(
     out: &mut Row,
     room: &mut RowRoom,
 ) -> Result<bool, EepromFault>
-    requires over { IsOver reader.old.store.now (B.chip reader.old.bench.now) }
-    requires index { Indexes reader.old.index.now reader.old.store.now (B.chip reader.old.bench.now) }
+    requires stands { Stands B.chip reader.old }
     ensures there { IfOk result (λ there. IfSome (rows_shown chosen.now (slots_of reader.old.store.now reader.old.side (B.chip reader.old.bench.now)))
         (λ rows. handed there out.new ≡ option_map (λ row. row.values) (moves.row_at stamp rows))) }
     ensures octets_read { IfOk result (λ there. IfSome (costs_shown chosen.now (slots_of reader.old.store.now reader.old.side (B.chip reader.old.bench.now)))
         (λ costs. Becomes (RisesBetween (if there then row_size out.new else 0) (cost_of stamp costs)) (B.octets_read reader.old.bench.now) (B.octets_read reader.new.bench.now))) }
-    ensures goes_on { GoesOn reader.old reader.new }
-    ensures frame { Reads each_error B.chip B.faults reader.old.bench.now reader.new.bench.now result }
+    ensures reads { ReadsOn each_error B.chip B.faults reader.old reader.new result }
 {
     if !row_of_table(reader, chosen.table, stamp, room)? {
         return Ok(false);
@@ -115,15 +110,16 @@ pub(crate) fn chosen_row<B: Eeprom>(
 
 // The stamp of the row of a table behind a stamp, as the index has it.
 fn stamp_behind(
+    store: &Store,
     index: &RowIndex,
     side: Side,
     table: u32,
     stamp: u32,
     near: &mut usize,
 ) -> Option<u32>
-    ensures { result ≡ option_map place_stamp (find (is_later_in table stamp) (side_places index.now side)) }
+    ensures { WhereIndexed index.now store.now side (λ slots. result ≡ option_map place_stamp (find (is_later_in table stamp) (row_places slots))) }
 {
-    let (next, _) = index.next_after_near(side, table, stamp, near)?;
+    let (next, _) = index.next_after(store, side, table, stamp, near)?;
     Some(next)
 }
 
@@ -134,14 +130,12 @@ fn next_read<B: Eeprom>(
     stamp: u32,
     room: &mut RowRoom,
 ) -> Result<Option<u32>, EepromFault>
-    requires over { IsOver reader.old.store.now (B.chip reader.old.bench.now) }
-    requires index { Indexes reader.old.index.now reader.old.store.now (B.chip reader.old.bench.now) }
+    requires stands { Stands B.chip reader.old }
     ensures next { IfOk result (λ next. IfSome (rows_shown chosen.now (slots_of reader.old.store.now reader.old.side (B.chip reader.old.bench.now)))
         (λ rows. next ≡ option_map (λ row. row.stamp) (moves.row_behind (Place.At stamp) rows))) }
     ensures octets_read { IfOk result (λ next. IfSome (costs_shown chosen.now (slots_of reader.old.store.now reader.old.side (B.chip reader.old.bench.now)))
         (λ costs. Becomes (RisesBetween 0 (cost_behind stamp next costs)) (B.octets_read reader.old.bench.now) (B.octets_read reader.new.bench.now))) }
-    ensures goes_on { GoesOn reader.old reader.new }
-    ensures frame { Reads each_error B.chip B.faults reader.old.bench.now reader.new.bench.now result }
+    ensures reads { ReadsOn each_error B.chip B.faults reader.old reader.new result }
 {
     if shown_behind(reader, chosen, stamp, room)? {
         Ok(Some(room.row.stamp))
@@ -159,13 +153,11 @@ fn shown_behind<B: Eeprom>(
     stamp: u32,
     room: &mut RowRoom,
 ) -> Result<bool, EepromFault>
-    requires over { IsOver reader.old.store.now (B.chip reader.old.bench.now) }
-    requires index { Indexes reader.old.index.now reader.old.store.now (B.chip reader.old.bench.now) }
+    requires stands { Stands B.chip reader.old }
     ensures next { IfOk result (λ there. IfSome (slots_of reader.old.store.now reader.old.side (B.chip reader.old.bench.now)) (IsNextShown chosen.now stamp (row_read there room.new.row))) }
     ensures octets_read { IfOk result (λ there. IfSome (slots_of reader.old.store.now reader.old.side (B.chip reader.old.bench.now))
         (λ slots. Becomes (RisesBetween (least_of (row_read there room.new.row)) (cost_passed chosen.now.table stamp slots (row_read there room.new.row))) (B.octets_read reader.old.bench.now) (B.octets_read reader.new.bench.now))) }
-    ensures goes_on { GoesOn reader.old reader.new }
-    ensures frame { Reads each_error B.chip B.faults reader.old.bench.now reader.new.bench.now result }
+    ensures reads { ReadsOn each_error B.chip B.faults reader.old reader.new result }
 {
     let mut passed = stamp;
     while row_behind(reader, chosen.table, passed, room)? {
@@ -185,17 +177,15 @@ fn row_behind<B: Eeprom>(
     stamp: u32,
     room: &mut RowRoom,
 ) -> Result<bool, EepromFault>
-    requires over { IsOver reader.old.store.now (B.chip reader.old.bench.now) }
-    requires index { Indexes reader.old.index.now reader.old.store.now (B.chip reader.old.bench.now) }
+    requires stands { Stands B.chip reader.old }
     ensures behind { IfOk result (λ there. IsTrue there → stamp < room.new.row.stamp) }
     ensures next { IfOk result (λ there. IfSome (slots_of reader.old.store.now reader.old.side (B.chip reader.old.bench.now)) (λ slots. row_read there room.new.row ≡ find (is_row_after table stamp) (listed row_kind slots))) }
     ensures octets_read { IfOk result (λ there. IfSome (slots_of reader.old.store.now reader.old.side (B.chip reader.old.bench.now))
         (λ slots. Becomes (RisesBetween (least_of (row_read there room.new.row)) (cost_reached table slots (row_read there room.new.row))) (B.octets_read reader.old.bench.now) (B.octets_read reader.new.bench.now))) }
-    ensures goes_on { GoesOn reader.old reader.new }
-    ensures frame { Reads each_error B.chip B.faults reader.old.bench.now reader.new.bench.now result }
+    ensures reads { ReadsOn each_error B.chip B.faults reader.old reader.new result }
 {
-    let index = reader.index;
-    let Some((_, slot)) = index.next_after_near(reader.side, table, stamp, &mut room.near) else {
+    let (store, index) = (reader.store, reader.index);
+    let Some((_, slot)) = index.next_after(store, reader.side, table, stamp, &mut room.near) else {
         return Ok(false);
     };
     if !row_in(reader, slot, room)? {
@@ -215,21 +205,17 @@ fn row_of_table<B: Eeprom>(
     stamp: u32,
     room: &mut RowRoom,
 ) -> Result<bool, EepromFault>
-    requires over { IsOver reader.old.store.now (B.chip reader.old.bench.now) }
-    requires index { Indexes reader.old.index.now reader.old.store.now (B.chip reader.old.bench.now) }
+    requires stands { Stands B.chip reader.old }
     ensures found { IfOk result (λ there. IfSome (slots_of reader.old.store.now reader.old.side (B.chip reader.old.bench.now))
         (λ slots. row_read there room.new.row ≡ option_filter (λ row. row.table == table) (find (has row_kind.key stamp) (listed row_kind slots)))) }
     ensures octets_read { IfOk result (λ there. IfSome (slots_of reader.old.store.now reader.old.side (B.chip reader.old.bench.now))
         (λ slots. Becomes (RisesBetween (least_of (row_read there room.new.row)) (cost_of stamp (row_costs table slots))) (B.octets_read reader.old.bench.now) (B.octets_read reader.new.bench.now))) }
-    ensures goes_on { GoesOn reader.old reader.new }
-    ensures frame { Reads each_error B.chip B.faults reader.old.bench.now reader.new.bench.now result }
+    ensures reads { ReadsOn each_error B.chip B.faults reader.old reader.new result }
 {
-    let Some((of, slot)) = reader.index.find(reader.side, stamp) else {
+    let (store, index) = (reader.store, reader.index);
+    let Some(slot) = index.find(store, reader.side, table, stamp, room.near) else {
         return Ok(false);
     };
-    if of != table {
-        return Ok(false);
-    }
     row_in(reader, slot, room)
 }
 
@@ -245,8 +231,7 @@ pub fn row_in<B: Eeprom>(
     ensures value { IfOk result (λ there. IfSome (slots_of reader.old.store.now reader.old.side (B.chip reader.old.bench.now)) (λ slots. row_read there room.new.row ≡ at_slot row_kind slot slots)) }
     ensures octets_read { IfOk result (λ there. IfSome (slots_of reader.old.store.now reader.old.side (B.chip reader.old.bench.now))
         (λ slots. Becomes (RisesBetween (least_of (row_read there room.new.row)) (cell_size * kind_cells row_kind (slice_index_or slots slot None))) (B.octets_read reader.old.bench.now) (B.octets_read reader.new.bench.now))) }
-    ensures goes_on { GoesOn reader.old reader.new }
-    ensures frame { Reads each_error B.chip B.faults reader.old.bench.now reader.new.bench.now result }
+    ensures reads { ReadsOn each_error B.chip B.faults reader.old reader.new result }
 {
     if !is_row(reader.store, reader.side, slot) {
         return Ok(false);
@@ -263,7 +248,7 @@ fn is_row(store: &Store, side: Side, slot: u16) -> bool
     requires { slot < store.now.chains.cells }
     ensures { (image : List ℕ) → StandsFor store.now image → result ≡ has_kind_mark row_kind (record_at store.now side slot image) }
 {
-    match store.kind(side, slot) {
+    match store.first_octet(side, slot) {
         Some(octet) => RowRecord::has_mark(octet),
         None => false,
     }

@@ -1,5 +1,5 @@
 // What a cursor chooses of a dictionary.
-ghost use Rattle.std.specs.Prelude.{◌≡◌, ℕ, List, Some, IfOk, IfSome, IsNone, option_map, true, false};
+ghost use Rattle.std.specs.Prelude.{◌≡◌, List, Some, IfOk, IfSome, IsNone, option_map, true, false};
 ghost use Rattle.eeprom.specs.Fault.{each_error};
 ghost use Rattle.eeprom.specs.Frame.{Reads};
 ghost use Rattle.record_store.specs.Held.{IsOver};
@@ -10,7 +10,7 @@ ghost use Rattle.scql_model.specs.Moves as moves;
 ghost use Rattle.scql_model.specs.Objects.{StampedRow};
 ghost use Rattle.cursor.specs.Moved.{handed, row_handed};
 ghost use Rattle.db_read.specs.Chosen.{values_at};
-ghost use Rattle.db_read.specs.Reader.{GoesOn};
+ghost use Rattle.db_read.specs.Reader.{ReadsOn};
 ghost use Rattle.db_read.specs.Told.{TellsRows, shown_told};
 
 use crate::chosen::cut_into;
@@ -61,8 +61,7 @@ pub(crate) fn next_told<B: Eeprom>(
     requires over { IsOver reader.old.store.now (B.chip reader.old.bench.now) }
     ensures next { IfOk result (λ next. (rows : List StampedRow) → TellsRows told.now reader.old.store.now reader.old.side (B.chip reader.old.bench.now) rows
         → next ≡ option_map (λ row. row.stamp) (moves.row_behind (Place.At stamp) rows)) }
-    ensures goes_on { GoesOn reader.old reader.new }
-    ensures frame { Reads each_error B.chip B.faults reader.old.bench.now reader.new.bench.now result }
+    ensures reads { ReadsOn each_error B.chip B.faults reader.old reader.new result }
 {
     let mut row = Row::new();
     told_behind(reader, told, stamp, &mut row)
@@ -78,8 +77,7 @@ pub(crate) fn next_told_row<B: Eeprom>(
     requires over { IsOver reader.old.store.now (B.chip reader.old.bench.now) }
     ensures next { IfOk result (λ next. (rows : List StampedRow) → TellsRows told.now reader.old.store.now reader.old.side (B.chip reader.old.bench.now) rows
         → row_handed next out.new ≡ moves.row_behind (Place.At stamp) rows) }
-    ensures goes_on { GoesOn reader.old reader.new }
-    ensures frame { Reads each_error B.chip B.faults reader.old.bench.now reader.new.bench.now result }
+    ensures reads { ReadsOn each_error B.chip B.faults reader.old reader.new result }
 {
     let mut row = Row::new();
     let Some(next) = told_behind(reader, told, stamp, &mut row)? else {
@@ -101,8 +99,7 @@ fn told_behind<B: Eeprom>(
         → shown_told told.now next row.new ≡ moves.row_behind (Place.At stamp) rows) }
     ensures can_cut { IfOk result (λ next. IfSome next (λ _. (rows : List StampedRow) → TellsRows told.now reader.old.store.now reader.old.side (B.chip reader.old.bench.now) rows
         → are_a_row (values_at told.now.places.now.items row.new) ≡ true)) }
-    ensures goes_on { GoesOn reader.old reader.new }
-    ensures frame { Reads each_error B.chip B.faults reader.old.bench.now reader.new.bench.now result }
+    ensures reads { ReadsOn each_error B.chip B.faults reader.old reader.new result }
 {
     let mut passed = stamp;
     while let Some(next) = next_after(
@@ -136,8 +133,7 @@ pub(crate) fn told_row<B: Eeprom>(
     requires over { IsOver reader.old.store.now (B.chip reader.old.bench.now) }
     ensures there { IfOk result (λ there. (rows : List StampedRow) → TellsRows told.now reader.old.store.now reader.old.side (B.chip reader.old.bench.now) rows
         → handed there out.new ≡ option_map (λ row. row.values) (moves.row_at stamp rows)) }
-    ensures goes_on { GoesOn reader.old reader.new }
-    ensures frame { Reads each_error B.chip B.faults reader.old.bench.now reader.new.bench.now result }
+    ensures reads { ReadsOn each_error B.chip B.faults reader.old reader.new result }
 {
     if stamp == 0 {
         return Ok(false);

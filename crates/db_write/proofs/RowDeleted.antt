@@ -54,7 +54,15 @@ valid-deleted db actor cursor edits valid is = λ room.
 pub Follows-removed : {may : Database → Type 0} {old new : Tables} {chip : Chip} {slot : ℕ} → Stand old chip → old.store.begun ≡ true → RemovesRow slot old new → Follows may old new chip
 Follows-removed {may} {old} {new} {chip} {slot} stand begun removes = record {
   index = λ db held may. removes.index chip stand;
-  cells = ap (λ (index : Index). index.cells) removes.places;
-  committed = ap (λ (index : Index). index.committed) removes.places;
-  begun = ap (λ (index : Index). index.begun) removes.places ∙ sym (stand.together ∙ begun);
+  cells = removes.changes.cells;
+  committed = removes.changes.committed;
+  begun = removes.changes.begun ∙ sym (stand.together ∙ begun);
+}
+
+-- So the tables stand, whatever was read before.
+pub Stand-removed : {old new : Tables} {before after : Chip} {slot : ℕ} → Stand old before → old.store.begun ≡ true → RemovesRow slot old new → after ≡ before → Stand new after
+Stand-removed {old} {new} {before} {after} {slot} stand begun removes same = rw same record {
+  over = (removes.goes_on before stand).over;
+  index = removes.index before stand;
+  together = removes.changes.begun ∙ sym ((removes.goes_on before stand).begun ∙ begun);
 }

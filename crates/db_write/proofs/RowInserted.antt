@@ -1,8 +1,7 @@
 -- INSERT: which row it makes, or the first refusal.
-use Rattle.std.proofs.Common.{◌≡◌, ℕ, true, false, List, length, Some, None, Ok, Err, refl, sym, arith}
+use Rattle.std.proofs.Common.{◌≡◌, ℕ, true, false, List, length, Some, None, Ok, Err, refl, sym}
 use Rattle.std.proofs.lemmas.Bool.{eq-eqb, le-leb, ltb-false, ne_eqb}
-use Rattle.scql_base.proofs.RowOctets.{row_size-spelled}
-use Rattle.scql_base.specs.Row.{IsRow, row_size}
+use Rattle.scql_base.specs.Row.{row_size}
 use Rattle.scql_base.specs.Words.{not_found, security_not_satisfied, wrong_data}
 use Rattle.scql_base.specs.declared.operation.Operation.TheVariants.{Insert}
 use Rattle.scql_base.specs.declared.records.Object.{Object}
@@ -17,13 +16,7 @@ use Rattle.scql_model.specs.WellFormed.{FitsCard, HasForm}
 use Rattle.scql_model.specs.Writing.{row_inserted}
 use Rattle.scql_model.proofs.ChangeLaws.{AreMade-with_edits}
 use Rattle.scql_model.proofs.KeepsRows.{inserted-keeps}
-use Rattle.catalog_codec.specs.Catalog.{row_kind}
-use Rattle.catalog_codec.specs.Kinds.{FitsChain}
 use Rattle.record_table.specs.Making.{IsValidWith}
-
--- the record of a row isn't too long
-pub short-row : (stamp table : ℕ) (values : Values) → IsRow values → FitsChain row_kind (record { stamp = stamp; table = table; row = values })
-short-row stamp table values row = omega (arith, row.size, row_size-spelled values)
 
 pub inserts-none : (db : Database) (actor : Actor) (name : List ℕ) (values : Values) → None ≡ seen_named db actor name → row_inserted db actor name values ≡ Err not_found
 unfolding row_inserted

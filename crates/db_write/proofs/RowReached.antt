@@ -3,7 +3,7 @@ use Rattle.std.proofs.Common.{◌≡◌, ◌==◌, ◌&&◌, ℕ, Bool, true, fa
 use Rattle.std.specs.Prelude.{IfSome, option_and_then, option_map}
 use Rattle.std.specs.List.{filter, find, list_all}
 use Rattle.std.specs.Option.{option_map_or}
-use Rattle.std.proofs.lemmas.Bool.{and_from, and_parts, cases_Bool, eqb-true}
+use Rattle.std.proofs.lemmas.Bool.{and_from, and_left, and_parts, cases_Bool, eqb-true}
 use Rattle.std.proofs.lemmas.Map.Entries.{option_filter}
 use Rattle.std.proofs.lemmas.Option.{none-some, same_Some}
 use Rattle.eeprom.specs.Chip.{Chip}
@@ -33,17 +33,15 @@ use Rattle.catalog_codec.specs.Catalog.{row_kind}
 use Rattle.privilege_table.proofs.Seen.{find-both}
 use Rattle.record_table.specs.Listed.{at_slot, listed, slots_of}
 use Rattle.record_table.specs.Making.{IsHeld}
-use Rattle.row_index.specs.Index.{Index, Indexes, side_places}
-use Rattle.row_index.specs.Places.{place_stamp}
-use Rattle.row_index.specs.declared.place.RowPlace.{RowPlace}
+use Rattle.row_index.specs.Index.{Index, Indexes}
+use Rattle.row_index.specs.Places.{is_row_of, place_slot, row_places}
 use Rattle.row_index.proofs.Scans.{find-agree, find-map}
 use Rattle.row_index.proofs.Tables.{find-filter}
-use Rattle.row_table.proofs.FoundRows.{finds-told, none-found}
 use Rattle.search_cond.specs.Bound.{Binds, passes}
 use Rattle.search_cond.specs.declared.placed.Placed.{Placed}
 use Rattle.views.specs.Resolved.{AreBound}
 use Rattle.scql_model.proofs.KnownNames.{IsKnown, IsKnown-resolved_of, among-within, names-valid}
-use Rattle.db_read.proofs.RowReads.{IsIndexed, indexed-told}
+use Rattle.db_read.proofs.RowReads.{IsIndexed, indexed-none, indexed-told}
 use Rattle.db_read.specs.declared.scan.Choice.{Choice}
 use Rattle.db_write.specs.Reached.{FindsRow, HasTable, RestsOn, is_reached, stamp_at, without_conditions}
 
@@ -141,20 +139,33 @@ reaches db c table columns filters bound stamp valid of rests binds at =
     ∙ ap (λ rows. option_and_then again (row_at stamp rows)) (through.rows c.columns c.conditions (named-shown db c r of known)))
 
 -- the slot that the index answers has the row that a search finds
-pub indexed-row : (index : Index) (store : Held) (chip : Chip) (stamp of slot : ℕ) (o : Option (ℕ × ℕ)) (value : Option RowRecord) → o ≡ option_map (λ (place : RowPlace). (place.table, place.slot)) (find (has place_stamp stamp) (side_places index Working))
-    → Indexes index store chip → o ≡ Some (of, slot) → IfSome (slots_of store Working chip) (λ slots. value ≡ at_slot row_kind slot slots) → IfSome (slots_of store Working chip) (λ slots. value ≡ find (has row_kind.key stamp) (listed row_kind slots))
-indexed-row index store chip stamp of slot o value answers stands is at = told (slots_of store Working chip) (indexed-told index store chip Working stamp of slot o answers stands is) at
+pub indexed-row : (index : Index) (store : Held) (chip : Chip) (table stamp slot : ℕ) (o : Option ℕ) (value : Option RowRecord) → IfSome (slots_of store Working chip) (λ slots. o ≡ option_map place_slot (find (is_row_of table stamp) (row_places slots)))
+    → Indexes index store chip → o ≡ Some slot → IfSome (slots_of store Working chip) (λ slots. value ≡ at_slot row_kind slot slots) → IfSome (slots_of store Working chip) (λ slots. value ≡ find (has row_kind.key stamp) (listed row_kind slots))
+indexed-row index store chip table stamp slot o value answers stands is at = told (slots_of store Working chip) (indexed-told index store chip Working table stamp slot o answers stands is) at
   where
-    told : (slots : Option Slots) → IfSome slots (IsIndexed stamp of slot) → IfSome slots (λ slots. value ≡ at_slot row_kind slot slots) → IfSome slots (λ slots. value ≡ find (has row_kind.key stamp) (listed row_kind slots))
+    told : (slots : Option Slots) → IfSome slots (IsIndexed table stamp slot) → IfSome slots (λ slots. value ≡ at_slot row_kind slot slots) → IfSome slots (λ slots. value ≡ find (has row_kind.key stamp) (listed row_kind slots))
     told None indexed at = tt
     told (Some slots) indexed at = at ∙ (indexed.at ∙ sym indexed.found)
 
--- and where it answers none there is none
-pub indexed-no-row : (index : Index) (store : Held) (chip : Chip) (stamp : ℕ) (o : Option (ℕ × ℕ)) → o ≡ option_map (λ (place : RowPlace). (place.table, place.slot)) (find (has place_stamp stamp) (side_places index Working))
-    → Indexes index store chip → o ≡ None → IfSome (slots_of store Working chip) (λ slots. None ≡ find (has row_kind.key stamp) (listed row_kind slots))
-indexed-no-row index store chip stamp o answers stands is =
-    none-found (slots_of store Working chip) o (has row_kind.key stamp) is
-    (finds-told index store chip Working (has place_stamp stamp) (has row_kind.key stamp) (λ slot row. refl) (λ (place : RowPlace). (place.table, place.slot)) (λ place. refl) o answers stands)
+-- and where it answers none, the row of the stamp isn't one of the table
+pub indexed-no-row : (store : Held) (chip : Chip) (db : Database) (table stamp : ℕ) (o : Option ℕ) (held : IsHeld store Working chip db) → IfSome (slots_of store Working chip) (λ slots. o ≡ option_map place_slot (find (is_row_of table stamp) (row_places slots))) → o ≡ None
+    → (filters : List (List Placed)) (bound : List Placed) → IfSome (find (has row_kind.key stamp) (listed row_kind held.slots)) (λ x. is_reached table filters bound x ≡ false)
+indexed-no-row store chip db table stamp o held answers is filters bound =
+    let here : IfSome (Some held.slots) (λ slots. o ≡ option_map place_slot (find (is_row_of table stamp) (row_places slots))) = subst (λ (slots : Option Slots). IfSome slots (λ slots. o ≡ option_map place_slot (find (is_row_of table stamp) (row_places slots)))) held.told answers in
+    other (find (has row_kind.key stamp) (listed row_kind held.slots)) (indexed-none table stamp (Some held.slots) o here is)
+  where
+    other : (found : Option RowRecord) → None ≡ option_filter (λ (r : RowRecord). r.table == table) found → IfSome found (λ x. is_reached table filters bound x ≡ false)
+    other None none = tt
+    other (Some r) none =
+        elim (cases_Bool (r.table == table)) [
+          | inl t ↦ absurd (none-some r (rw t at none))
+          | inr f ↦ and_left (r.table == table) (passes r.row bound && list_all (passes r.row) filters) f
+        ]
+
+-- what a search among the slots that a database holds finds, found among those that are told
+pub said-held : (store : Held) (chip : Chip) (db : Database) (stamp : ℕ) (held : IsHeld store Working chip db)
+    → IfSome (slots_of store Working chip) (λ slots. find (has row_kind.key stamp) (listed row_kind held.slots) ≡ find (has row_kind.key stamp) (listed row_kind slots))
+said-held store chip db stamp held = rw held.told refl
 
 -- the row of a stamp that the slots list is the database's
 row-held : (store : Held) (chip : Chip) (db : Database) (stamp : ℕ) (found : Option RowRecord) → IsHeld store Working chip db

@@ -1,10 +1,10 @@
 // DELETE.
-ghost use Rattle.std.specs.Prelude.{◌≡◌, IsTrue};
+ghost use Rattle.std.specs.Prelude.{◌≡◌};
 ghost use Rattle.record_store.specs.declared.side.Side.TheVariants.{Working};
 ghost use Rattle.scql_model.specs.Database.{Database};
 ghost use Rattle.scql_model.specs.Writing.{row_deleted};
 ghost use Rattle.record_table.specs.Making.{IsHeld};
-ghost use Rattle.row_table.specs.Tables.{EndedBy, Stand};
+ghost use Rattle.row_table.specs.Tables.{EndedBy, InTransaction, Stand};
 ghost use Rattle.db_read.specs.Scan.{IsRightFor};
 ghost use Rattle.db_write.specs.Reached.{IsThrough};
 
@@ -24,10 +24,11 @@ pub fn delete<B: Eeprom>(
     cursor: &Option<Cursor>,
     scan: &mut Scan,
 ) -> Result<(), Stop>
-    requires begun { IsTrue tables.old.store.begun }
-    requires stand { Stand tables.old (B.chip bench.old) }
+    requires open { InTransaction tables.old (B.chip bench.old) }
     requires right { (db : Database) → IsHeld tables.old.store Working (B.chip bench.old) db → IsRightFor db actor scan.old cursor.now }
     ensures ended { EndedBy B.chip B.faults (λ _. Unit {0}) (λ db. IsThrough db (row_deleted db actor) cursor.now) bench.old bench.new tables.old tables.new result }
+    // Nothing is written yet, so the tables stand after a fault too.
+    ensures stand { Stand tables.new (B.chip bench.new) }
     ensures scan_same { scan.new ≡ scan.old }
 {
     let Some(cursor) = opened(cursor) else {

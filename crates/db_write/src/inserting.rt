@@ -1,5 +1,5 @@
 // INSERT.
-ghost use Rattle.std.specs.Prelude.{◌≡◌, true, IsTrue, length};
+ghost use Rattle.std.specs.Prelude.{◌≡◌, true, length};
 ghost use Rattle.eeprom.specs.Frame.{Reads};
 ghost use Rattle.record_store.specs.Held.{IsOver};
 ghost use Rattle.record_store.specs.declared.side.Side.TheVariants.{Working};
@@ -13,9 +13,8 @@ ghost use Rattle.scql_model.specs.WellFormed.{FitsCard, HasForm};
 ghost use Rattle.scql_model.specs.Writing.{row_inserted};
 ghost use Rattle.catalog_codec.specs.Catalog.{row_kind};
 ghost use Rattle.catalog_codec.specs.Kinds.{FitsChain};
-ghost use Rattle.row_index.specs.Index.{is_above};
 ghost use Rattle.record_table.specs.Making.{IsHeld, is_stop_fault};
-ghost use Rattle.row_table.specs.Tables.{Ended, Stand};
+ghost use Rattle.row_table.specs.Tables.{Ended, InTransaction};
 ghost use Rattle.db_write.specs.Reached.{AnswersEdits};
 
 use eeprom::Eeprom;
@@ -34,9 +33,7 @@ pub fn insert<B: Eeprom>(
     table: Name,
     row: &Row,
 ) -> Result<(), Stop>
-    requires begun { IsTrue tables.old.store.begun }
-    requires stand { Stand tables.old (B.chip bench.old) }
-    requires last { (db : Database) → IsHeld tables.old.store Working (B.chip bench.old) db → is_above db.next tables.old.index.committed ≡ true }
+    requires open { InTransaction tables.old (B.chip bench.old) }
     ensures { Ended B.chip B.faults (λ db. HasForm (operation.Insert table row.now) × FitsCard db.limit (operation.Insert table row.now)) (λ db. row_inserted db actor table row.now)
         bench.old bench.new tables.old tables.new result }
 {

@@ -14,7 +14,7 @@ ghost use Rattle.privilege_table.specs.Rights.{privilege_bit};
 ghost use Rattle.record_table.specs.Making.{IsHeld, is_stop_fault};
 ghost use Rattle.row_table.specs.Tables.{Stand};
 ghost use Rattle.search_cond.specs.Bound.{passes};
-ghost use Rattle.db_read.specs.Reader.{GoesOn};
+ghost use Rattle.db_read.specs.Reader.{ReadsOn};
 ghost use Rattle.db_read.specs.Scan.{IsRight, found_in};
 ghost use Rattle.db_write.specs.Reached.{FindsRow, HasTable, IsChosen, IsInSlot, IsStopOf, IsWritten, is_reached};
 ghost use Rattle.db_write.specs.Reached as reached;
@@ -141,7 +141,9 @@ pub(crate) fn find_row<B: Eeprom>(
     if !find_table(&mut reader, cursor, is_found, choice)? {
         return Ok(None);
     }
-    let Some((_, slot)) = tables.index.find(Side::Working, stamp) else {
+    let Tables { store, index } = tables;
+    let table = choice.resolved.table;
+    let Some(slot) = index.find(store, Side::Working, table, stamp, room.near) else {
         return Ok(None);
     };
     if !row_in(&mut reader, slot, room)? {
@@ -163,8 +165,7 @@ fn find_table<B: Eeprom>(
     requires over { IsOver reader.old.store.now (B.chip reader.old.bench.now) }
     ensures found { (db : Database) → IsHeld reader.old.store.now reader.old.side (B.chip reader.old.bench.now) db → IsChosen db cursor.now is_found choice.old → IfOk result (HasTable db cursor.now choice.new) }
     ensures same { found_in is_found choice.new ≡ found_in is_found choice.old }
-    ensures goes_on { GoesOn reader.old reader.new }
-    ensures frame { Reads each_error B.chip B.faults reader.old.bench.now reader.new.bench.now result }
+    ensures reads { ReadsOn each_error B.chip B.faults reader.old reader.new result }
 {
     if is_found {
         return Ok(true);

@@ -1,5 +1,5 @@
 // UPDATE.
-ghost use Rattle.std.specs.Prelude.{◌≡◌, ◌≤◌, [], ◌∷◌, List, Result, IfOk, IfSome, IsTrue, length, map, option_map, true};
+ghost use Rattle.std.specs.Prelude.{◌≡◌, ◌≤◌, [], ◌∷◌, List, Result, IfOk, IfSome, length, map, option_map, true};
 ghost use Rattle.std.specs.List.{list_any};
 ghost use Rattle.std.specs.Str.{bytes_eq};
 ghost use Rattle.eeprom.specs.Frame.{Reads};
@@ -18,7 +18,7 @@ ghost use Rattle.scql_model.specs.Writing.{Assignment, all_assigned, row_updated
 ghost use Rattle.catalog_codec.specs.Catalog.{row_kind};
 ghost use Rattle.catalog_codec.specs.Kinds.{FitsChain};
 ghost use Rattle.record_table.specs.Making.{IsHeld, is_stop_fault};
-ghost use Rattle.row_table.specs.Tables.{EndedBy, Stand};
+ghost use Rattle.row_table.specs.Tables.{EndedBy, InTransaction, Stand};
 ghost use Rattle.db_read.specs.Scan.{IsRightFor};
 ghost use Rattle.db_write.specs.Assigned.{within_limit};
 ghost use Rattle.db_write.specs.Reached.{AnswersEdits, IsThrough, MayReplace};
@@ -44,11 +44,11 @@ pub fn update<B: Eeprom>(
     changes: &PackedChanges,
     scan: &mut Scan,
 ) -> Result<(), Stop>
-    requires begun { IsTrue tables.old.store.begun }
-    requires stand { Stand tables.old (B.chip bench.old) }
+    requires open { InTransaction tables.old (B.chip bench.old) }
     requires right { (db : Database) → IsHeld tables.old.store Working (B.chip bench.old) db → IsRightFor db actor scan.old cursor.now }
     ensures ended { EndedBy B.chip B.faults (λ db. HasForm (operation.Update changes.now)) (λ db. IsThrough db (λ cursor. row_updated db actor cursor changes.now) cursor.now)
         bench.old bench.new tables.old tables.new result }
+    ensures index_same { tables.new.index ≡ tables.old.index }
     ensures scan_same { scan.new ≡ scan.old }
 {
     let mut updated = RowRecord {

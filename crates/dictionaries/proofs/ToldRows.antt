@@ -1,12 +1,12 @@
 -- What searches among records say of the rows of a dictionary, and what they read.
-use Rattle.std.proofs.Common.{◌≡◌, ℕ, ◌+◌, ◌*◌, ◌≤◌, Bool, List, [], ◌∷◌, map, filter, Option, Some, None, option_map, inl, inr, refl, sym, ap, ◌∙◌, subst, arith}
+use Rattle.std.proofs.Common.{◌≡◌, ℕ, Bool, List, [], ◌∷◌, map, filter, Option, Some, None, option_map, inl, inr, refl, sym, ap, ◌∙◌, subst}
 use Rattle.std.specs.Prelude.{IfSome}
 use Rattle.std.specs.List.{find}
 use Rattle.std.specs.Option.{option_map_or}
 use Rattle.std.proofs.lemmas.Bool.{cases_Bool}
-use Rattle.eeprom.specs.Chip.{Chip, Becomes, RisesAtMost}
+use Rattle.eeprom.specs.Chip.{Chip}
 use Rattle.eeprom.specs.Slots.{Rises, is_after}
-use Rattle.eeprom.specs.StoreOf.{Slots, cell_size}
+use Rattle.eeprom.specs.StoreOf.{Slots}
 use Rattle.record_store.specs.Held.{Held}
 use Rattle.record_store.specs.declared.side.Side.{Side}
 use Rattle.scql_base.specs.declared.records.User.{User}
@@ -69,16 +69,3 @@ pub object-owned : (store : Held) (side : Side) (chip : Chip) (db : Database) (s
     → IfSome (slots_of store side chip) (λ slots. Rises object_kind.key (listed object_kind slots) → found ≡ object_stamped (listed object_kind slots) stamp) → option_map_or (λ (o : Object). o.owner) found 0 ≡ object_owner db stamp
 object-owned store side chip db stamp found held says =
     ap (λ (o : Option Object). option_map_or (λ (o : Object). o.owner) o 0) (held-list object_kind db.objects (λ objects. found ≡ object_stamped objects stamp) store side chip db held held.holds.objects held.valid.objects.rises says)
-
--- So many octets at most are read in one search, and in one after another.
-pub reads-fewer : (slots : Option Slots) (f h : Slots → ℕ) (a b : Option ℕ) → ((s : Slots) → f s ≤ h s) → IfSome slots (λ s. Becomes (RisesAtMost (cell_size * f s)) a b) → IfSome slots (λ s. Becomes (RisesAtMost (cell_size * h s)) a b)
-reads-fewer None f h a b less first = tt
-reads-fewer (Some s) f h a b less first = λ after is. let r = first after is in (r.0, r.1, omega (arith, r.2, less s))
-
-pub reads-both : (slots : Option Slots) (f g h : Slots → ℕ) (a b c : Option ℕ) → ((s : Slots) → f s + g s ≤ h s) → IfSome slots (λ s. Becomes (RisesAtMost (cell_size * f s)) a b) → IfSome slots (λ s. Becomes (RisesAtMost (cell_size * g s)) b c)
-    → IfSome slots (λ s. Becomes (RisesAtMost (cell_size * h s)) a c)
-reads-both None f g h a b c less first second = tt
-reads-both (Some s) f g h a b c less first second = λ after is.
-    let r = second after is in
-    let q = first r.0 r.1 in
-    (q.0, q.1, omega (arith, q.2, r.2, less s))

@@ -1,12 +1,8 @@
 // The next row of a dictionary of grants. The owner of a grant is that of its object.
-ghost use Rattle.std.specs.Prelude.{◌≡◌, ◌+◌, ◌*◌, List, IfOk, IfSome, filter, option_map};
+ghost use Rattle.std.specs.Prelude.{◌≡◌, ◌+◌, ◌*◌, List, IfOk, filter};
 ghost use Rattle.std.specs.List.{cons_option, find};
 ghost use Rattle.std.specs.Option.{option_map_or};
-ghost use Rattle.eeprom.specs.Chip.{Becomes, RisesAtMost};
-ghost use Rattle.eeprom.specs.Fault.{each_error};
-ghost use Rattle.eeprom.specs.Frame.{Reads};
 ghost use Rattle.eeprom.specs.Slots.{above, is_after, nearer, nearest_from};
-ghost use Rattle.eeprom.specs.StoreOf.{cell_size};
 ghost use Rattle.record_store.specs.Held.{IsOver};
 ghost use Rattle.scql_base.specs.declared.records.Grant as base;
 ghost use Rattle.scql_base.specs.declared.words.Subject.TheVariants.{Grants};
@@ -14,8 +10,9 @@ ghost use Rattle.scql_model.specs.Database.{Database};
 ghost use Rattle.scql_model.specs.Dictionaries as model;
 ghost use Rattle.scql_model.specs.Dictionaries.{rows_told};
 ghost use Rattle.catalog_codec.specs.Catalog.{grant_kind, object_kind, user_kind};
-ghost use Rattle.record_table.specs.Listed.{cells_marked, slots_of};
+ghost use Rattle.record_table.specs.Listed.{cells_marked};
 ghost use Rattle.record_table.specs.Making.{IsHeld};
+ghost use Rattle.record_table.specs.Reading.{ReadsSide};
 ghost use Rattle.dictionaries.specs.Told.{IsNext, most_cells_read, name_or_none, tells_of_grant};
 
 use crate::names::{object_name, user_name};
@@ -37,9 +34,7 @@ pub(crate) fn next_grant<B: Eeprom>(
 ) -> Result<Option<u32>, EepromFault>
     requires over { IsOver store.now (B.chip bench.old) }
     ensures next { (db : Database) → IsHeld store.now side (B.chip bench.old) db → IfOk result (λ next. IsNext (rows_told db owner Grants) stamp next out.new) }
-    ensures octets_read { IfOk result (λ _. IfSome (slots_of store.now side (B.chip bench.old))
-        (λ slots. Becomes (RisesAtMost (cell_size * most_cells_read store.now.chains.cells Grants slots)) (B.octets_read bench.old) (B.octets_read bench.new))) }
-    ensures frame { Reads each_error B.chip B.faults bench.old bench.new result }
+    ensures reads { ReadsSide B.chip B.faults B.octets_read store.now side (most_cells_read store.now.chains.cells Grants) bench.old bench.new result }
 {
     let Some(grant) = find_next(store, bench, side, owner, stamp)? else {
         return Ok(None);
@@ -59,9 +54,7 @@ fn grantee_name<B: Eeprom>(
 ) -> Result<Option<Name>, EepromFault>
     requires over { IsOver store.now (B.chip bench.old) }
     ensures name { (db : Database) → IsHeld store.now side (B.chip bench.old) db → IfOk result (λ name. name_or_none name ≡ model.grantee_name db grantee) }
-    ensures octets_read { IfOk result (λ _. IfSome (slots_of store.now side (B.chip bench.old))
-        (λ slots. Becomes (RisesAtMost (cell_size * cells_marked user_kind slots)) (B.octets_read bench.old) (B.octets_read bench.new))) }
-    ensures frame { Reads each_error B.chip B.faults bench.old bench.new result }
+    ensures reads { ReadsSide B.chip B.faults B.octets_read store.now side (cells_marked user_kind) bench.old bench.new result }
 {
     if grantee == 0 {
         return Ok(Name::read(Name::PUBLIC));
@@ -80,9 +73,7 @@ fn find_next<B: Eeprom>(
     requires over { IsOver store.now (B.chip bench.old) }
     ensures next { (db : Database) → IsHeld store.now side (B.chip bench.old) db
         → IfOk result (λ next. next ≡ find (is_after grant_kind.key stamp) (filter (tells_of_grant db owner) db.grants)) }
-    ensures octets_read { IfOk result (λ _. IfSome (slots_of store.now side (B.chip bench.old))
-        (λ slots. Becomes (RisesAtMost (cell_size * (cells_marked grant_kind slots + store.now.chains.cells * cells_marked object_kind slots))) (B.octets_read bench.old) (B.octets_read bench.new))) }
-    ensures frame { Reads each_error B.chip B.faults bench.old bench.new result }
+    ensures reads { ReadsSide B.chip B.faults B.octets_read store.now side (λ slots. cells_marked grant_kind slots + store.now.chains.cells * cells_marked object_kind slots) bench.old bench.new result }
 {
     let mut octets = RecordOctets::new();
     let mut nearest: Option<Grant> = None;
@@ -110,9 +101,7 @@ fn nearest_told<B: Eeprom>(
     ensures nearest { (db : Database) → IsHeld store.now side (B.chip bench.old) db
         → IfOk result (λ next. (rest : List base.Grant) → nearest_from grant_kind.key stamp nearest (filter (tells_of_grant db owner) (cons_option grant rest))
         ≡ nearest_from grant_kind.key stamp next (filter (tells_of_grant db owner) rest)) }
-    ensures octets_read { IfOk result (λ _. IfSome (slots_of store.now side (B.chip bench.old))
-        (λ slots. Becomes (RisesAtMost (cell_size * cells_marked object_kind slots)) (B.octets_read bench.old) (B.octets_read bench.new))) }
-    ensures frame { Reads each_error B.chip B.faults bench.old bench.new result }
+    ensures reads { ReadsSide B.chip B.faults B.octets_read store.now side (cells_marked object_kind) bench.old bench.new result }
 {
     let Some(grant) = grant else {
         return Ok(nearest);
@@ -135,9 +124,7 @@ fn is_told<B: Eeprom>(
 ) -> Result<bool, EepromFault>
     requires over { IsOver store.now (B.chip bench.old) }
     ensures told { (db : Database) → IsHeld store.now side (B.chip bench.old) db → IfOk result (λ told. told ≡ tells_of_grant db owner grant.now) }
-    ensures octets_read { IfOk result (λ _. IfSome (slots_of store.now side (B.chip bench.old))
-        (λ slots. Becomes (RisesAtMost (cell_size * cells_marked object_kind slots)) (B.octets_read bench.old) (B.octets_read bench.new))) }
-    ensures frame { Reads each_error B.chip B.faults bench.old bench.new result }
+    ensures reads { ReadsSide B.chip B.faults B.octets_read store.now side (cells_marked object_kind) bench.old bench.new result }
 {
     let telling = TellsOf(owner);
     if telling.all() {

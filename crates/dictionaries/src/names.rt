@@ -1,15 +1,12 @@
 // The names of users and objects of which the records of a dictionary speak.
-ghost use Rattle.std.specs.Prelude.{◌≡◌, ◌*◌, IfOk, IfSome, option_map};
-ghost use Rattle.eeprom.specs.Chip.{Becomes, RisesAtMost};
-ghost use Rattle.eeprom.specs.Fault.{each_error};
-ghost use Rattle.eeprom.specs.Frame.{Reads};
-ghost use Rattle.eeprom.specs.StoreOf.{cell_size};
+ghost use Rattle.std.specs.Prelude.{◌≡◌, IfOk, option_map};
 ghost use Rattle.record_store.specs.Held.{IsOver};
 ghost use Rattle.scql_model.specs.Database.{Database};
 ghost use Rattle.scql_model.specs.Dictionaries as model;
 ghost use Rattle.catalog_codec.specs.Catalog.{user_kind, object_kind};
-ghost use Rattle.record_table.specs.Listed.{cells_marked, slots_of};
+ghost use Rattle.record_table.specs.Listed.{cells_marked};
 ghost use Rattle.record_table.specs.Making.{IsHeld};
+ghost use Rattle.record_table.specs.Reading.{ReadsSide};
 ghost use Rattle.dictionaries.specs.Told.{name_or_none};
 
 use eeprom::{Eeprom, EepromFault};
@@ -25,9 +22,7 @@ pub(crate) fn user_name<B: Eeprom>(
 ) -> Result<Option<Name>, EepromFault>
     requires over { IsOver store.now (B.chip bench.old) }
     ensures name { (db : Database) → IsHeld store.now side (B.chip bench.old) db → IfOk result (λ name. name_or_none name ≡ model.user_name db stamp) }
-    ensures octets_read { IfOk result (λ _. IfSome (slots_of store.now side (B.chip bench.old))
-        (λ slots. Becomes (RisesAtMost (cell_size * cells_marked user_kind slots)) (B.octets_read bench.old) (B.octets_read bench.new))) }
-    ensures frame { Reads each_error B.chip B.faults bench.old bench.new result }
+    ensures reads { ReadsSide B.chip B.faults B.octets_read store.now side (cells_marked user_kind) bench.old bench.new result }
 {
     let found = user_table::find_stamp(store, bench, side, stamp)?;
     Ok(name_of_user(found))
@@ -50,9 +45,7 @@ pub(crate) fn object_name<B: Eeprom>(
 ) -> Result<Option<Name>, EepromFault>
     requires over { IsOver store.now (B.chip bench.old) }
     ensures name { (db : Database) → IsHeld store.now side (B.chip bench.old) db → IfOk result (λ name. name_or_none name ≡ model.object_name db stamp) }
-    ensures octets_read { IfOk result (λ _. IfSome (slots_of store.now side (B.chip bench.old))
-        (λ slots. Becomes (RisesAtMost (cell_size * cells_marked object_kind slots)) (B.octets_read bench.old) (B.octets_read bench.new))) }
-    ensures frame { Reads each_error B.chip B.faults bench.old bench.new result }
+    ensures reads { ReadsSide B.chip B.faults B.octets_read store.now side (cells_marked object_kind) bench.old bench.new result }
 {
     let mut place = None;
     object_table::find_stamp_into(store, bench, side, stamp, &mut place)?;

@@ -1,16 +1,13 @@
 // The next row of a dictionary of objects.
-ghost use Rattle.std.specs.Prelude.{◌≡◌, ◌*◌, IfOk, IfSome};
-ghost use Rattle.eeprom.specs.Chip.{Becomes, RisesAtMost};
-ghost use Rattle.eeprom.specs.Fault.{each_error};
-ghost use Rattle.eeprom.specs.Frame.{Reads};
-ghost use Rattle.eeprom.specs.StoreOf.{cell_size};
+ghost use Rattle.std.specs.Prelude.{◌≡◌, IfOk};
 ghost use Rattle.record_store.specs.Held.{IsOver};
 ghost use Rattle.scql_base.specs.declared.words.Subject.TheVariants.{Objects};
 ghost use Rattle.scql_model.specs.Database.{Database};
 ghost use Rattle.scql_model.specs.Dictionaries.{base_told, rows_told};
 ghost use Rattle.catalog_codec.specs.Catalog.{object_kind};
-ghost use Rattle.record_table.specs.Listed.{cells_marked, slots_of};
+ghost use Rattle.record_table.specs.Listed.{cells_marked};
 ghost use Rattle.record_table.specs.Making.{IsHeld};
+ghost use Rattle.record_table.specs.Reading.{ReadsSide};
 ghost use Rattle.dictionaries.specs.Told.{IsNext, base_named, most_cells_read};
 
 use crate::names::{object_name, user_name};
@@ -32,9 +29,7 @@ pub(crate) fn next_object<B: Eeprom>(
 ) -> Result<Option<u32>, EepromFault>
     requires over { IsOver store.now (B.chip bench.old) }
     ensures next { (db : Database) → IsHeld store.now side (B.chip bench.old) db → IfOk result (λ next. IsNext (rows_told db owner Objects) stamp next out.new) }
-    ensures octets_read { IfOk result (λ _. IfSome (slots_of store.now side (B.chip bench.old))
-        (λ slots. Becomes (RisesAtMost (cell_size * most_cells_read store.now.chains.cells Objects slots)) (B.octets_read bench.old) (B.octets_read bench.new))) }
-    ensures frame { Reads each_error B.chip B.faults bench.old bench.new result }
+    ensures reads { ReadsSide B.chip B.faults B.octets_read store.now side (most_cells_read store.now.chains.cells Objects) bench.old bench.new result }
 {
     let Some(found) = next_by::<Object, TellsOf, B>(store, bench, side, stamp, &TellsOf(owner))?
     else {
@@ -55,9 +50,7 @@ fn base_name<B: Eeprom>(
 ) -> Result<Option<Name>, EepromFault>
     requires over { IsOver store.now (B.chip bench.old) }
     ensures name { (db : Database) → IsHeld store.now side (B.chip bench.old) db → IfOk result (λ name. base_named kind.now name ≡ base_told db kind.now) }
-    ensures octets_read { IfOk result (λ _. IfSome (slots_of store.now side (B.chip bench.old))
-        (λ slots. Becomes (RisesAtMost (cell_size * cells_marked object_kind slots)) (B.octets_read bench.old) (B.octets_read bench.new))) }
-    ensures frame { Reads each_error B.chip B.faults bench.old bench.new result }
+    ensures reads { ReadsSide B.chip B.faults B.octets_read store.now side (cells_marked object_kind) bench.old bench.new result }
 {
     match kind {
         ObjectKind::View { base, .. } => object_name(store, bench, side, *base),

@@ -1,15 +1,11 @@
 // The next row of a dictionary of users.
-ghost use Rattle.std.specs.Prelude.{◌≡◌, ◌*◌, IfOk, IfSome};
-ghost use Rattle.eeprom.specs.Chip.{Becomes, RisesAtMost};
-ghost use Rattle.eeprom.specs.Fault.{each_error};
-ghost use Rattle.eeprom.specs.Frame.{Reads};
-ghost use Rattle.eeprom.specs.StoreOf.{cell_size};
+ghost use Rattle.std.specs.Prelude.{IfOk};
 ghost use Rattle.record_store.specs.Held.{IsOver};
 ghost use Rattle.scql_base.specs.declared.words.Subject.TheVariants.{Users};
 ghost use Rattle.scql_model.specs.Database.{Database};
 ghost use Rattle.scql_model.specs.Dictionaries.{rows_told};
-ghost use Rattle.record_table.specs.Listed.{slots_of};
 ghost use Rattle.record_table.specs.Making.{IsHeld};
+ghost use Rattle.record_table.specs.Reading.{ReadsSide};
 ghost use Rattle.dictionaries.specs.Told.{IsNext, most_cells_read};
 
 use crate::names::user_name;
@@ -31,9 +27,7 @@ pub(crate) fn next_user<B: Eeprom>(
 ) -> Result<Option<u32>, EepromFault>
     requires over { IsOver store.now (B.chip bench.old) }
     ensures next { (db : Database) → IsHeld store.now side (B.chip bench.old) db → IfOk result (λ next. IsNext (rows_told db owner Users) stamp next out.new) }
-    ensures octets_read { IfOk result (λ _. IfSome (slots_of store.now side (B.chip bench.old))
-        (λ slots. Becomes (RisesAtMost (cell_size * most_cells_read store.now.chains.cells Users slots)) (B.octets_read bench.old) (B.octets_read bench.new))) }
-    ensures frame { Reads each_error B.chip B.faults bench.old bench.new result }
+    ensures reads { ReadsSide B.chip B.faults B.octets_read store.now side (most_cells_read store.now.chains.cells Users) bench.old bench.new result }
 {
     let Some(found) = next_by::<User, TellsOf, B>(store, bench, side, stamp, &TellsOf(owner))?
     else {

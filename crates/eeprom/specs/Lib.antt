@@ -1,3 +1,4 @@
+pub mod Calls
 pub mod Chip
 pub mod CutBench
 pub mod Fault

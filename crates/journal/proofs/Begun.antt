@@ -1,5 +1,5 @@
 -- The journal of a commit, as far as it is written or waits in a run.
-use Rattle.std.proofs.Common.{◌≡◌, ℕ, ◌+◌, ◌*◌, ◌<◌, ◌≤◌, ◌&&◌, nat_le, IsTrue, Bool, true, List, [], ◌∷◌, ◌++◌, length, take, get_or, Option, option_map, IfSome, refl, sym, ap, ap₂, ◌∙◌, subst, arith, append_assoc, length-append, length-take-le}
+use Rattle.std.proofs.Common.{◌≡◌, ℕ, ◌+◌, ◌*◌, ◌<◌, ◌≤◌, ◌&&◌, nat_le, IsTrue, Bool, true, List, [], ◌∷◌, ◌++◌, length, take, get_or, Option, IfSome, refl, sym, ap, ap₂, ◌∙◌, subst, arith, append_assoc, length-append, length-take-le}
 use Rattle.std.proofs.lemmas.Bool.{le-leb}
 use Rattle.std.proofs.lemmas.List.{take_all, take_more}
 use Rattle.std.specs.List.{list_all}
@@ -8,12 +8,12 @@ use Rattle.eeprom.specs.Frame.{HasRoom}
 use Rattle.eeprom.specs.Image.{overwrite}
 use Rattle.eeprom.specs.StoreOf.{number_at, entries_at, image_size, journal, journal_place, is_entry, two_octets}
 use Rattle.eeprom.specs.declared.entry.Entry.{Entry}
-use Rattle.eeprom.proofs.Leaves.{leaves-last, leaves-then}
-use Rattle.eeprom.proofs.Overwrite.{map-some, overwrite-behind}
+use Rattle.eeprom.proofs.Leaves.{leaves-last, leaves-then, leaves-weaker}
+use Rattle.eeprom.proofs.Overwrite.{overwrite-behind}
 use Rattle.journal.specs.Redo.{HasJournal}
 use Rattle.journal.specs.Run.{Numbers, SameOutside, promised}
-use Rattle.journal.proofs.Finishing.{if-told, long-enough}
-use Rattle.journal.proofs.Outside.{alike-written, number-alike, entries-alike, outside-then}
+use Rattle.journal.proofs.Finishing.{long-enough}
+use Rattle.journal.proofs.Outside.{alike-written, number-alike, entries-alike, outside-then, take-less, drop-more}
 use Rattle.journal.proofs.Pushed.{entries-pushed, first-number, number-front}
 
 -- once the run is written, a journal says this number of entries and has these
@@ -95,13 +95,21 @@ journal-there n entries run was now room few range is =
     in-range count n all few is = rw (is, le-leb count n few) refl
 
 pub journal-written : (n i : ℕ) (entries : List Entry) (run : Numbers) (old mid new : Chip) → HasRoom n old → IfSome old.image (λ image. length image ≡ old.still.size) → length entries ≤ n → IsTrue (list_all (is_entry n) entries) → length entries ≤ i
-    → Becomes (IsBegun n (length entries) (take i entries) run) old.image mid.image → new.image ≡ option_map (promised run) mid.image → IfSome new.image (HasJournal n entries)
-journal-written n i entries run old mid new room sized few range all before last =
-    if-told (HasJournal n entries) new.image (λ image told.
-    let from = map-some (promised run) mid.image image (sym last ∙ told) in
-    let a = before from.0 from.1 in
-    subst (λ (image : List ℕ). HasJournal n entries image) (sym from.2)
-    (journal-there n entries run a.0 from.0 (long-enough n old a.0 room sized a.1) few range (subst (λ (entries' : List Entry). IsBegun n (length entries) entries' run a.0 from.0) (take_all i entries all) a.2)))
+    → Becomes (IsBegun n (length entries) (take i entries) run) old.image mid.image → Becomes (λ was now. now ≡ promised run was) mid.image new.image → Becomes (λ _ now. HasJournal n entries now) old.image new.image
+journal-written n i entries run old mid new room sized few range all before last after told =
+    let from = last after told in
+    let a = before from.0 from.1 in (
+      a.0,
+      a.1,
+      subst (λ (image : List ℕ). HasJournal n entries image) (sym from.2)
+          (journal-there n entries run a.0 from.0 (long-enough n old a.0 room sized a.1) few range (subst (λ (entries' : List Entry). IsBegun n (length entries) entries' run a.0 from.0) (take_all i entries all) a.2)),
+    )
+
+-- what is the same outside of a region is so outside of a larger one
+pub outside-wider : (from to first last : ℕ) (old new : Chip) → first ≤ from → to ≤ last → LeavesOf (SameOutside from to) old new → LeavesOf (SameOutside first last) old new
+outside-wider from to first last old new before behind =
+    leaves-weaker old new (SameOutside from to) (SameOutside first last)
+    (λ was left told same. record { size = same.size; before = take-less from to first left was before same; behind = drop-more from to last left was behind same })
 
 -- one run after another
 pub outside-leaves : (from to : ℕ) (old mid new : Chip) → mid.still ≡ old.still → LeavesOf (SameOutside from to) old mid → LeavesOf (SameOutside from to) mid new → LeavesOf (SameOutside from to) old new

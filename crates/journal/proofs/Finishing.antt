@@ -86,25 +86,25 @@ record IsWhole (n : ℕ) (entries : List Entry) (was mid : List ℕ) : Type 0 wh
   has : HasJournal n entries mid
   room : 9 ≤ length mid
 
-whole : (n : ℕ) (entries : List Entry) (old mid : Chip) → HasRoom n old → IfSome old.image (λ image. length image ≡ old.still.size) → LeavesOf (IsJournaled n) old mid → IfSome mid.image (HasJournal n entries)
+whole : (n : ℕ) (entries : List Entry) (old mid : Chip) → HasRoom n old → IfSome old.image (λ image. length image ≡ old.still.size) → LeavesOf (IsJournaled n) old mid → Becomes (λ _ now. HasJournal n entries now) old.image mid.image
     → Becomes (IsWhole n entries) old.image mid.image
 whole n entries old mid room sized moments written after told =
     let j = leaves-last (IsJournaled n) old mid moments after told in
     let long = long-enough n old j.0 room sized j.1 in
     let journaled = j.2 in
     let rest = journaled.rest in
-    (j.0, j.1, record { journaled = journaled; has = at-told (HasJournal n entries) mid.image after told written; room = omega (arith, rest.size) })
+    (j.0, j.1, record { journaled = journaled; has = (written after told).2; room = omega (arith, rest.size) })
 
 -- and then its gate is opened
 pub commit-second : (n : ℕ) (entries : List Entry) (old mid new : Chip) (gate : List ℕ) → gate ≡ 1 ∷ [] → mid.still ≡ old.still → HasRoom n old → IfSome old.image (λ image. length image ≡ old.still.size) → LeavesOf (IsJournaled n) old mid
-    → IfSome mid.image (HasJournal n entries) → IfSome mid.past (λ past. length past ≡ mid.clock) → Writes 8 gate mid new → LeavesOf (IsBetweenDirectories n entries) old new
+    → Becomes (λ _ now. HasJournal n entries now) old.image mid.image → IfSome mid.past (λ past. length past ≡ mid.clock) → Writes 8 gate mid new → LeavesOf (IsBetweenDirectories n entries) old new
 commit-second n entries old mid new gate is still room sized moments written clocked w =
     leaves-then old mid new (IsWhole n entries) (λ was left. IsTorn was 8 (length gate) left) (IsBetweenDirectories n entries) still (whole n entries old mid room sized moments written)
     (λ was mid left done torn. opening-between n entries was mid left done.journaled done.has done.room (subst (λ (gate : List ℕ). IsTorn mid 8 (length gate) left) is torn))
     (commit-first n entries old mid moments) (write-leaves 8 gate mid new clocked w)
 
 pub opened-there : (n : ℕ) (entries : List Entry) (old mid new : Chip) (gate : List ℕ) → gate ≡ 1 ∷ [] → HasRoom n old → IfSome old.image (λ image. length image ≡ old.still.size) → LeavesOf (IsJournaled n) old mid
-    → IfSome mid.image (HasJournal n entries) → new.image ≡ option_map (λ image. overwrite image 8 gate) mid.image → Becomes (IsOpened n entries) old.image new.image
+    → Becomes (λ _ now. HasJournal n entries now) old.image mid.image → new.image ≡ option_map (λ image. overwrite image 8 gate) mid.image → Becomes (IsOpened n entries) old.image new.image
 opened-there n entries old mid new gate is room sized moments written last after told =
     let between = map-some (λ image. overwrite image 8 gate) mid.image after (sym last ∙ told) in
     let from = whole n entries old mid room sized moments written between.0 between.1 in

@@ -28,6 +28,9 @@ run-leaves run octets from to old new same clocked sized w room after before =
     (subst (λ (xs : List ℕ). IsTorn was (place_of run) (length xs) left) same torn))
     (write-leaves (place_of run) octets old new clocked w)
 
+pub whole-written : (run : Numbers) (old new : Option (List ℕ)) → new ≡ option_map (promised run) old → Becomes (λ was now. now ≡ promised run was) old new
+whole-written run old new written after told = map-some (promised run) old after (sym written ∙ told)
+
 pub rewritten-leaves-run : (n : ℕ) (entries : List Entry) (run : Numbers) (old new : Chip) → IsRun n entries run → LeavesOf (SameOutside (place_of run) (place_of run + length run.octets)) old new → LeavesOf (IsRewritten n entries) old new
 rewritten-leaves-run n entries run old new is =
     leaves-weaker old new (SameOutside (place_of run) (place_of run + length run.octets)) (IsRewritten n entries) (λ was left told same. rewritten-run n entries run was left is same)
@@ -111,9 +114,9 @@ written-more n entries i d run mid pushed old between new inside all sized room 
 
 -- the last run
 pub run-done : (n i : ℕ) (entries : List Entry) (run : Numbers) (old mid new : Option (List ℕ)) → length entries ≤ i → Becomes (λ was now. written_directory (promised run now) n ≡ with_entries (take i entries) (written_directory was n)) old mid
-    → new ≡ option_map (promised run) mid → Becomes (λ was now. written_directory now n ≡ with_entries entries (written_directory was n)) old new
+    → Becomes (λ was now. now ≡ promised run was) mid new → Becomes (λ was now. written_directory now n ≡ with_entries entries (written_directory was n)) old new
 run-done n i entries run old mid new all before last after told =
-    let from = map-some (promised run) mid after (sym last ∙ told) in
+    let from = last after told in
     let a = before from.0 from.1 in
     let whole : take i entries ≡ entries = take_all i entries all in
     (a.0, a.1, ap (λ (xs : List ℕ). written_directory xs n) from.2 ∙ a.2 ∙ ap (λ (es : List Entry). with_entries es (written_directory a.0 n)) whole)

@@ -1,7 +1,13 @@
 -- What a commit and a replay make of an image, and what a power loss may leave of it.
-use Rattle.std.specs.Prelude.{◌≡◌, ◌⊎◌, ℕ, false, List, length, take, drop, slice_range, Some}
-use Rattle.eeprom.specs.StoreOf.{front_size, header_size, written_directory, directory, with_entries, is_gate_open}
+use Rattle.std.specs.Prelude.{◌≡◌, ◌⊎◌, ℕ, ◌≤◌, IsTrue, false, List, length, take, drop, slice_range, Some}
+use Rattle.std.specs.List.{list_all}
+use Rattle.eeprom.specs.StoreOf.{front_size, header_size, is_entry, written_directory, directory, with_entries, is_gate_open}
 use Rattle.eeprom.specs.declared.entry.Entry.{Entry}
+
+-- these may be the entries of a journal: at most as many as there are slots, each of a slot and with a cell or none
+pub record AreEntriesOf (n : ℕ) (entries : List Entry) : Type 0 where
+  pub few : length entries ≤ n
+  pub range : IsTrue (list_all (is_entry n) entries)
 
 -- all octets but those of the gate, the directory and the journal are as they were
 pub record KeepsRest (n : ℕ) (was left : List ℕ) : Type 0 where

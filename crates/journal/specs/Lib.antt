@@ -2,4 +2,3 @@ pub mod Faults
 pub mod Journal
 pub mod Redo
 pub mod Run
-pub mod Writing

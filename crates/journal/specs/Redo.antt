@@ -1,7 +1,6 @@
 -- What the entries behind an open gate make of a directory, in one write after another.
-use Rattle.std.specs.Prelude.{◌≡◌, ℕ, ◌+◌, ◌*◌, ◌<◌, ◌≤◌, ◌==◌, Bool, true, false, List, length, take, drop, get_or, is_some, Result, OnOk}
+use Rattle.std.specs.Prelude.{◌≡◌, ℕ, ◌+◌, ◌*◌, ◌<◌, ◌≤◌, ◌==◌, Bool, true, false, List, length, take, drop, get_or}
 use Rattle.std.specs.List.{list_any}
-use Rattle.eeprom.specs.Chip.{Chip, Becomes, RisesBy, LeavesOf}
 use Rattle.eeprom.specs.StoreOf.{header_size, journal_place, written_directory, journal, is_in_range, is_gate_open, with_entries}
 use Rattle.eeprom.specs.declared.entry.Entry.{Entry}
 use Rattle.journal.specs.Run.{Numbers}
@@ -35,10 +34,6 @@ pub record IsRun (n : ℕ) (entries : List Entry) (run : Numbers) : Type 0 where
   pub within : run.index + count ≤ n
   pub named : (slot : ℕ) → run.index ≤ slot → slot < run.index + count → names entries slot ≡ true
 
--- The entries are written into the directory, of which at each moment nothing but the numbers of their slots may be other.
-pub record WritesEntries {E : Type 0} (n : ℕ) (entries : List Entry) (old new : Chip) (result : Result (Unit {0}) E) : Type 0 where
-  pub written : OnOk result (Becomes (λ was now. written_directory now n ≡ with_entries entries (written_directory was n)) old.image new.image)
-  pub told : OnOk result (is_some new.image ≡ is_some old.image)
-  pub still : new.still ≡ old.still
-  pub moments : LeavesOf (IsRewritten n entries) old new
-  pub octets_written : OnOk result (Becomes (RisesBy (2 * length entries)) old.written new.written)
+-- the written directory has these entries, and is else as it was
+abbrev pub HasEntries : ℕ → List Entry → List ℕ → List ℕ → Type 0
+HasEntries n entries was now = written_directory now n ≡ with_entries entries (written_directory was n)

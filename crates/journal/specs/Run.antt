@@ -12,6 +12,10 @@ pub record Numbers : Type 0 where
 abbrev pub place_of : Numbers → ℕ
 place_of run = header_size + 2 * run.index
 
+-- where they end
+abbrev pub end_of : Numbers → ℕ
+end_of run = place_of run + length run.octets
+
 -- the image once the octets of a run are written
 abbrev pub promised : Numbers → List ℕ → List ℕ
 promised run image = overwrite image (place_of run) run.octets

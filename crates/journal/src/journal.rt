@@ -1,12 +1,11 @@
 // The journal: commits of entries, and replays after a power loss.
-ghost use Rattle.std.specs.Prelude.{◌≡◌, ◌+◌, ◌*◌, ◌≤◌, ◌<◌, ℕ, List, Some, None, true, false, IsTrue, length, is_some, IfSome, IfOk, OnOk, IsErrOf};
-ghost use Rattle.std.specs.List.{list_all};
+ghost use Rattle.std.specs.Prelude.{◌≡◌, ◌+◌, ◌*◌, ◌≤◌, ℕ, List, Some, None, false, length, is_some, IfSome, IfOk, OnOk, IsErrOf};
+ghost use Rattle.eeprom.specs.Calls.{FitsInto, ReadsOnly, WritesOnly};
 ghost use Rattle.eeprom.specs.Chip.{Becomes, RisesAtMost, RisesBy, LeavesOf};
-ghost use Rattle.eeprom.specs.Fault.{Counts, CountsFaults, each_error};
-ghost use Rattle.eeprom.specs.Frame.{HasRoom, Reads};
-ghost use Rattle.eeprom.specs.StoreOf.{most_cells, is_entry, is_gate_open, directory, number_at, entries_at, journal_place};
+ghost use Rattle.eeprom.specs.Fault.{CountsFaults, each_error};
+ghost use Rattle.eeprom.specs.StoreOf.{is_gate_open, directory};
 ghost use Rattle.journal.specs.Faults.{is_replay_fault};
-ghost use Rattle.journal.specs.Journal.{TakesEntries, IsBetweenDirectories, IsReplayed, KeepsDirectory};
+ghost use Rattle.journal.specs.Journal.{AreEntriesOf, TakesEntries, IsBetweenDirectories, IsReplayed, KeepsDirectory};
 
 use crate::ReplayRefusal;
 use crate::octets::Entries;
@@ -29,18 +28,10 @@ impl Journal {
         cells: u16,
         entries: &[Entry],
     ) -> Result<(), EepromFault>
-        requires many { cells ≤ most_cells }
-        requires few { length entries.now ≤ cells }
-        requires entries { IsTrue (list_all (is_entry cells) entries.now) }
+        requires fits { FitsInto cells (B.chip bench.old) }
+        requires entries { AreEntriesOf cells entries.now }
         requires closed { IfSome (B.chip bench.old).image (λ image. is_gate_open image ≡ false) }
-        requires room { HasRoom cells (B.chip bench.old) }
-        ensures done { OnOk result (Becomes (TakesEntries cells entries.now) (B.chip bench.old).image (B.chip bench.new).image) }
-        ensures told { OnOk result (is_some (B.chip bench.new).image ≡ is_some (B.chip bench.old).image) }
-        ensures still { (B.chip bench.new).still ≡ (B.chip bench.old).still }
-        ensures moments { LeavesOf (IsBetweenDirectories cells entries.now) (B.chip bench.old) (B.chip bench.new) }
-        ensures octets_written { OnOk result (Becomes (RisesBy (4 + 6 * length entries.now)) (B.chip bench.old).written (B.chip bench.new).written) }
-        ensures octets_read { B.octets_read bench.new ≡ B.octets_read bench.old }
-        ensures cause { Counts (B.faults bench.old) (B.faults bench.new) result }
+        ensures { WritesOnly B.chip B.faults B.octets_read (TakesEntries cells entries.now) (IsBetweenDirectories cells entries.now) (RisesBy (4 + 6 * length entries.now)) bench.old bench.new result }
     {
         write_journal(bench, cells, entries)?;
         bench.write(GATE_PLACE, &OPEN)?;
@@ -51,8 +42,7 @@ impl Journal {
     /// Where it is closed nothing is written. It isn't inlined, so that the entries have their place only where a journal is replayed.
     #[inline(never)]
     pub fn replay<B: Eeprom>(bench: &mut B, cells: u16) -> Result<(), ReplayRefusal>
-        requires many { cells ≤ most_cells }
-        requires room { HasRoom cells (B.chip bench.old) }
+        requires fits { FitsInto cells (B.chip bench.old) }
         ensures done { OnOk result (Becomes (IsReplayed cells) (B.chip bench.old).image (B.chip bench.new).image) }
         ensures told { OnOk result (is_some (B.chip bench.new).image ≡ is_some (B.chip bench.old).image) }
         ensures still { (B.chip bench.new).still ≡ (B.chip bench.old).still }
@@ -78,8 +68,7 @@ impl Journal {
 fn is_open<B: Eeprom>(bench: &mut B) -> Result<bool, EepromFault>
     requires room { 9 ≤ (B.chip bench.old).still.size }
     ensures gate { IfOk result (λ is_open. IfSome (B.chip bench.old).image (λ image. is_open ≡ is_gate_open image)) }
-    ensures octets_read { Becomes (RisesBy 1) (B.octets_read bench.old) (B.octets_read bench.new) }
-    ensures frame { Reads each_error B.chip B.faults bench.old bench.new result }
+    ensures reads { ReadsOnly each_error B.chip B.faults B.octets_read (RisesBy 1) bench.old bench.new result }
 {
     let mut gate = [0; 1];
     bench.read(GATE_PLACE, &mut gate)?;

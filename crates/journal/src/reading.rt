@@ -1,10 +1,11 @@
 // The journal of an image, read where it is in range.
 ghost use Rattle.std.specs.Prelude.{◌≡◌, ◌+◌, ◌*◌, ◌≤◌, ◌<◌, ◌++◌, true, false, length, IfSome, IfOk, OnOk, IsErrOf};
 ghost use Rattle.std.specs.List.{list_all};
-ghost use Rattle.eeprom.specs.Chip.{Becomes, RisesAtMost, RisesBy};
+ghost use Rattle.eeprom.specs.Calls.{FitsInto, ReadsOnly};
+ghost use Rattle.eeprom.specs.Chip.{RisesAtMost, RisesBy};
 ghost use Rattle.eeprom.specs.Fault.{each_error};
-ghost use Rattle.eeprom.specs.Frame.{HasRoom, Reads};
-ghost use Rattle.eeprom.specs.StoreOf.{most_cells, is_entry, is_in_range, number_at, entries_at, journal_place};
+ghost use Rattle.eeprom.specs.Frame.{HasRoom};
+ghost use Rattle.eeprom.specs.StoreOf.{is_entry, is_in_range, number_at, entries_at, journal_place};
 ghost use Rattle.journal.specs.declared.reading.TheConstants.{MOST_AT_ONCE};
 ghost use Rattle.journal.specs.Faults.{is_replay_fault};
 ghost use Rattle.journal.specs.Redo.{HasJournal};
@@ -24,14 +25,12 @@ pub fn read_journal<B: Eeprom>(
     cells: u16,
     entries: &mut Entries,
 ) -> Result<(), ReplayRefusal>
-    requires many { cells ≤ most_cells }
-    requires room { HasRoom cells (B.chip bench.old) }
+    requires fits { FitsInto cells (B.chip bench.old) }
     ensures journal { OnOk result (IfSome (B.chip bench.old).image (HasJournal cells entries.new.items)) }
     ensures few { OnOk result (length entries.new.items ≤ cells) }
     ensures range { OnOk result (list_all (is_entry cells) entries.new.items ≡ true) }
     ensures bad_journal { IsErrOf result ReplayRefusal.BadJournal → IfSome (B.chip bench.old).image (λ image. is_in_range image cells ≡ false) }
-    ensures octets_read { Becomes (RisesAtMost (2 + 4 * cells)) (B.octets_read bench.old) (B.octets_read bench.new) }
-    ensures frame { Reads is_replay_fault B.chip B.faults bench.old bench.new result }
+    ensures reads { ReadsOnly is_replay_fault B.chip B.faults B.octets_read (RisesAtMost (2 + 4 * cells)) bench.old bench.new result }
 {
     let count = read_count(bench, cells)?;
     read_entries(bench, cells, count, entries)
@@ -44,8 +43,7 @@ fn read_count<B: Eeprom>(bench: &mut B, cells: u16) -> Result<u16, ReplayRefusal
     ensures few { IfOk result (λ count. count ≤ cells) }
     ensures bad_journal { IsErrOf result ReplayRefusal.BadJournal
         → IfSome (B.chip bench.old).image (λ image. cells < number_at image (journal_place cells)) }
-    ensures octets_read { Becomes (RisesBy 2) (B.octets_read bench.old) (B.octets_read bench.new) }
-    ensures frame { Reads is_replay_fault B.chip B.faults bench.old bench.new result }
+    ensures reads { ReadsOnly is_replay_fault B.chip B.faults B.octets_read (RisesBy 2) bench.old bench.new result }
 {
     let mut number = [0; 2];
     bench.read(journal_place(cells), &mut number)?;
@@ -63,16 +61,14 @@ fn read_entries<B: Eeprom>(
     count: u16,
     entries: &mut Entries,
 ) -> Result<(), ReplayRefusal>
-    requires many { cells ≤ most_cells }
+    requires fits { FitsInto cells (B.chip bench.old) }
     requires few { count ≤ cells }
-    requires room { HasRoom cells (B.chip bench.old) }
     ensures entries { OnOk result (IfSome (B.chip bench.old).image (λ image. entries.new.items ≡ entries_at image (journal_place cells + 2) count)) }
     ensures count { OnOk result (length entries.new.items ≡ count) }
     ensures range { OnOk result (list_all (is_entry cells) entries.new.items ≡ true) }
     ensures bad_journal { IsErrOf result ReplayRefusal.BadJournal
         → IfSome (B.chip bench.old).image (λ image. list_all (is_entry cells) (entries_at image (journal_place cells + 2) count) ≡ false) }
-    ensures octets_read { Becomes (RisesAtMost (4 * count)) (B.octets_read bench.old) (B.octets_read bench.new) }
-    ensures frame { Reads is_replay_fault B.chip B.faults bench.old bench.new result }
+    ensures reads { ReadsOnly is_replay_fault B.chip B.faults B.octets_read (RisesAtMost (4 * count)) bench.old bench.new result }
 {
     entries.clear();
     let mut left = count;
@@ -94,15 +90,13 @@ fn read_more<B: Eeprom>(
     count: u16,
     entries: &mut Entries,
 ) -> Result<(), EepromFault>
-    requires many { cells ≤ most_cells }
+    requires fits { FitsInto cells (B.chip bench.old) }
     requires few { count ≤ MOST_AT_ONCE }
     requires there { length entries.old.items + count ≤ cells }
-    requires room { HasRoom cells (B.chip bench.old) }
     ensures entries { OnOk result (IfSome (B.chip bench.old).image (λ image. entries.new.items
         ≡ entries.old.items ++ entries_at image (journal_place cells + 2 + 4 * length entries.old.items) count)) }
     ensures count { OnOk result (length entries.new.items ≡ length entries.old.items + count) }
-    ensures octets_read { Becomes (RisesBy (4 * count)) (B.octets_read bench.old) (B.octets_read bench.new) }
-    ensures frame { Reads each_error B.chip B.faults bench.old bench.new result }
+    ensures reads { ReadsOnly each_error B.chip B.faults B.octets_read (RisesBy (4 * count)) bench.old bench.new result }
 {
     let place = journal_place(cells) + 2 + ENTRY_SIZE * entries.len();
     let mut octets = [0; LARGEST_PIECE];

@@ -1,12 +1,12 @@
 // Neighbouring numbers behind the header, which are written together: those of slots, and those of the journal behind them.
-ghost use Rattle.std.specs.Prelude.{◌≡◌, ◌⊎◌, ◌+◌, ◌*◌, ◌≤◌, ℕ, List, [], ◌++◌, length, is_some, option_map, OnOk};
-ghost use Rattle.eeprom.specs.Chip.{Becomes, RisesBy, LeavesOf};
-ghost use Rattle.eeprom.specs.Fault.{Counts};
+ghost use Rattle.std.specs.Prelude.{◌≡◌, ◌⊎◌, ◌+◌, ◌*◌, ◌≤◌, ℕ, List, [], ◌++◌, length, OnOk};
+ghost use Rattle.eeprom.specs.Calls.{WritesOnly};
+ghost use Rattle.eeprom.specs.Chip.{RisesBy};
 ghost use Rattle.eeprom.specs.StoreOf.{two_octets};
 ghost use Rattle.eeprom.specs.declared.entry.Entry.{Entry};
 ghost use Rattle.journal.specs.declared.run.TheConstants.{LARGEST_RUN};
 ghost use Rattle.journal.specs.Redo.{IsRun};
-ghost use Rattle.journal.specs.Run.{SameOutside, place_of, promised};
+ghost use Rattle.journal.specs.Run.{SameOutside, end_of, place_of, promised};
 
 use crate::octets::ENTRY_SIZE;
 use arrayvec::ArrayVec;
@@ -46,14 +46,8 @@ impl Run {
 
     /// Writes the numbers, where there are any.
     pub fn write<B: Eeprom>(&self, bench: &mut B) -> Result<(), EepromFault>
-        requires room { place_of self.now + length self.now.octets ≤ (B.chip bench.old).still.size }
-        ensures written { OnOk result ((B.chip bench.new).image ≡ option_map (promised self.now) (B.chip bench.old).image) }
-        ensures still { (B.chip bench.new).still ≡ (B.chip bench.old).still }
-        ensures moments { (from to : ℕ) → from ≤ place_of self.now → place_of self.now + length self.now.octets ≤ to
-            → LeavesOf (SameOutside from to) (B.chip bench.old) (B.chip bench.new) }
-        ensures octets_written { OnOk result (Becomes (RisesBy (length self.now.octets)) (B.chip bench.old).written (B.chip bench.new).written) }
-        ensures octets_read { B.octets_read bench.new ≡ B.octets_read bench.old }
-        ensures cause { Counts (B.faults bench.old) (B.faults bench.new) result }
+        requires room { end_of self.now ≤ (B.chip bench.old).still.size }
+        ensures { WritesOnly B.chip B.faults B.octets_read (λ was now. now ≡ promised self.now was) (SameOutside (place_of self.now) (end_of self.now)) (RisesBy (length self.now.octets)) bench.old bench.new result }
     {
         if self.octets.is_empty() {
             return Ok(());
@@ -65,20 +59,13 @@ impl Run {
     /// Goes where the next number stands, and makes room for an entry: nothing is done where both are so already, and else the numbers
     /// are written and a new run begins.
     pub fn go_to<B: Eeprom>(&mut self, bench: &mut B, index: u16) -> Result<(), EepromFault>
-        requires room { place_of self.old + length self.old.octets ≤ (B.chip bench.old).still.size }
+        requires room { end_of self.old ≤ (B.chip bench.old).still.size }
         ensures next { OnOk result (length self.new.octets + 2 * self.new.index ≡ 2 * index) }
         ensures free { OnOk result (length self.new.octets + 4 ≤ LARGEST_RUN) }
         ensures begins { OnOk result ((self.new.index ≡ self.old.index) ⊎ (self.new.index ≡ index)) }
         ensures run { OnOk result ((n : ℕ) (entries : List Entry) → index ≤ n → IsRun n entries self.old → IsRun n entries self.new) }
-        ensures promised { OnOk result (Becomes (λ was now. promised self.new now ≡ promised self.old was) (B.chip bench.old).image (B.chip bench.new).image) }
-        ensures told { OnOk result (is_some (B.chip bench.new).image ≡ is_some (B.chip bench.old).image) }
-        ensures still { (B.chip bench.new).still ≡ (B.chip bench.old).still }
-        ensures moments { (from to : ℕ) → from ≤ place_of self.old → place_of self.old + length self.old.octets ≤ to
-            → LeavesOf (SameOutside from to) (B.chip bench.old) (B.chip bench.new) }
-        ensures octets_written { OnOk result (Becomes (λ before after. after + length self.new.octets ≡ before + length self.old.octets)
-            (B.chip bench.old).written (B.chip bench.new).written) }
-        ensures octets_read { B.octets_read bench.new ≡ B.octets_read bench.old }
-        ensures cause { Counts (B.faults bench.old) (B.faults bench.new) result }
+        ensures rewrites { WritesOnly B.chip B.faults B.octets_read (λ was now. promised self.new now ≡ promised self.old was) (SameOutside (place_of self.old) (end_of self.old))
+            (λ before after. after + length self.new.octets ≡ before + length self.old.octets) bench.old bench.new result }
     {
         let size = self.octets.len();
         let is_next = 2 * self.index as usize + size == 2 * index as usize;

@@ -1,10 +1,11 @@
 // The journal of a commit, written in a few runs.
-ghost use Rattle.std.specs.Prelude.{◌≡◌, ◌≤◌, IsTrue, length};
-ghost use Rattle.std.specs.List.{list_all};
-ghost use Rattle.eeprom.specs.Fault.{Counts};
-ghost use Rattle.eeprom.specs.Frame.{HasRoom};
-ghost use Rattle.eeprom.specs.StoreOf.{most_cells, is_entry};
-ghost use Rattle.journal.specs.Writing.{WritesJournal};
+ghost use Rattle.std.specs.Prelude.{◌+◌, ◌*◌, length};
+ghost use Rattle.eeprom.specs.Calls.{FitsInto, WritesOnly};
+ghost use Rattle.eeprom.specs.Chip.{RisesBy};
+ghost use Rattle.eeprom.specs.StoreOf.{front_size, journal_place};
+ghost use Rattle.journal.specs.Journal.{AreEntriesOf};
+ghost use Rattle.journal.specs.Redo.{HasJournal};
+ghost use Rattle.journal.specs.Run.{SameOutside};
 
 use crate::run::Run;
 use eeprom::{Eeprom, EepromFault, Entry};
@@ -15,13 +16,9 @@ pub fn write_journal<B: Eeprom>(
     cells: u16,
     entries: &[Entry],
 ) -> Result<(), EepromFault>
-    requires many { cells ≤ most_cells }
-    requires few { length entries.now ≤ cells }
-    requires entries { IsTrue (list_all (is_entry cells) entries.now) }
-    requires room { HasRoom cells (B.chip bench.old) }
-    ensures journal { WritesJournal cells entries.now (B.chip bench.old) (B.chip bench.new) result }
-    ensures octets_read { B.octets_read bench.new ≡ B.octets_read bench.old }
-    ensures cause { Counts (B.faults bench.old) (B.faults bench.new) result }
+    requires fits { FitsInto cells (B.chip bench.old) }
+    requires entries { AreEntriesOf cells entries.now }
+    ensures { WritesOnly B.chip B.faults B.octets_read (λ _ now. HasJournal cells entries.now now) (SameOutside (journal_place cells) (front_size cells)) (RisesBy (2 + 4 * length entries.now)) bench.old bench.new result }
 {
     let mut run = Run::new(cells);
     run.push(entries.len() as u16);

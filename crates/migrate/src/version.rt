@@ -1,8 +1,9 @@
 // The version octet of an image, and the two octets that repeat the row limit. Places are in octets.
 ghost use Rattle.std.specs.Prelude.{◌≡◌, ◌+◌, ◌%◌, ◌≤◌, ◌==◌, ℕ, List, Some, true, false, if◌then◌else◌, is_some, slice_index, IfSome, IfOk, OnOk};
+ghost use Rattle.eeprom.specs.Calls.{ReadsOnly, WritesOnly};
 ghost use Rattle.eeprom.specs.Chip.{Becomes, RisesBy, LeavesOf};
 ghost use Rattle.eeprom.specs.Fault.{Counts, each_error};
-ghost use Rattle.eeprom.specs.Frame.{HasRoom, Reads};
+ghost use Rattle.eeprom.specs.Frame.{HasRoom};
 ghost use Rattle.eeprom.specs.StoreOf.{fewest_cells, row_limit};
 ghost use Rattle.migrate.specs.Migration.{IsMigrated, IsBetweenVersions, has_even_version};
 
@@ -42,8 +43,7 @@ pub fn migrate<B: Eeprom>(bench: &mut B) -> Result<bool, EepromFault>
 fn is_version_even<B: Eeprom>(bench: &mut B) -> Result<bool, EepromFault>
     requires room { 6 ≤ (B.chip bench.old).still.size }
     ensures version { IfOk result (λ is_even. IfSome (B.chip bench.old).image (λ image. is_even ≡ has_even_version image)) }
-    ensures octets_read { Becomes (RisesBy 1) (B.octets_read bench.old) (B.octets_read bench.new) }
-    ensures frame { Reads each_error B.chip B.faults bench.old bench.new result }
+    ensures reads { ReadsOnly each_error B.chip B.faults B.octets_read (RisesBy 1) bench.old bench.new result }
 {
     let mut version = [0; 1];
     bench.read(VERSION, &mut version)?;
@@ -54,13 +54,7 @@ fn is_version_even<B: Eeprom>(bench: &mut B) -> Result<bool, EepromFault>
 fn write_version<B: Eeprom>(bench: &mut B) -> Result<(), EepromFault>
     requires room { 11 ≤ (B.chip bench.old).still.size }
     requires even { IfSome (B.chip bench.old).image (λ image. has_even_version image ≡ true) }
-    ensures done { OnOk result (Becomes IsMigrated (B.chip bench.old).image (B.chip bench.new).image) }
-    ensures told { OnOk result (is_some (B.chip bench.new).image ≡ is_some (B.chip bench.old).image) }
-    ensures still { (B.chip bench.new).still ≡ (B.chip bench.old).still }
-    ensures moments { LeavesOf IsBetweenVersions (B.chip bench.old) (B.chip bench.new) }
-    ensures octets_written { OnOk result (Becomes (RisesBy 3) (B.chip bench.old).written (B.chip bench.new).written) }
-    ensures octets_read { B.octets_read bench.new ≡ B.octets_read bench.old }
-    ensures cause { Counts (B.faults bench.old) (B.faults bench.new) result }
+    ensures { WritesOnly B.chip B.faults B.octets_read IsMigrated IsBetweenVersions (RisesBy 3) bench.old bench.new result }
 {
     bench.write(LIMIT, &MIGRATED_ROW_LIMIT.to_be_bytes())?;
     bench.write(VERSION, &MIGRATED)

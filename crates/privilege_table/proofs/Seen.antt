@@ -20,8 +20,8 @@ use Rattle.scql_model.specs.Rights.{all_privileges, appears, has_bit, holds, see
 use Rattle.catalog_codec.specs.Catalog.{grant_kind, object_kind}
 use Rattle.object_table.specs.Named.{has_name, object_named}
 use Rattle.record_table.specs.Listed.{in_slots, listed, slots_of}
-use Rattle.record_table.proofs.ReadingCosts.{ReadsCells}
 use Rattle.record_table.specs.Making.{IsHeld}
+use Rattle.record_table.specs.Reading.{ReadsCells}
 use Rattle.privilege_table.specs.Granted.{AreHeld, cells_granted, cells_granted_on, gives_bit}
 use Rattle.privilege_table.specs.Rights.{AreRights, privilege_bit}
 use Rattle.privilege_table.specs.declared.rights.Privilege.{Privilege}

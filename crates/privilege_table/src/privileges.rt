@@ -1,17 +1,13 @@
 // Which privileges on an object a user holds by grants.
-ghost use Rattle.std.specs.Prelude.{◌≡◌, ◌*◌, ◌^◌, ℕ, Some, IfOk, IfSome};
-ghost use Rattle.eeprom.specs.Chip.{Becomes, RisesAtMost};
-ghost use Rattle.eeprom.specs.Fault.{each_error};
-ghost use Rattle.eeprom.specs.Frame.{Reads};
-ghost use Rattle.eeprom.specs.StoreOf.{cell_size};
+ghost use Rattle.std.specs.Prelude.{◌≡◌, ◌^◌, ℕ, Some, IfOk, IfSome};
 ghost use Rattle.record_store.specs.Held.{IsOver};
 ghost use Rattle.record_store.specs.Tags as tags;
 ghost use Rattle.record_store.specs.declared.tags.Tag.TheVariants as by;
 ghost use Rattle.scql_model.specs.Rights.{has_bit};
 ghost use Rattle.catalog_codec.specs.Catalog.{grant_kind};
 ghost use Rattle.record_table.specs.Listed.{listed, slots_of};
-ghost use Rattle.record_table.specs.Reading.{NeverFalls};
 ghost use Rattle.record_table.specs.Tagged.{cells_tagged};
+ghost use Rattle.record_table.specs.Reading.{ReadsSide};
 ghost use Rattle.privilege_table.specs.Granted.{AreGranted, AreHeld, cells_granted, has_pair_bit};
 
 use eeprom::{Eeprom, EepromFault};
@@ -30,10 +26,7 @@ pub fn held<B: Eeprom>(
 ) -> Result<u8, EepromFault>
     requires over { IsOver store.now (B.chip bench.old) }
     ensures held { IfOk result (λ bits. IfSome (slots_of store.now side (B.chip bench.old)) (λ slots. AreHeld object grantee (listed grant_kind slots) bits)) }
-    ensures octets_read { IfOk result (λ _. IfSome (slots_of store.now side (B.chip bench.old))
-        (λ slots. Becomes (RisesAtMost (cell_size * cells_granted object grantee slots)) (B.octets_read bench.old) (B.octets_read bench.new))) }
-    ensures rises { IfOk result (λ _. NeverFalls (slots_of store.now side (B.chip bench.old)) (B.octets_read bench.old) (B.octets_read bench.new)) }
-    ensures frame { Reads each_error B.chip B.faults bench.old bench.new result }
+    ensures reads { ReadsSide B.chip B.faults B.octets_read store.now side (cells_granted object grantee) bench.old bench.new result }
 {
     let public = granted(store, bench, side, object, 0)?;
     let own = granted(store, bench, side, object, grantee)?;
@@ -50,10 +43,7 @@ fn granted<B: Eeprom>(
 ) -> Result<u8, EepromFault>
     requires over { IsOver store.now (B.chip bench.old) }
     ensures granted { IfOk result (λ bits. IfSome (slots_of store.now side (B.chip bench.old)) (λ slots. AreGranted object grantee (listed grant_kind slots) bits)) }
-    ensures octets_read { IfOk result (λ _. IfSome (slots_of store.now side (B.chip bench.old))
-        (λ slots. Becomes (RisesAtMost (cell_size * cells_tagged grant_kind (Some (by.Name (tags.pair_tag object grantee))) slots)) (B.octets_read bench.old) (B.octets_read bench.new))) }
-    ensures rises { IfOk result (λ _. NeverFalls (slots_of store.now side (B.chip bench.old)) (B.octets_read bench.old) (B.octets_read bench.new)) }
-    ensures frame { Reads each_error B.chip B.faults bench.old bench.new result }
+    ensures reads { ReadsSide B.chip B.faults B.octets_read store.now side (cells_tagged grant_kind (Some (by.Name (tags.pair_tag object grantee)))) bench.old bench.new result }
 {
     let mut octets = RecordOctets::new();
     let mut bits = 0;

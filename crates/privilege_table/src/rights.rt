@@ -1,24 +1,15 @@
 // Who may do what with an object: its owner all, and others what grants give them.
-ghost use Rattle.std.specs.Prelude.{◌≡◌, ◌<◌, ◌+◌, ◌*◌, Some, IfOk, IfSome, is_some, option_map};
-ghost use Rattle.std.specs.List.{find, list_any};
-ghost use Rattle.eeprom.specs.Chip.{Becomes, RisesAtMost};
-ghost use Rattle.eeprom.specs.Fault.{each_error};
-ghost use Rattle.eeprom.specs.Frame.{Reads};
-ghost use Rattle.eeprom.specs.StoreOf.{cell_size};
+ghost use Rattle.std.specs.Prelude.{◌≡◌, IfOk};
+ghost use Rattle.std.specs.List.{list_any};
 ghost use Rattle.record_store.specs.Held.{IsOver};
-ghost use Rattle.record_store.specs.Tags as tags;
-ghost use Rattle.record_store.specs.declared.tags.Tag.TheVariants as by;
 ghost use Rattle.scql_model.specs.Database.{Database};
 ghost use Rattle.scql_model.specs.Creating as creating;
-ghost use Rattle.scql_model.specs.Rights.{all_privileges, has_bit, seen_named};
-ghost use Rattle.catalog_codec.specs.Catalog.{object_kind};
-ghost use Rattle.record_table.specs.Listed.{at_slot, in_slots, slots_of};
+ghost use Rattle.scql_model.specs.Rights.{all_privileges, has_bit};
 ghost use Rattle.record_table.specs.Making.{IsHeld};
-ghost use Rattle.record_table.specs.Reading.{NeverFalls};
-ghost use Rattle.record_table.specs.Tagged.{cells_tagged};
-ghost use Rattle.object_table.specs.Named.{has_name};
-ghost use Rattle.privilege_table.specs.Granted.{cells_granted, cells_granted_on};
+ghost use Rattle.record_table.specs.Reading.{ReadsSide};
+ghost use Rattle.privilege_table.specs.Granted.{cells_granted};
 ghost use Rattle.privilege_table.specs.Rights.{AreRights, privilege_bit};
+ghost use Rattle.privilege_table.specs.Seen.{FindsSeen, FindsSeenInto};
 
 use crate::held;
 use eeprom::{Eeprom, EepromFault};
@@ -107,10 +98,7 @@ pub fn rights_on<B: Eeprom>(
 ) -> Result<Rights, EepromFault>
     requires over { IsOver store.now (B.chip bench.old) }
     ensures rights { (db : Database) → IsHeld store.now side (B.chip bench.old) db → IfOk result (AreRights db actor object.now) }
-    ensures octets_read { IfOk result (λ _. IfSome (slots_of store.now side (B.chip bench.old))
-        (λ slots. Becomes (RisesAtMost (cell_size * cells_granted object.now.stamp (creating.actor_stamp actor) slots)) (B.octets_read bench.old) (B.octets_read bench.new))) }
-    ensures rises { IfOk result (λ _. NeverFalls (slots_of store.now side (B.chip bench.old)) (B.octets_read bench.old) (B.octets_read bench.new)) }
-    ensures frame { Reads each_error B.chip B.faults bench.old bench.new result }
+    ensures reads { ReadsSide B.chip B.faults B.octets_read store.now side (cells_granted object.now.stamp (creating.actor_stamp actor)) bench.old bench.new result }
 {
     if is_owned_by(actor, object.owner) {
         return Ok(Rights::ALL);
@@ -128,14 +116,7 @@ pub fn find_seen<B: Eeprom>(
     name: Name,
 ) -> Result<Option<Found<Object>>, EepromFault>
     requires over { IsOver store.now (B.chip bench.old) }
-    ensures there { IfOk result (λ found. IfSome found (λ found. found.slot < store.now.chains.cells)) }
-    ensures at { IfOk result (λ found. IfSome found (λ found. IfSome (slots_of store.now side (B.chip bench.old))
-        (λ slots. Some found.value ≡ at_slot object_kind found.slot slots))) }
-    ensures seen { (db : Database) → IsHeld store.now side (B.chip bench.old) db
-        → IfOk result (λ found. option_map (λ found. found.value) found ≡ seen_named db actor name) }
-    ensures octets_read { IfOk result (λ _. IfSome (slots_of store.now side (B.chip bench.old))
-        (λ slots. Becomes (RisesAtMost (cell_size * (cells_tagged object_kind (Some (by.Name (tags.name_tag name))) slots + cells_granted_on actor (find (has_name name) (in_slots object_kind slots)) slots))) (B.octets_read bench.old) (B.octets_read bench.new))) }
-    ensures frame { Reads each_error B.chip B.faults bench.old bench.new result }
+    ensures { FindsSeen B.chip B.faults B.octets_read store.now side actor name bench.old bench.new result }
 {
     let mut place = None;
     let Some(slot) = find_seen_into(store, bench, side, actor, name, &mut place)? else {
@@ -158,14 +139,7 @@ pub fn find_seen_into<B: Eeprom>(
     place: &mut Option<Object>,
 ) -> Result<Option<u16>, EepromFault>
     requires over { IsOver store.now (B.chip bench.old) }
-    ensures there { IfOk result (λ slot. IfSome slot (λ slot. slot < store.now.chains.cells)) }
-    ensures at { IfOk result (λ slot. IfSome slot (λ slot. IfSome (slots_of store.now side (B.chip bench.old))
-        (λ slots. place.new ≡ at_slot object_kind slot slots))) }
-    ensures both { IfOk result (λ slot. is_some slot ≡ is_some place.new) }
-    ensures seen { (db : Database) → IsHeld store.now side (B.chip bench.old) db → IfOk result (λ _. place.new ≡ seen_named db actor name) }
-    ensures octets_read { IfOk result (λ _. IfSome (slots_of store.now side (B.chip bench.old))
-        (λ slots. Becomes (RisesAtMost (cell_size * (cells_tagged object_kind (Some (by.Name (tags.name_tag name))) slots + cells_granted_on actor (find (has_name name) (in_slots object_kind slots)) slots))) (B.octets_read bench.old) (B.octets_read bench.new))) }
-    ensures frame { Reads each_error B.chip B.faults bench.old bench.new result }
+    ensures { FindsSeenInto B.chip B.faults B.octets_read store.now side actor name bench.old bench.new place.new result }
 {
     let slot = find_name_into(store, bench, side, name, place)?;
     let Some(object) = place else {

@@ -1,15 +1,16 @@
 -- A rack: its readers, and how they become what a line makes of them.
-use Rattle.std.specs.Prelude.{◌≡◌, ◌≢◌, ℕ, ◌-◌, ◌≤◌, Bool, true, false, List, Option, Some, None, is_some, IsSomeAnd, slice_get}
+use Rattle.std.specs.Prelude.{◌≡◌, ◌≢◌, ℕ, ◌-◌, ◌≤◌, Bool, true, false, IsTrue, List, Option, Some, None, is_some, IsSomeAnd, slice_get}
 use Rattle.std.specs.Option.{option_map_or}
 use Rattle.eeprom.specs.Fault.{Rose}
 use Rattle.scql_model.specs.Machine.{Machine}
 use Rattle.reader_rack.specs.declared.rack_end.RackEnd.{RackEnd}
+use Rattle.reader_rack.specs.declared.rack.Rack.{Rack}
 use Rattle.reader_rack.specs.declared.reader.Reader.{Reader}
 use Rattle.reader_rack.specs.declared.statement.RackStatement.{RackStatement}
 use Rattle.reader_rack.specs.declared.statement.RackStatement.TheVariants.{Select, Eject}
 use Rattle.reader_rack.specs.declared.rack_end.RackEnd.TheVariants as ends
-use Rattle.reader_rack.specs.RackText.{Held, nothing, RackState}
-use Rattle.reader_rack.specs.Readers.{EndsBy, Holds, answers, count, set_aside}
+use Rattle.reader_rack.specs.RackText.{Held, nothing, RackEffect, RackState}
+use Rattle.reader_rack.specs.Readers.{EndsBy, EndsEffect, Holds, answers, count, set_aside}
 use Rattle.reader_rack.specs.Statements.{IsReader, names_reader}
 
 -- Readers 1 to 4 stand in their order.
@@ -45,6 +46,22 @@ pub record IsRack {L : Type 0} (is_at : L → Machine → Type 0) (is_live : L �
 -- all readers but one are as they were
 abbrev pub OthersStay : {L : Type 0} → ℕ → List (Reader L) → List (Reader L) → Type 0
 OthersStay number old new = (other : ℕ) → IsReader other → other ≢ number → reader_at new other ≡ reader_at old other
+
+-- a reader, by its number, holds a card that answers
+pub record HoldsCard {L : Type 0} (is_live : L → Bool) (readers : List (Reader L)) (number : ℕ) : Type 0 where
+  pub reader : IsReader number
+  pub live : IsTrue (answers_at is_live readers number)
+
+-- What a call on one reader leaves of a rack: all other readers, which one is current, and the outlet.
+pub record LeavesRest {O L : Type 0} (number : ℕ) (old new : Rack O L) : Type 0 where
+  pub others : OthersStay number old.readers new.readers
+  pub current : new.current ≡ old.current
+  pub outlet : new.outlet ≡ old.outlet
+
+-- In any state that a rack is in it does what it is to do there, and ends so.
+abbrev pub EndsInAnyState : {O L : Type 0} → (L → Machine → Type 0) → (L → Bool) → (O → Option (List ℕ)) → (RackState → Option ℕ → RackEffect RackState) → RackEnd → Rack O L → Rack O L → Type 0
+EndsInAnyState is_at is_live given effect result old new =
+    (state : RackState) → IsRack is_at is_live old.readers old.current.number state → EndsEffect (IsRack is_at is_live new.readers new.current.number) (effect state) result (given old.outlet) (given new.outlet)
 
 -- A reader was asked: why the line ends so, that its link which was set aside is left alone, and that all others are as they were.
 pub record Asks {L : Type 0} (is_live : L → Bool) (faults : L → ℕ) (number : ℕ) (end' : RackEnd) (old new : List (Reader L)) (sink sink' : ℕ) : Type 0 where

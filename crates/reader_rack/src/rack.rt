@@ -12,8 +12,8 @@ ghost use Rattle.card_link.specs.Link.{Holds, IsOneOf, LeavesOpen};
 ghost use Rattle.planner.specs.StatementLines.{TerminalState};
 ghost use Rattle.terminal.specs.Holding.{terminal_at};
 ghost use Rattle.reader_rack.specs.RackText.{RackState, mute, sits, asked, ejected, rack_effect, stated, to_reader, with_reader};
-ghost use Rattle.reader_rack.specs.Racks.{Asks, IsPrintedBy, IsRack, IsSetAside, OthersStay, States, answers_at, count_at, holds_at, is_held, link_at, reader_at};
-ghost use Rattle.reader_rack.specs.Readers.{EndsEffect, empty, lending, with_link};
+ghost use Rattle.reader_rack.specs.Racks.{Asks, EndsInAnyState, HoldsCard, IsPrintedBy, IsRack, IsSetAside, LeavesRest, States, answers_at, count_at, holds_at, is_held, link_at, reader_at};
+ghost use Rattle.reader_rack.specs.Readers.{empty, lending, with_link};
 ghost use Rattle.reader_rack.specs.Statements as statements;
 ghost use Rattle.reader_rack.specs.Statements.{IsReader, names_reader, selected};
 
@@ -66,8 +66,7 @@ impl<O: Outlet> Rack<O> {
         ensures count { OnOk result (count_at ⟦<BoxedLink as CardLink>⟧.faults self.new.readers reader ≡ faults link) }
         ensures chip { OnOk result (IsSomeAnd (link_at self.new.readers reader) (λ inside. ⟦<BoxedLink as CardLink>⟧.chip inside ≡ chip link)) }
         ensures machine { OnOk result (IsSomeAnd (link_at self.new.readers reader) (λ inside. (m : Machine) → is_at link m → ⟦<BoxedLink as CardLink>⟧.is_at inside m)) }
-        ensures others { OthersStay reader self.old.readers self.new.readers }
-        ensures rest { (self.new.current ≡ self.old.current) × (self.new.outlet ≡ self.old.outlet) }
+        ensures leaves { LeavesRest reader self.old self.new }
     {
         let place = usize::from(reader) - 1;
         if self.readers[place].is_held() {
@@ -104,9 +103,7 @@ impl<O: Outlet, L: CardLink> Rack<O, L> {
     // Asks the current reader for what a line means.
     fn ask(&mut self, line: &[u8]) -> RackEnd
         requires short { length line.now ≤ longest_line }
-        ensures ends { (state : RackState) → IsRack L.is_at L.is_live self.old.readers self.old.current.number state
-            → EndsEffect (IsRack L.is_at L.is_live self.new.readers self.new.current.number) (λ fails. to_reader state state.current (asked (state.reader state.current) line.now fails)) result
-            (O.given self.old.outlet) (O.given self.new.outlet) }
+        ensures ends { EndsInAnyState L.is_at L.is_live O.given (λ state fails. to_reader state state.current (asked (state.reader state.current) line.now fails)) result self.old self.new }
         ensures asks { Asks L.is_live L.faults self.old.current.number result self.old.readers self.new.readers (O.sink_faults self.old.outlet) (O.sink_faults self.new.outlet) }
         ensures current { self.new.current ≡ self.old.current }
     {
@@ -116,8 +113,7 @@ impl<O: Outlet, L: CardLink> Rack<O, L> {
     /// Reads a line of at most 1,000 octets, carries it out and prints what comes of it: the rack's own statement, or what it means to the current reader.
     pub fn line(&mut self, line: &[u8]) -> RackEnd
         requires short { length line.now ≤ longest_line }
-        ensures ends { (state : RackState) → IsRack L.is_at L.is_live self.old.readers self.old.current.number state
-            → EndsEffect (IsRack L.is_at L.is_live self.new.readers self.new.current.number) (rack_effect state (Some line.now)) result (O.given self.old.outlet) (O.given self.new.outlet) }
+        ensures ends { EndsInAnyState L.is_at L.is_live O.given (λ state. rack_effect state (Some line.now)) result self.old self.new }
         ensures asks { statements.rack_statement line.now ≡ None
             → Asks L.is_live L.faults self.old.current.number result self.old.readers self.new.readers (O.sink_faults self.old.outlet) (O.sink_faults self.new.outlet) × (self.new.current ≡ self.old.current) }
         ensures states { IfSome (statements.rack_statement line.now) (λ statement.
@@ -132,8 +128,7 @@ impl<O: Outlet, L: CardLink> Rack<O, L> {
 
     /// Says of a line that is longer than a line may be that it is refused.
     pub fn refuse_long_line(&mut self) -> RackEnd
-        ensures ends { (state : RackState) → IsRack L.is_at L.is_live self.old.readers self.old.current.number state
-            → EndsEffect (IsRack L.is_at L.is_live self.new.readers self.new.current.number) (rack_effect state None) result (O.given self.old.outlet) (O.given self.new.outlet) }
+        ensures ends { EndsInAnyState L.is_at L.is_live O.given (λ state. rack_effect state None) result self.old self.new }
         ensures printed { IsPrintedBy result (O.sink_faults self.old.outlet) (O.sink_faults self.new.outlet) }
         ensures readers { (self.new.readers ≡ self.old.readers) × (self.new.current ≡ self.old.current) }
     {
@@ -155,21 +150,18 @@ impl<O: Outlet, L: CardLink> Rack<O, L> {
         ensures aside { IsSetAside reader self.old.readers self.new.readers }
         ensures ejects { (state : RackState) → IsRack L.is_at L.is_live self.old.readers self.old.current.number state
             → (result ≡ is_held (state.reader reader)) × IsRack L.is_at L.is_live self.new.readers self.new.current.number (with_reader state reader (ejected (state.reader reader)).next) }
-        ensures others { OthersStay reader self.old.readers self.new.readers }
         ensures counts { (number : ℕ) → count_at L.faults self.new.readers number ≡ count_at L.faults self.old.readers number }
-        ensures rest { (self.new.current ≡ self.old.current) × (self.new.outlet ≡ self.old.outlet) }
+        ensures leaves { LeavesRest reader self.old self.new }
     {
         self.readers[usize::from(reader) - 1].eject()
     }
 
     /// Lends a reader's link, to be put back. Until then the reader holds none, and its terminal stays.
     pub fn take(&mut self, reader: u8) -> L
-        requires reader { IsReader reader }
-        requires live { IsTrue (answers_at L.is_live self.old.readers reader) }
+        requires { HoldsCard L.is_live self.old.readers reader }
         ensures link { link_at self.old.readers reader ≡ Some result }
         ensures lent { reader_at self.new.readers reader ≡ option_map lending (reader_at self.old.readers reader) }
-        ensures others { OthersStay reader self.old.readers self.new.readers }
-        ensures rest { (self.new.current ≡ self.old.current) × (self.new.outlet ≡ self.old.outlet) }
+        ensures leaves { LeavesRest reader self.old self.new }
     {
         self.readers[usize::from(reader) - 1].take()
     }
@@ -179,16 +171,14 @@ impl<O: Outlet, L: CardLink> Rack<O, L> {
         requires reader { IsReader reader }
         requires lent { holds_at self.old.readers reader ≡ false }
         ensures holds { reader_at self.new.readers reader ≡ option_map (with_link link) (reader_at self.old.readers reader) }
-        ensures others { OthersStay reader self.old.readers self.new.readers }
-        ensures rest { (self.new.current ≡ self.old.current) × (self.new.outlet ≡ self.old.outlet) }
+        ensures leaves { LeavesRest reader self.old self.new }
     {
         self.readers[usize::from(reader) - 1].put_back(link);
     }
 
     /// Sends a command to a reader's card. The reader's terminal is told how it was answered.
     pub fn exchange(&mut self, reader: u8, command: &[u8], reply: &mut Reply) -> Outcome
-        requires reader { IsReader reader }
-        requires live { IsTrue (answers_at L.is_live self.old.readers reader) }
+        requires { HoldsCard L.is_live self.old.readers reader }
         ensures reply { (state : RackState) (at : TerminalState) → IsRack L.is_at L.is_live self.old.readers self.old.current.number state → state.reader reader ≡ sits at → result ≡ Outcome.Replied
             → reply.new ≡ (step at.machine command.now).reply }
         ensures step { (state : RackState) (at : TerminalState) → IsRack L.is_at L.is_live self.old.readers self.old.current.number state → state.reader reader ≡ sits at → result ≡ Outcome.Replied
@@ -201,24 +191,21 @@ impl<O: Outlet, L: CardLink> Rack<O, L> {
         ensures never_falls { count_at L.faults self.old.readers reader ≤ count_at L.faults self.new.readers reader }
         ensures moments { IfSome (link_at self.old.readers reader) (λ link. IfSome (link_at self.new.readers reader) (λ later. (m : Machine) → L.is_at link m
             → LeavesOpen (IsOneOf (L.mark link) (m.committed ∷ (step m command.now).commits)) (L.chip link) (L.chip later))) }
-        ensures others { OthersStay reader self.old.readers self.new.readers }
-        ensures rest { (self.new.current ≡ self.old.current) × (self.new.outlet ≡ self.old.outlet) }
+        ensures leaves { LeavesRest reader self.old self.new }
     {
         self.readers[usize::from(reader) - 1].exchange(command, reply)
     }
 
     /// Resets a reader's card, and the reader's terminal with it.
     pub fn reset(&mut self, reader: u8)
-        requires reader { IsReader reader }
-        requires live { IsTrue (answers_at L.is_live self.old.readers reader) }
+        requires { HoldsCard L.is_live self.old.readers reader }
         ensures step { (state : RackState) (at : TerminalState) → IsRack L.is_at L.is_live self.old.readers self.old.current.number state → state.reader reader ≡ sits at
             → IsRack L.is_at L.is_live self.new.readers self.new.current.number (with_reader state reader (sits (terminal_at (machine.reset at.machine) 0))) }
         ensures live { answers_at L.is_live self.new.readers reader ≡ true }
         ensures count { count_at L.faults self.new.readers reader ≡ count_at L.faults self.old.readers reader }
         ensures moments { IfSome (link_at self.old.readers reader) (λ link. IfSome (link_at self.new.readers reader) (λ later. (m : Machine) → L.is_at link m
             → LeavesOpen (Holds (L.mark link) m.committed) (L.chip link) (L.chip later))) }
-        ensures others { OthersStay reader self.old.readers self.new.readers }
-        ensures rest { (self.new.current ≡ self.old.current) × (self.new.outlet ≡ self.old.outlet) }
+        ensures leaves { LeavesRest reader self.old self.new }
     {
         self.readers[usize::from(reader) - 1].reset();
     }
@@ -237,8 +224,7 @@ impl<O: Outlet, L: CardLink> Rack<O, L> {
     // Carries out one of the rack's own statements.
     fn state(&mut self, statement: RackStatement) -> RackEnd
         requires reader { IsReader (names_reader statement) }
-        ensures ends { (state : RackState) → IsRack L.is_at L.is_live self.old.readers self.old.current.number state
-            → EndsEffect (IsRack L.is_at L.is_live self.new.readers self.new.current.number) (λ fails. stated state statement) result (O.given self.old.outlet) (O.given self.new.outlet) }
+        ensures ends { EndsInAnyState L.is_at L.is_live O.given (λ state fails. stated state statement) result self.old self.new }
         ensures states { States L.faults statement result self.old.readers self.new.readers (O.sink_faults self.old.outlet) (O.sink_faults self.new.outlet) }
         ensures selects { self.new.current.number ≡ selected statement self.old.current.number }
     {

@@ -13,7 +13,7 @@ pub mod HeaderRead
 pub mod InUse
 pub mod Keeping
 pub mod OpeningSlots
-pub mod RunsOfRows
+pub mod RunsOfCommon
 pub mod Putting
 pub mod Records
 pub mod Replaced

@@ -1,8 +1,8 @@
 -- A slot more of a store that is being opened, and the store once all slots were claimed.
-use Rattle.std.proofs.Common.{◌≡◌, ℕ, ◌+◌, ◌*◌, ◌<◌, ◌≤◌, ◌≢◌, ◌||◌, inl, Bool, true, false, List, [], ◌∷◌, ◌++◌, length, length-append, map, take, drop, get_or, nat_le, Option, Some, None, IsSome, IfSome, Result, Ok, Err, IfOk, OnOk, option_map, sym, refl, ap, ◌∙◌, arith, subst, set}
+use Rattle.std.proofs.Common.{◌≡◌, ℕ, ◌+◌, ◌*◌, ◌<◌, ◌≤◌, ◌≢◌, ◌||◌, inl, Bool, true, false, List, [], ◌∷◌, ◌++◌, length, length-append, map, take, drop, get_or, nat_le, Option, Some, None, IsSome, IfSome, Result, Ok, Err, IfOk, OnOk, option_map, sym, refl, ap, ◌∙◌, arith, subst}
 use Rattle.std.specs.List.{list_all}
 use Rattle.std.proofs.lemmas.Bool.Decides.{nat_tests}
-use Rattle.std.proofs.lemmas.List.{map-append, take-map, take_all, take_more, length-take-le, length-set}
+use Rattle.std.proofs.lemmas.List.{map-append, take-map, take_all, take_more, length-take-le}
 use Rattle.std.proofs.lemmas.List.Folds.{list_all-append}
 use Rattle.std.proofs.lemmas.Option.{same_Some, none-some}
 use Rattle.eeprom.specs.Chip.{Chip, Becomes, RisesBy}

@@ -2,7 +2,7 @@
 use Rattle.std.proofs.Common.{◌≡◌, ◌≢◌, ℕ, Bool, true, false, List, [], length, set, slice_index, sym, refl, ap, ◌∙◌, arith, subst, true≢false}
 use Rattle.std.specs.Prelude.{IsPermutation}
 use Rattle.std.proofs.lemmas.Grind.{same_number_lists}
-use Rattle.std.proofs.lemmas.List.{get_or-set_other, length-set}
+use Rattle.std.proofs.lemmas.List.{get_or-set_other}
 use Rattle.eeprom.specs.StoreOf.{is_distinct}
 use Rattle.cell_store.specs.Cells.{Cells}
 use Rattle.cell_store.specs.Chains.{is_among}
@@ -18,7 +18,7 @@ use Rattle.record_store.specs.Weighed.{walk, IsWeighed}
 use Rattle.record_store.specs.declared.side.Side.TheVariants.{Working}
 use Rattle.record_store.proofs.InUse.{in_use-begun}
 use Rattle.record_store.proofs.OpeningSlots.{finished}
-use Rattle.record_store.proofs.RunsOfRows.{passed-begun}
+use Rattle.record_store.proofs.RunsOfCommon.{passed-begun}
 use Rattle.record_store.proofs.SlotTags.{has-with}
 use Rattle.record_store.proofs.Sorting.{among-sorted, none-sorted}
 use Rattle.record_store.proofs.Touching.{none-touched}

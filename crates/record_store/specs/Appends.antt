@@ -1,6 +1,7 @@
 -- What a writer makes of an image, some of its octets pending.
-use Rattle.std.specs.Prelude.{◌≡◌, ℕ, ◌+◌, List, length, Option, option_map}
-use Rattle.eeprom.specs.Chip.{Chip}
+use Rattle.std.specs.Prelude.{◌≡◌, ℕ, ◌+◌, ◌≤◌, List, length, take, drop, Option, option_map, Result, OnOk}
+use Rattle.eeprom.specs.Chip.{Chip, Keeps}
+use Rattle.eeprom.specs.Fault.{Counts}
 use Rattle.eeprom.specs.Image.{overwrite}
 use Rattle.record_store.specs.declared.writer.Writer.{Writer}
 
@@ -16,3 +17,18 @@ promised writer chip = option_map (λ image. overwrite image writer.at writer.pe
 pub record Appends (octets : List ℕ) (old new : Writer) (before after : Chip) : Type 0 where
   pub end : end_of new ≡ end_of old + length octets
   pub image : promised new after ≡ option_map (λ image. overwrite image (end_of old) octets) (promised old before)
+
+-- A writer may write up to a place: it is behind the first four octets, and the EEPROM reaches there.
+pub record MayWrite (writer : Writer) (end : ℕ) (chip : Chip) : Type 0 where
+  pub behind : 4 ≤ writer.at
+  pub room : end ≤ chip.still.size
+
+-- How a call of a writer ends that appends octets, up to a place at most.
+pub record AppendsUpTo {S T E : Type 0} (chip : S → Chip) (faults : S → ℕ) (octets : List ℕ) (end : ℕ) (old new : Writer) (was now : S) (result : Result T E) : Type 0 where
+  pub appends : OnOk result (Appends octets old new (chip was) (chip now))
+  pub behind : OnOk result (4 ≤ new.at)
+  -- The first four octets stay at each moment, and so do all from that place on.
+  pub front : Keeps (take 4) (chip was) (chip now)
+  pub after : (limit : ℕ) → end ≤ limit → Keeps (drop limit) (chip was) (chip now)
+  -- A fault was counted.
+  pub cause : Counts (faults was) (faults now) result

@@ -2,7 +2,7 @@
 use Rattle.std.specs.Prelude.{◌≡◌, ℕ, ◌<◌, ◌≤◌, false, List, [], length, slice_index}
 use Rattle.eeprom.specs.StoreOf.{no_cell}
 use Rattle.record_store.specs.Held.{Held}
-use Rattle.record_store.specs.RowRuns.{ArePassed}
+use Rattle.record_store.specs.CommonRuns.{ArePassed}
 use Rattle.record_store.specs.Tags.{Tags, HasTags, SameTagsOutside}
 use Rattle.record_store.specs.Touched.{TouchedSlots, none_touched, SameOutside}
 use Rattle.record_store.specs.Weighed.{IsWeighed}

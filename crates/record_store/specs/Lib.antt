@@ -1,4 +1,4 @@
-pub mod RowRuns
+pub mod CommonRuns
 pub mod Appends
 pub mod Faults
 pub mod FreshImage

@@ -92,6 +92,13 @@ pub record SameTagsOutside (slots : List ℕ) (left was : SideTags) : Type 0 whe
   pub names : SameOutside slots left.names was.names
   pub stamps : SameOutside slots left.stamps was.stamps
 
+-- two are tags of as many slots, and differ in these slots alone
+pub record DifferOnlyIn (slots : List ℕ) (left was : SideTags) : Type 0 where
+  pub even : length was.stamps ≡ length was.names
+  pub names : length left.names ≡ length was.names
+  pub stamps : length left.stamps ≡ length was.names
+  pub others : SameTagsOutside slots left was
+
 -- a slot's tags are those of a record
 abbrev pub with_tags : SideTags → ℕ → List ℕ → SideTags
 with_tags tags slot octets = record { names = slice_set tags.names slot (tag_of octets); stamps = slice_set tags.stamps slot (stamp_of octets) }

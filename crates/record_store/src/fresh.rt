@@ -5,7 +5,7 @@ ghost use Rattle.eeprom.specs.Fault.{Counts, CountsFaults};
 ghost use Rattle.eeprom.specs.Frame.{HasRoom};
 ghost use Rattle.eeprom.specs.Image.{overwrite};
 ghost use Rattle.eeprom.specs.StoreOf.{fewest_cells, cell_size, most_cells, starts_with_magic, store_of, fresh_store, image_size};
-ghost use Rattle.record_store.specs.Appends.{Appends, end_of};
+ghost use Rattle.record_store.specs.Appends.{AppendsUpTo, MayWrite, end_of};
 ghost use Rattle.record_store.specs.Faults.{is_format_fault};
 ghost use Rattle.record_store.specs.FreshImage.{one_cell_record, LeavesFormatted, LeavesCleared, fresh_image, fresh_body, fresh_header, fresh_directory, fresh_cell};
 
@@ -101,13 +101,8 @@ fn write_header<B: Eeprom>(
     bench: &mut B,
     cells: u16,
 ) -> Result<(), EepromFault>
-    requires behind { 4 ≤ writer.old.at }
-    requires room { end_of writer.old + 28 ≤ (B.chip bench.old).still.size }
-    ensures appends { OnOk result (Appends (fresh_header cells) writer.old writer.new (B.chip bench.old) (B.chip bench.new)) }
-    ensures behind { OnOk result (4 ≤ writer.new.at) }
-    ensures front { Keeps (take 4) (B.chip bench.old) (B.chip bench.new) }
-    ensures after { (limit : ℕ) → end_of writer.old + 28 ≤ limit → Keeps (drop limit) (B.chip bench.old) (B.chip bench.new) }
-    ensures cause { Counts (B.faults bench.old) (B.faults bench.new) result }
+    requires ready { MayWrite writer.old (end_of writer.old + 28) (B.chip bench.old) }
+    ensures { AppendsUpTo B.chip B.faults (fresh_header cells) (end_of writer.old + 28) writer.old writer.new bench.old bench.new result }
 {
     let [high, low] = octets_of(cells);
     writer.append(bench, &[FORMAT, 0, high, low])?;
@@ -120,13 +115,8 @@ fn write_directory<B: Eeprom>(
     cells: u16,
 ) -> Result<(), EepromFault>
     requires few { 2 ≤ cells }
-    requires behind { 4 ≤ writer.old.at }
-    requires room { end_of writer.old + (6 * cells + 2) ≤ (B.chip bench.old).still.size }
-    ensures appends { OnOk result (Appends (fresh_directory cells) writer.old writer.new (B.chip bench.old) (B.chip bench.new)) }
-    ensures behind { OnOk result (4 ≤ writer.new.at) }
-    ensures front { Keeps (take 4) (B.chip bench.old) (B.chip bench.new) }
-    ensures after { (limit : ℕ) → end_of writer.old + (6 * cells + 2) ≤ limit → Keeps (drop limit) (B.chip bench.old) (B.chip bench.new) }
-    ensures cause { Counts (B.faults bench.old) (B.faults bench.new) result }
+    requires ready { MayWrite writer.old (end_of writer.old + (6 * cells + 2)) (B.chip bench.old) }
+    ensures { AppendsUpTo B.chip B.faults (fresh_directory cells) (end_of writer.old + (6 * cells + 2)) writer.old writer.new bench.old bench.new result }
 {
     let count = cells as usize;
     writer.append(bench, &[0, 0, 0, 1])?;
@@ -140,13 +130,8 @@ fn write_cell<B: Eeprom>(
     octets: &[u8],
 ) -> Result<(), EepromFault>
     requires short { length octets.now ≤ one_cell_record }
-    requires behind { 4 ≤ writer.old.at }
-    requires room { end_of writer.old + cell_size ≤ (B.chip bench.old).still.size }
-    ensures appends { OnOk result (Appends (fresh_cell octets.now) writer.old writer.new (B.chip bench.old) (B.chip bench.new)) }
-    ensures behind { OnOk result (4 ≤ writer.new.at) }
-    ensures front { Keeps (take 4) (B.chip bench.old) (B.chip bench.new) }
-    ensures after { (limit : ℕ) → end_of writer.old + cell_size ≤ limit → Keeps (drop limit) (B.chip bench.old) (B.chip bench.new) }
-    ensures cause { Counts (B.faults bench.old) (B.faults bench.new) result }
+    requires ready { MayWrite writer.old (end_of writer.old + cell_size) (B.chip bench.old) }
+    ensures { AppendsUpTo B.chip B.faults (fresh_cell octets.now) (end_of writer.old + cell_size) writer.old writer.new bench.old bench.new result }
 {
     writer.append(bench, &[0xFF, 0xFF, 0, octets.len() as u8])?;
     writer.append(bench, octets)?;

@@ -1,7 +1,7 @@
 // What an image says of its store: its header and its directory.
 ghost use Rattle.std.specs.Prelude.{◌≡◌, ◌+◌, ◌*◌, ◌%◌, ◌<◌, ◌==◌, ◌&&◌, if◌then◌else◌, Some, None, length, is_some, slice_index, IfSome, IfOk, OnOk, IsErrOf};
+ghost use Rattle.eeprom.specs.Calls.{ReadsOnly};
 ghost use Rattle.eeprom.specs.Chip.{Becomes, RisesBy, RisesAtMost};
-ghost use Rattle.eeprom.specs.Frame.{Reads};
 ghost use Rattle.eeprom.specs.StoreOf.{fresh_row_limit, migrated_row_limit, store_of, number_at, numbers_at, row_limit, is_gate_open, written_directory};
 ghost use Rattle.record_store.specs.Header.{begins_store, IsHeader, IsHeaderOf};
 ghost use Rattle.record_store.specs.Faults.{is_open_fault};
@@ -34,9 +34,8 @@ pub fn read_header<B: Eeprom>(bench: &mut B) -> Result<Header, OpenRefusal>
     ensures header { IfOk result (λ header. IfSome (B.chip bench.old).image (λ image. IsHeaderOf image header)) }
     ensures not_a_card { IsErrOf result OpenRefusal.NotACard → IfSome (B.chip bench.old).image (λ image. store_of image ≡ None) }
     ensures octets_read { OnOk result (Becomes (RisesBy FRONT) (B.octets_read bench.old) (B.octets_read bench.new)) }
-    ensures most_read { Becomes (RisesAtMost FRONT) (B.octets_read bench.old) (B.octets_read bench.new) }
     ensures no_memory_taken { ¬ (IsErrOf result OpenRefusal.NoMemory) }
-    ensures frame { Reads is_open_fault B.chip B.faults bench.old bench.new result }
+    ensures reads { ReadsOnly is_open_fault B.chip B.faults B.octets_read (RisesAtMost FRONT) bench.old bench.new result }
 {
     let size = bench.size();
     if size < FRONT {
@@ -106,8 +105,7 @@ pub fn read_directory<B: Eeprom>(
     ensures count { IfOk result (λ firsts. length firsts.items ≡ header.cells) }
     ensures a_card { ¬ (IsErrOf result OpenRefusal.NotACard) }
     ensures octets_read { OnOk result (Becomes (RisesBy (2 * header.cells)) (B.octets_read bench.old) (B.octets_read bench.new)) }
-    ensures most_read { Becomes (RisesAtMost (2 * header.cells)) (B.octets_read bench.old) (B.octets_read bench.new) }
-    ensures frame { Reads is_open_fault B.chip B.faults bench.old bench.new result }
+    ensures reads { ReadsOnly is_open_fault B.chip B.faults B.octets_read (RisesAtMost (2 * header.cells)) bench.old bench.new result }
 {
     let mut octets = [0; LARGEST_DIRECTORY];
     let directory = &mut octets[..2 * header.cells as usize];

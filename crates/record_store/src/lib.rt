@@ -1,6 +1,7 @@
 //! Records in numbered slots of a card's EEPROM, kept in chains of cells.
 #![tactic(auto)]
 
+mod common_runs;
 mod entries;
 mod first_octets;
 mod found;
@@ -9,7 +10,6 @@ mod header;
 mod layout;
 mod opening;
 mod refusal;
-mod row_runs;
 mod side;
 mod slot_tags;
 mod slots;

@@ -1,6 +1,7 @@
 // A store that is being opened: its slots are claimed one after another, so that it is opened only where each has the chain of a
 // record or none, and no cell is in two chains.
 ghost use Rattle.std.specs.Prelude.{◌≡◌, ◌≢◌, ◌+◌, ◌*◌, ◌≤◌, ◌<◌, ◌++◌, false, [], ◌∷◌, ℕ, None, length, is_some, option_map, IfSome, IfOk, IsErrOf, OnOk};
+ghost use Rattle.eeprom.specs.Calls.{ReadsOnly};
 ghost use Rattle.eeprom.specs.Chip.{Becomes, RisesBy, RisesAtMost};
 ghost use Rattle.eeprom.specs.Frame.{HasRoom, Reads};
 ghost use Rattle.eeprom.specs.StoreOf.{fewest_cells, no_cell, store_of, is_gate_open, cells_of, cell_size, longest_chain, most_cells};
@@ -14,9 +15,9 @@ ghost use Rattle.record_store.specs.Header.{IsHeader, IsHeaderOf};
 ghost use Rattle.record_store.specs.Recovery.{Recovers};
 
 use crate::OpenRefusal;
+use crate::common_runs::CommonRuns;
 use crate::first_octets::keep_octet;
 use crate::header::{Header, read_directory, read_header};
-use crate::row_runs::RowRuns;
 use crate::slot_tags::SlotTags;
 use crate::touched::Touched;
 use cell_store::{CellStore, ClaimRefusal, RecordOctets};
@@ -39,7 +40,7 @@ pub struct Opening {
     pub(crate) touched: Touched,
     pub(crate) entries: Vec<Entry, Heap>,
     /// The memory of searches.
-    pub(crate) row_runs: RowRuns,
+    pub(crate) common_runs: CommonRuns,
     /// How many slots were claimed, and how many cells their chains have.
     pub(crate) claimed: u16,
     pub(crate) weight: u16,
@@ -55,7 +56,7 @@ impl Model for Opening {
 
     ghost view = { λ opening. record { chains = opening.chains; row_limit = opening.row_limit; firsts = opening.committed.items; claimed = opening.claimed; weight = opening.weight; first_octets = opening.first_octets.items; tags = opening.tags.committed } };
 
-    ghost invariant = { λ opening. (opening.working.items ≡ opening.committed.items) × (opening.tags.working ≡ opening.tags.committed) × HasMemory opening.chains.cells opening.touched (vec_capacity opening.entries) opening.row_runs × IsSoundSoFar (record { chains = opening.chains; row_limit = opening.row_limit; firsts = opening.committed.items; claimed = opening.claimed; weight = opening.weight; first_octets = opening.first_octets.items; tags = opening.tags.committed }) };
+    ghost invariant = { λ opening. (opening.working.items ≡ opening.committed.items) × (opening.tags.working ≡ opening.tags.committed) × HasMemory opening.chains.cells opening.touched (vec_capacity opening.entries) opening.common_runs × IsSoundSoFar (record { chains = opening.chains; row_limit = opening.row_limit; firsts = opening.committed.items; claimed = opening.claimed; weight = opening.weight; first_octets = opening.first_octets.items; tags = opening.tags.committed }) };
 }
 
 impl Opening {
@@ -83,7 +84,7 @@ impl Opening {
         let tags = SlotTags::with_room(alloc, header.cells)?;
         let touched = Touched::with_room(alloc, header.cells)?;
         let entries = Vec::with_capacity(alloc, header.cells as usize)?;
-        let row_runs = RowRuns::with_room(alloc, header.cells)?;
+        let common_runs = CommonRuns::with_room(alloc, header.cells)?;
         let chains = CellStore::with_room(alloc, header.cells)?;
         Ok(Opening {
             chains,
@@ -94,7 +95,7 @@ impl Opening {
             tags,
             touched,
             entries,
-            row_runs,
+            common_runs,
             claimed: 0,
             weight: 0,
         })
@@ -155,7 +156,7 @@ impl Opening {
             mut tags,
             touched,
             entries,
-            row_runs,
+            common_runs,
             claimed,
             weight,
         } = self;
@@ -176,7 +177,7 @@ impl Opening {
             tags,
             touched,
             entries,
-            row_runs,
+            common_runs,
             claimed: claimed + 1,
             weight,
         })
@@ -213,9 +214,8 @@ fn claim_slot<B: Eeprom>(
     ensures linked { OnOk result (IfSome (B.chip bench.old).image (λ image. AreLinkedIn chains.old image → AreLinkedIn chains.new image)) }
     ensures count { IfOk result (λ count. count ≡ cells_of (slot_with out.new.items)) }
     ensures octets_read { IfOk result (λ count. Becomes (ReadsCells count) (B.octets_read bench.old) (B.octets_read bench.new)) }
-    ensures most_read { Becomes (RisesAtMost (cell_size * longest_chain)) (B.octets_read bench.old) (B.octets_read bench.new) }
     ensures bad_chain { IsErrOf result ClaimRefusal.BadChain → (first ≢ no_cell) × IfSome (B.chip bench.old).image (HasNoRecord chains.old first) }
-    ensures frame { Reads is_claim_fault B.chip B.faults bench.old bench.new result }
+    ensures reads { ReadsOnly is_claim_fault B.chip B.faults B.octets_read (RisesAtMost (cell_size * longest_chain)) bench.old bench.new result }
 {
     if first == NO_CELL {
         out.clear();

@@ -1,6 +1,6 @@
 // For each slot the tag and the stamp of its record, on both sides.
 ghost use Rattle.std.specs.Prelude.{◌≡◌, ◌<◌, length, IfOk};
-ghost use Rattle.record_store.specs.Tags.{SameTagsOutside, both_sides, no_tags, with_tags};
+ghost use Rattle.record_store.specs.Tags.{DifferOnlyIn, both_sides, no_tags, with_tags};
 ghost use Rattle.record_store.specs.Touched.{AreSlots};
 
 use crate::tags::{stamp_of, tag_of};
@@ -59,10 +59,7 @@ impl SideTags {
     /// Becomes those of the other side, which differ in these slots alone.
     fn copy(&mut self, slots: &[u16], other: &SideTags)
         requires slots { AreSlots (length other.now.names) slots.now }
-        requires even { length other.now.stamps ≡ length other.now.names }
-        requires names { length self.old.names ≡ length other.now.names }
-        requires stamps { length self.old.stamps ≡ length other.now.names }
-        requires others { SameTagsOutside slots.now self.old other.now }
+        requires differ { DifferOnlyIn slots.now self.old other.now }
         ensures { self.new ≡ other.now }
     {
         for slot in slots {
@@ -135,10 +132,7 @@ impl SlotTags {
     /// Takes in that what was put into these slots is committed.
     pub fn commit(&mut self, slots: &[u16])
         requires slots { AreSlots (length self.old.working.names) slots.now }
-        requires even { length self.old.working.stamps ≡ length self.old.working.names }
-        requires names { length self.old.committed.names ≡ length self.old.working.names }
-        requires stamps { length self.old.committed.stamps ≡ length self.old.working.names }
-        requires others { SameTagsOutside slots.now self.old.committed self.old.working }
+        requires differ { DifferOnlyIn slots.now self.old.committed self.old.working }
         ensures { self.new ≡ both_sides self.old.working }
     {
         self.committed.copy(slots, &self.working);
@@ -147,10 +141,7 @@ impl SlotTags {
     /// Takes in that these slots are as they were committed.
     pub fn rollback(&mut self, slots: &[u16])
         requires slots { AreSlots (length self.old.committed.names) slots.now }
-        requires even { length self.old.committed.stamps ≡ length self.old.committed.names }
-        requires names { length self.old.working.names ≡ length self.old.committed.names }
-        requires stamps { length self.old.working.stamps ≡ length self.old.committed.names }
-        requires others { SameTagsOutside slots.now self.old.working self.old.committed }
+        requires differ { DifferOnlyIn slots.now self.old.working self.old.committed }
         ensures { self.new ≡ both_sides self.old.committed }
     {
         self.working.copy(slots, &self.committed);

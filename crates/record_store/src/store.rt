@@ -5,13 +5,13 @@ ghost use Rattle.eeprom.specs.Fault.{Counts, CountsFaults, each_error};
 ghost use Rattle.eeprom.specs.Frame.{Reads};
 ghost use Rattle.eeprom.specs.StoreOf.{fewest_cells, migrated_row_limit, most_cells, no_cell, Slots, Stored, store_of, is_gate_open, cell_size, longest_record};
 ghost use Rattle.eeprom.specs.StoreOf as image;
-ghost use Rattle.record_store.specs.Tags.{HasTags, has_tag, is_tagged};
+ghost use Rattle.record_store.specs.Tags.{HasTags, has_tag, is_tagged, stamp_of};
 ghost use Rattle.record_store.specs.Held.{firsts, tags_of, contents, stored, record_at, first_octet, StandsFor, IsOver, IsRowLimit};
 ghost use Rattle.record_store.specs.Opening.{ReadsFront, ReadsStore, StandsSoFar, most_octets, slots_so_far};
 ghost use Rattle.record_store.specs.Faults.{is_open_fault, is_put_fault};
 ghost use Rattle.record_store.specs.Recovery.{Recovers};
 ghost use Rattle.eeprom.specs.StoreOf.{weight_of};
-ghost use Rattle.record_store.specs.RowRuns.{is_row_or_none};
+ghost use Rattle.record_store.specs.CommonRuns.{is_common_or_none};
 ghost use Rattle.record_store.specs.Put.{IsPut, IsFull, IsWithin, Removes};
 ghost use Rattle.record_store.specs.Slots.{steps_without};
 ghost use Rattle.cell_store.specs.Reading.{ReadsRecord};
@@ -19,9 +19,9 @@ ghost use Rattle.record_store.specs.Transaction.{begun_from, entries, ChangesOnl
 ghost use Rattle.record_store.specs.declared.side.Side.{Side};
 ghost use Rattle.record_store.specs.declared.side.Side.TheVariants.{Committed, Working};
 
+use crate::common_runs::{CommonRuns, take_in_all};
 use crate::entries::take_entries;
 use crate::opening::Opening;
-use crate::row_runs::{RowRuns, take_in_all};
 use crate::slot_tags::{SideTags, SlotTags};
 use crate::slots::{copy_slots, free_replaced, named_or_empty, search_from, slots_in_use};
 use crate::tags::{Tag, next_with};
@@ -51,8 +51,8 @@ pub struct Store {
     slots_in_use: u16,
     /// From where an empty slot is searched.
     next_slot: u16,
-    /// The runs of slots with rows.
-    row_runs: RowRuns,
+    /// The runs of slots with common records.
+    common_runs: CommonRuns,
     /// The slots that a transaction touched: in all others both sides have the same chains.
     touched: Touched,
     /// The entries of a commit, of which only the memory is kept.
@@ -68,7 +68,7 @@ impl Model for Store {
 
     ghost view = { λ store. record { chains = store.chains; row_limit = store.row_limit; committed = store.committed.items; working = store.working.items; begun = store.begun; first_octets = store.first_octets.items; tags = store.tags } };
 
-    ghost invariant = { λ store. IsInMemory (record { chains = store.chains; row_limit = store.row_limit; committed = store.committed.items; working = store.working.items; begun = store.begun; first_octets = store.first_octets.items; tags = store.tags }) store.committed_weight store.working_weight store.slots_in_use store.touched (vec_capacity store.entries) store.row_runs };
+    ghost invariant = { λ store. IsInMemory (record { chains = store.chains; row_limit = store.row_limit; committed = store.committed.items; working = store.working.items; begun = store.begun; first_octets = store.first_octets.items; tags = store.tags }) store.committed_weight store.working_weight store.slots_in_use store.touched (vec_capacity store.entries) store.common_runs };
 }
 
 impl Opening {
@@ -83,7 +83,7 @@ impl Opening {
         ensures cells { result.chains.cells ≡ self.chains.cells }
     {
         let firsts = self.committed.as_slice();
-        take_in_all(&mut self.row_runs, firsts, self.first_octets.as_slice());
+        take_in_all(&mut self.common_runs, firsts, self.first_octets.as_slice());
         let slots_in_use = slots_in_use(firsts);
         Store {
             chains: self.chains,
@@ -97,7 +97,7 @@ impl Opening {
             working_weight: self.weight,
             slots_in_use,
             next_slot: slots_in_use,
-            row_runs: self.row_runs,
+            common_runs: self.common_runs,
             touched: self.touched,
             entries: self.entries,
         }
@@ -171,19 +171,19 @@ impl Store {
         self.slots_in_use
     }
 
-    /// The next slot from this one on that may have another record than a row: the slots before it have rows on both sides, or none.
-    pub fn end_of_rows(&self, slot: u16) -> u16
+    /// The next slot from this one on that may have another record than a common one: the slots before it have common ones on both sides, or none.
+    pub fn end_of_common(&self, slot: u16) -> u16
         ensures onward { slot ≤ result }
         ensures most { slot ≤ self.now.chains.cells → result ≤ self.now.chains.cells }
-        ensures rows { (image : List ℕ) (side : Side) (passed : ℕ) → StandsFor self.now image → slot ≤ passed → passed < result → is_row_or_none (record_at self.now side passed image) ≡ true }
+        ensures common { (image : List ℕ) (side : Side) (passed : ℕ) → StandsFor self.now image → slot ≤ passed → passed < result → is_common_or_none (record_at self.now side passed image) ≡ true }
     {
-        self.row_runs.end(slot)
+        self.common_runs.end(slot)
     }
 
-    /// The first octet of the record of a slot, which says its kind. Nothing is read.
-    pub fn kind(&self, side: Side, slot: u16) -> Option<u8>
+    /// The first octet of the record of a slot. Nothing is read.
+    pub fn first_octet(&self, side: Side, slot: u16) -> Option<u8>
         requires slot { slot < self.now.chains.cells }
-        ensures kind { (image : List ℕ) → StandsFor self.now image → result ≡ first_octet (record_at self.now side slot image) }
+        ensures octet { (image : List ℕ) → StandsFor self.now image → result ≡ first_octet (record_at self.now side slot image) }
         ensures empty { (result ≡ None) ↔ (slice_index (firsts self.now side) slot ≡ no_cell) }
     {
         let first = self.first_cell(side, slot);
@@ -206,6 +206,13 @@ impl Store {
             Tag::Name(tag) => next_with(tags.names(), tag, slot),
             Tag::Stamp(stamp) => next_with(tags.stamps(), stamp, slot),
         }
+    }
+
+    /// Of each slot the stamp of its record; of an empty slot it may be any. Nothing is read.
+    pub fn stamps(&self, side: Side) -> &[u32]
+        ensures { (image : List ℕ) (slot : ℕ) (octets : List ℕ) → StandsFor self.now image → record_at self.now side slot image ≡ Some octets → slice_index result.now slot ≡ stamp_of octets }
+    {
+        self.side_tags(side).stamps()
     }
 
     /// Reads the record of a slot, and answers whether there is one.
@@ -293,7 +300,7 @@ impl Store {
                 self.working[slot as usize] = first;
                 self.first_octets[first as usize] = octets[0];
                 self.tags.put(slot, octets);
-                self.row_runs.take_in(slot, octets[0]);
+                self.common_runs.take_in(slot, octets[0]);
                 self.working_weight = weight + count;
                 self.slots_in_use = self.slots_in_use.max(slot + 1);
                 self.next_slot = search_from(named, slot, next);

@@ -2,7 +2,7 @@
 ghost use Rattle.std.specs.Prelude.{◌≡◌, ◌+◌, ◌≤◌, ◌<◌, ℕ, [], ◌∷◌, length, take, drop, replicate, OnOk};
 ghost use Rattle.eeprom.specs.Chip.{Keeps};
 ghost use Rattle.eeprom.specs.Fault.{Counts};
-ghost use Rattle.record_store.specs.Appends.{Appends, end_of, promised};
+ghost use Rattle.record_store.specs.Appends.{AppendsUpTo, MayWrite, end_of, promised};
 
 use arrayvec::ArrayVec;
 use eeprom::{Eeprom, EepromFault};
@@ -30,8 +30,7 @@ impl Writer {
 
     /// Writes what is pending.
     pub fn flush<B: Eeprom>(&mut self, bench: &mut B) -> Result<(), EepromFault>
-        requires behind { 4 ≤ self.old.at }
-        requires room { end_of self.old ≤ (B.chip bench.old).still.size }
+        requires ready { MayWrite self.old (end_of self.old) (B.chip bench.old) }
         ensures written { OnOk result ((B.chip bench.new).image ≡ promised self.old (B.chip bench.old)) }
         ensures place { OnOk result (self.new.at ≡ end_of self.old) }
         ensures empty { OnOk result (self.new.pending.items ≡ []) }
@@ -47,14 +46,9 @@ impl Writer {
     }
 
     fn make_room<B: Eeprom>(&mut self, bench: &mut B) -> Result<(), EepromFault>
-        requires behind { 4 ≤ self.old.at }
-        requires room { end_of self.old ≤ (B.chip bench.old).still.size }
+        requires ready { MayWrite self.old (end_of self.old) (B.chip bench.old) }
         ensures free { OnOk result (length self.new.pending.items < PIECE) }
-        ensures appends { OnOk result (Appends [] self.old self.new (B.chip bench.old) (B.chip bench.new)) }
-        ensures behind { OnOk result (4 ≤ self.new.at) }
-        ensures front { Keeps (take 4) (B.chip bench.old) (B.chip bench.new) }
-        ensures after { (limit : ℕ) → end_of self.old ≤ limit → Keeps (drop limit) (B.chip bench.old) (B.chip bench.new) }
-        ensures cause { Counts (B.faults bench.old) (B.faults bench.new) result }
+        ensures appends { AppendsUpTo B.chip B.faults [] (end_of self.old) self.old self.new bench.old bench.new result }
     {
         if self.pending.is_full() {
             self.flush(bench)?;
@@ -63,13 +57,8 @@ impl Writer {
     }
 
     fn push<B: Eeprom>(&mut self, bench: &mut B, octet: u8) -> Result<(), EepromFault>
-        requires behind { 4 ≤ self.old.at }
-        requires room { end_of self.old < (B.chip bench.old).still.size }
-        ensures appends { OnOk result (Appends (octet ∷ []) self.old self.new (B.chip bench.old) (B.chip bench.new)) }
-        ensures behind { OnOk result (4 ≤ self.new.at) }
-        ensures front { Keeps (take 4) (B.chip bench.old) (B.chip bench.new) }
-        ensures after { (limit : ℕ) → end_of self.old + 1 ≤ limit → Keeps (drop limit) (B.chip bench.old) (B.chip bench.new) }
-        ensures cause { Counts (B.faults bench.old) (B.faults bench.new) result }
+        requires ready { MayWrite self.old (end_of self.old + 1) (B.chip bench.old) }
+        ensures { AppendsUpTo B.chip B.faults (octet ∷ []) (end_of self.old + 1) self.old self.new bench.old bench.new result }
     {
         self.make_room(bench)?;
         self.pending.push(octet);
@@ -78,13 +67,8 @@ impl Writer {
 
     /// Appends these octets.
     pub fn append<B: Eeprom>(&mut self, bench: &mut B, octets: &[u8]) -> Result<(), EepromFault>
-        requires behind { 4 ≤ self.old.at }
-        requires room { end_of self.old + length octets.now ≤ (B.chip bench.old).still.size }
-        ensures appends { OnOk result (Appends octets.now self.old self.new (B.chip bench.old) (B.chip bench.new)) }
-        ensures behind { OnOk result (4 ≤ self.new.at) }
-        ensures front { Keeps (take 4) (B.chip bench.old) (B.chip bench.new) }
-        ensures after { (limit : ℕ) → end_of self.old + length octets.now ≤ limit → Keeps (drop limit) (B.chip bench.old) (B.chip bench.new) }
-        ensures cause { Counts (B.faults bench.old) (B.faults bench.new) result }
+        requires ready { MayWrite self.old (end_of self.old + length octets.now) (B.chip bench.old) }
+        ensures { AppendsUpTo B.chip B.faults octets.now (end_of self.old + length octets.now) self.old self.new bench.old bench.new result }
     {
         for octet in octets {
             self.push(bench, *octet)?;
@@ -99,13 +83,8 @@ impl Writer {
         octet: u8,
         count: usize,
     ) -> Result<(), EepromFault>
-        requires behind { 4 ≤ self.old.at }
-        requires room { end_of self.old + count ≤ (B.chip bench.old).still.size }
-        ensures appends { OnOk result (Appends (replicate count octet) self.old self.new (B.chip bench.old) (B.chip bench.new)) }
-        ensures behind { OnOk result (4 ≤ self.new.at) }
-        ensures front { Keeps (take 4) (B.chip bench.old) (B.chip bench.new) }
-        ensures after { (limit : ℕ) → end_of self.old + count ≤ limit → Keeps (drop limit) (B.chip bench.old) (B.chip bench.new) }
-        ensures cause { Counts (B.faults bench.old) (B.faults bench.new) result }
+        requires ready { MayWrite self.old (end_of self.old + count) (B.chip bench.old) }
+        ensures { AppendsUpTo B.chip B.faults (replicate count octet) (end_of self.old + count) self.old self.new bench.old bench.new result }
     {
         for _step in 0..count {
             self.push(bench, octet)?;

@@ -1,13 +1,12 @@
 -- A search passes over the slots whose records aren't of the kind, or not of the tag that all that are wanted have.
-use Rattle.std.proofs.Common.{◌≡◌, ℕ, zero, suc, ◌*◌, ◌<◌, ◌≤◌, Bool, true, false, List, [], ◌∷◌, Option, Some, None, drop, get_or, refl, sym, ap, ◌∙◌, inl, inr, arith}
+use Rattle.std.proofs.Common.{◌≡◌, ℕ, zero, suc, ◌<◌, ◌≤◌, Bool, true, false, List, [], ◌∷◌, Option, Some, None, drop, get_or, refl, sym, ap, ◌∙◌, inl, inr, arith}
 use Rattle.std.specs.Prelude.{IfSome, option_and_then}
 use Rattle.std.specs.List.{cons_option, find}
 use Rattle.std.specs.Option.{option_map_or}
 use Rattle.std.proofs.Math.Seq.{drop-nil}
 use Rattle.std.proofs.lemmas.Bool.{and_cases, cases_Bool, true≢false}
 use Rattle.std.proofs.lemmas.List.Sums.{sum_by-cons}
-use Rattle.eeprom.specs.Chip.{Becomes, RisesAtMost}
-use Rattle.eeprom.specs.StoreOf.{Slots, cell_size}
+use Rattle.eeprom.specs.StoreOf.{Slots}
 use Rattle.eeprom.specs.Slots.{in_slot}
 use Rattle.record_store.specs.Held.{Held, contents, record_at, StandsFor}
 use Rattle.record_store.specs.Tags.{is_tagged}
@@ -121,11 +120,6 @@ fewer kind (Some tag) (Some octets) =
       | inr other ↦ rw other (omega arith)
     ]
 
-tagged-fewer : {X : Type 0} (kind : Kind X) (tag : Option Tag) (slots : Slots) → cells_tagged kind tag slots ≤ cells_marked kind slots
+pub tagged-fewer : {X : Type 0} (kind : Kind X) (tag : Option Tag) (slots : Slots) → cells_tagged kind tag slots ≤ cells_marked kind slots
 tagged-fewer kind tag [] = omega arith
 tagged-fewer kind tag (entry ∷ slots) = omega (arith, fewer kind tag entry, tagged-fewer kind tag slots, sum_by-cons (tagged_cells kind tag) entry slots, sum_by-cons (kind_cells kind) entry slots)
-
-pub reads-fewer : {X : Type 0} (kind : Kind X) (tag : Option Tag) (slots : Option Slots) (a b : Option ℕ) → IfSome slots (λ slots. Becomes (RisesAtMost (cell_size * cells_tagged kind tag slots)) a b)
-    → IfSome slots (λ slots. Becomes (RisesAtMost (cell_size * cells_marked kind slots)) a b)
-reads-fewer kind tag None a b tagged = tt
-reads-fewer kind tag (Some slots) a b tagged = λ after told. let t = tagged after told in (t.0, t.1, omega (arith, t.2, tagged-fewer kind tag slots))

@@ -5,6 +5,7 @@ pub mod EditableLaws
 pub mod Listed
 pub mod Making
 pub mod Reading
+pub mod Searching
 pub mod Swept
 pub mod Tagged
 pub mod Touching

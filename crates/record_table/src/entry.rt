@@ -1,15 +1,11 @@
 // The record of one slot, if it is of a kind.
-ghost use Rattle.std.specs.Prelude.{◌≡◌, ◌<◌, ◌≤◌, ◌*◌, ℕ, List, Some, None, false, IfOk, IfSome, if◌then◌else◌, slice_index_or};
-ghost use Rattle.eeprom.specs.Chip.{Becomes, RisesAtMost};
-ghost use Rattle.eeprom.specs.Fault.{each_error};
-ghost use Rattle.eeprom.specs.Frame.{Reads};
-ghost use Rattle.eeprom.specs.StoreOf.{cell_size};
+ghost use Rattle.std.specs.Prelude.{◌≡◌, ◌<◌, ◌≤◌, ℕ, List, Some, None, false, IfOk, IfSome, if◌then◌else◌, slice_index_or};
 ghost use Rattle.record_store.specs.Held.{IsOver, StandsFor, record_at};
 ghost use Rattle.record_store.specs.declared.side.Side.{Side};
 ghost use Rattle.record_table.specs.Listed.{at_slot, kind_cells, slots_of};
 ghost use Rattle.record_table.specs.Listed as listed;
-ghost use Rattle.record_table.specs.Reading.{NeverFalls};
 ghost use Rattle.record_table.specs.Tagged.{IsTagged, is_searched};
+ghost use Rattle.record_table.specs.Reading.{ReadsSide};
 
 use catalog_codec::Record;
 use eeprom::{Eeprom, EepromFault};
@@ -27,10 +23,7 @@ pub fn read_entry<R: Record, B: Eeprom>(
     requires over { IsOver store.now (B.chip bench.old) }
     requires slot { slot < store.now.chains.cells }
     ensures value { IfOk result (λ value. IfSome (slots_of store.now side (B.chip bench.old)) (λ slots. value ≡ at_slot R.kind slot slots)) }
-    ensures octets_read { IfOk result (λ _. IfSome (slots_of store.now side (B.chip bench.old))
-        (λ slots. Becomes (RisesAtMost (cell_size * kind_cells R.kind (slice_index_or slots slot None))) (B.octets_read bench.old) (B.octets_read bench.new))) }
-    ensures rises { IfOk result (λ _. NeverFalls (slots_of store.now side (B.chip bench.old)) (B.octets_read bench.old) (B.octets_read bench.new)) }
-    ensures frame { Reads each_error B.chip B.faults bench.old bench.new result }
+    ensures reads { ReadsSide B.chip B.faults B.octets_read store.now side (λ slots. kind_cells R.kind (slice_index_or slots slot None)) bench.old bench.new result }
 {
     if !is_marked::<R>(store, side, slot) {
         return Ok(None);
@@ -55,10 +48,7 @@ pub(crate) fn read_into<R: Record, B: Eeprom>(
     requires over { IsOver store.now (B.chip bench.old) }
     requires slot { slot < store.now.chains.cells }
     ensures value { IfOk result (λ read. IfSome (slots_of store.now side (B.chip bench.old)) (λ slots. (if read then place.new else None) ≡ at_slot R.kind slot slots)) }
-    ensures octets_read { IfOk result (λ _. IfSome (slots_of store.now side (B.chip bench.old))
-        (λ slots. Becomes (RisesAtMost (cell_size * kind_cells R.kind (slice_index_or slots slot None))) (B.octets_read bench.old) (B.octets_read bench.new))) }
-    ensures rises { IfOk result (λ _. NeverFalls (slots_of store.now side (B.chip bench.old)) (B.octets_read bench.old) (B.octets_read bench.new)) }
-    ensures frame { Reads each_error B.chip B.faults bench.old bench.new result }
+    ensures reads { ReadsSide B.chip B.faults B.octets_read store.now side (λ slots. kind_cells R.kind (slice_index_or slots slot None)) bench.old bench.new result }
 {
     if !is_marked::<R>(store, side, slot) {
         return Ok(false);
@@ -80,7 +70,7 @@ pub fn next_slot<R: Record>(store: &Store, slot: u16) -> u16
     if R::has_mark(RowRecord::MARK) {
         slot
     } else {
-        store.end_of_rows(slot)
+        store.end_of_common(slot)
     }
 }
 
@@ -102,7 +92,7 @@ fn is_marked<R: Record>(store: &Store, side: Side, slot: u16) -> bool
     requires { slot < store.now.chains.cells }
     ensures { (image : List ℕ) → StandsFor store.now image → result ≡ listed.has_kind_mark R.kind (record_at store.now side slot image) }
 {
-    match store.kind(side, slot) {
+    match store.first_octet(side, slot) {
         Some(octet) => R::has_mark(octet),
         None => false,
     }

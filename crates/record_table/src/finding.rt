@@ -1,17 +1,8 @@
 // Searches among the records of a kind.
-ghost use Rattle.std.specs.Prelude.{◌≡◌, ◌<◌, ◌≤◌, ◌*◌, None, Some, count_by, false, if◌then◌else◌, IfOk, IfSome, is_some, option_map};
+ghost use Rattle.std.specs.Prelude.{◌≡◌, None, false, if◌then◌else◌};
 ghost use Rattle.std.specs.Option.{option_map_or};
-ghost use Rattle.std.specs.List.{find, list_any};
-ghost use Rattle.eeprom.specs.Chip.{Becomes, RisesAtMost};
-ghost use Rattle.eeprom.specs.Fault.{each_error};
-ghost use Rattle.eeprom.specs.Frame.{Reads};
-ghost use Rattle.eeprom.specs.Slots.{Rises, has};
-ghost use Rattle.eeprom.specs.StoreOf.{cell_size};
 ghost use Rattle.record_store.specs.Held.{IsOver};
-ghost use Rattle.record_store.specs.declared.tags.Tag.TheVariants as by;
-ghost use Rattle.record_table.specs.Listed.{at_slot, in_slots, listed, slots_of};
-ghost use Rattle.record_table.specs.Reading.{NeverFalls};
-ghost use Rattle.record_table.specs.Tagged.{cells_tagged};
+ghost use Rattle.record_table.specs.Searching.{Finds, FindsInto, FindsStamp, FindsStampInto};
 
 use crate::entry::{next_tagged, read_into};
 use crate::{Editable, Stamped, Wanted};
@@ -27,19 +18,7 @@ pub fn find_by<R: Record, W: Wanted<R>, B: Eeprom>(
     wanted: &W,
 ) -> Result<Option<Found<R>>, EepromFault>
     requires over { IsOver store.now (B.chip bench.old) }
-    ensures there { IfOk result (λ found. IfSome found (λ found. found.slot < store.now.chains.cells)) }
-    ensures at { IfOk result (λ found. IfSome found (λ found. IfSome (slots_of store.now side (B.chip bench.old))
-        (λ slots. Some found.value ≡ at_slot R.kind found.slot slots))) }
-    ensures some { IfOk result (λ found. IfSome (slots_of store.now side (B.chip bench.old))
-        (λ slots. is_some found ≡ list_any (W.wants wanted.now) (listed R.kind slots))) }
-    ensures first { IfOk result (λ found. IfSome (slots_of store.now side (B.chip bench.old))
-        (λ slots. option_map (λ found. found.value) found ≡ find (W.wants wanted.now) (in_slots R.kind slots))) }
-    ensures found { IfOk result (λ found. IfSome (slots_of store.now side (B.chip bench.old))
-        (λ slots. count_by (W.wants wanted.now) (listed R.kind slots) ≤ 1 → option_map (λ found. found.value) found ≡ find (W.wants wanted.now) (listed R.kind slots))) }
-    ensures octets_read { IfOk result (λ _. IfSome (slots_of store.now side (B.chip bench.old))
-        (λ slots. Becomes (RisesAtMost (cell_size * cells_tagged R.kind (W.tag_is wanted.now) slots)) (B.octets_read bench.old) (B.octets_read bench.new))) }
-    ensures rises { IfOk result (λ _. NeverFalls (slots_of store.now side (B.chip bench.old)) (B.octets_read bench.old) (B.octets_read bench.new)) }
-    ensures frame { Reads each_error B.chip B.faults bench.old bench.new result }
+    ensures { Finds B.chip B.faults B.octets_read store.now side R.kind (W.wants wanted.now) (W.tag_is wanted.now) bench.old bench.new result }
 {
     let mut place = None;
     let Some(slot) = find_into(store, bench, side, wanted, &mut place)? else {
@@ -61,20 +40,7 @@ pub fn find_into<R: Record, W: Wanted<R>, B: Eeprom>(
     place: &mut Option<R>,
 ) -> Result<Option<u16>, EepromFault>
     requires over { IsOver store.now (B.chip bench.old) }
-    ensures there { IfOk result (λ slot. IfSome slot (λ slot. slot < store.now.chains.cells)) }
-    ensures at { IfOk result (λ slot. IfSome slot (λ slot. IfSome (slots_of store.now side (B.chip bench.old))
-        (λ slots. place.new ≡ at_slot R.kind slot slots))) }
-    ensures both { IfOk result (λ slot. is_some slot ≡ is_some place.new) }
-    ensures some { IfOk result (λ _. IfSome (slots_of store.now side (B.chip bench.old))
-        (λ slots. is_some place.new ≡ list_any (W.wants wanted.now) (listed R.kind slots))) }
-    ensures first { IfOk result (λ _. IfSome (slots_of store.now side (B.chip bench.old))
-        (λ slots. place.new ≡ find (W.wants wanted.now) (in_slots R.kind slots))) }
-    ensures found { IfOk result (λ _. IfSome (slots_of store.now side (B.chip bench.old))
-        (λ slots. count_by (W.wants wanted.now) (listed R.kind slots) ≤ 1 → place.new ≡ find (W.wants wanted.now) (listed R.kind slots))) }
-    ensures octets_read { IfOk result (λ _. IfSome (slots_of store.now side (B.chip bench.old))
-        (λ slots. Becomes (RisesAtMost (cell_size * cells_tagged R.kind (W.tag_is wanted.now) slots)) (B.octets_read bench.old) (B.octets_read bench.new))) }
-    ensures rises { IfOk result (λ _. NeverFalls (slots_of store.now side (B.chip bench.old)) (B.octets_read bench.old) (B.octets_read bench.new)) }
-    ensures frame { Reads each_error B.chip B.faults bench.old bench.new result }
+    ensures { FindsInto B.chip B.faults B.octets_read store.now side R.kind (W.wants wanted.now) (W.tag_is wanted.now) bench.old bench.new place.new result }
 {
     let mut octets = RecordOctets::new();
     let end = store.slots_in_use();
@@ -109,15 +75,7 @@ pub fn find_stamp<R: Editable, B: Eeprom>(
     stamp: u32,
 ) -> Result<Option<Found<R>>, EepromFault>
     requires over { IsOver store.now (B.chip bench.old) }
-    ensures there { IfOk result (λ found. IfSome found (λ found. found.slot < store.now.chains.cells)) }
-    ensures at { IfOk result (λ found. IfSome found (λ found. IfSome (slots_of store.now side (B.chip bench.old))
-        (λ slots. Some found.value ≡ at_slot R.kind found.slot slots))) }
-    ensures found { IfOk result (λ found. IfSome (slots_of store.now side (B.chip bench.old))
-        (λ slots. Rises R.kind.key (listed R.kind slots) → option_map (λ found. found.value) found ≡ find (has R.kind.key stamp) (listed R.kind slots))) }
-    ensures octets_read { IfOk result (λ _. IfSome (slots_of store.now side (B.chip bench.old))
-        (λ slots. Becomes (RisesAtMost (cell_size * cells_tagged R.kind (Some (by.Stamp stamp)) slots)) (B.octets_read bench.old) (B.octets_read bench.new))) }
-    ensures rises { IfOk result (λ _. NeverFalls (slots_of store.now side (B.chip bench.old)) (B.octets_read bench.old) (B.octets_read bench.new)) }
-    ensures frame { Reads each_error B.chip B.faults bench.old bench.new result }
+    ensures { FindsStamp B.chip B.faults B.octets_read store.now side R.kind stamp bench.old bench.new result }
 {
     find_by(store, bench, side, &Stamped(stamp))
 }
@@ -131,16 +89,7 @@ pub fn find_stamp_into<R: Editable, B: Eeprom>(
     place: &mut Option<R>,
 ) -> Result<Option<u16>, EepromFault>
     requires over { IsOver store.now (B.chip bench.old) }
-    ensures there { IfOk result (λ slot. IfSome slot (λ slot. slot < store.now.chains.cells)) }
-    ensures at { IfOk result (λ slot. IfSome slot (λ slot. IfSome (slots_of store.now side (B.chip bench.old))
-        (λ slots. place.new ≡ at_slot R.kind slot slots))) }
-    ensures both { IfOk result (λ slot. is_some slot ≡ is_some place.new) }
-    ensures found { IfOk result (λ _. IfSome (slots_of store.now side (B.chip bench.old))
-        (λ slots. Rises R.kind.key (listed R.kind slots) → place.new ≡ find (has R.kind.key stamp) (listed R.kind slots))) }
-    ensures octets_read { IfOk result (λ _. IfSome (slots_of store.now side (B.chip bench.old))
-        (λ slots. Becomes (RisesAtMost (cell_size * cells_tagged R.kind (Some (by.Stamp stamp)) slots)) (B.octets_read bench.old) (B.octets_read bench.new))) }
-    ensures rises { IfOk result (λ _. NeverFalls (slots_of store.now side (B.chip bench.old)) (B.octets_read bench.old) (B.octets_read bench.new)) }
-    ensures frame { Reads each_error B.chip B.faults bench.old bench.new result }
+    ensures { FindsStampInto B.chip B.faults B.octets_read store.now side R.kind stamp bench.old bench.new place.new result }
 {
     find_into(store, bench, side, &Stamped(stamp), place)
 }

@@ -1,12 +1,7 @@
 // All records of a kind that are wanted are removed, in one pass over the slots.
-ghost use Rattle.std.specs.Prelude.{◌≡◌, ◌+◌, ◌<◌, ◌≤◌, ◌==◌, ◌&&◌, Some, None, IsTrue, IfSome, OnOk, cond, count_by, slice_index_or, slice_set};
-ghost use Rattle.eeprom.specs.Fault.{each_error};
-ghost use Rattle.eeprom.specs.Frame.{Reads};
+ghost use Rattle.std.specs.Prelude.{◌<◌, ◌==◌, ◌&&◌, None, IsTrue, cond, count_by, slice_index_or, slice_set};
 ghost use Rattle.record_store.specs.Held.{IsOver};
-ghost use Rattle.record_store.specs.Transaction.{ChangesWhere, entries};
-ghost use Rattle.record_store.specs.declared.side.Side.TheVariants.{Committed, Working};
-ghost use Rattle.record_table.specs.Listed.{slots_of};
-ghost use Rattle.record_table.specs.Swept.{all_without, has_passing, without_passing};
+ghost use Rattle.record_table.specs.Swept.{all_without, has_passing, without_passing, Sweeps};
 
 use crate::{Wanted, read_entry, remove};
 use catalog_codec::Record;
@@ -21,18 +16,7 @@ pub fn remove_each<R: Record, W: Wanted<R>, B: Eeprom>(
 ) -> Result<(), EepromFault>
     requires begun { IsTrue store.old.begun }
     requires over { IsOver store.old (B.chip bench.old) }
-    ensures removed { OnOk result (IfSome (slots_of store.old Working (B.chip bench.old))
-        (λ slots. slots_of store.new Working (B.chip bench.new) ≡ Some (all_without R.kind (W.wants wanted.now) slots))) }
-    ensures committed { OnOk result (slots_of store.new Committed (B.chip bench.new) ≡ slots_of store.old Committed (B.chip bench.old)) }
-    ensures over { OnOk result (IsOver store.new (B.chip bench.new)) }
-    ensures begun { OnOk result (store.new.begun ≡ store.old.begun) }
-    ensures cells { OnOk result (store.new.chains.cells ≡ store.old.chains.cells) }
-    ensures rows { OnOk result (store.new.row_limit ≡ store.old.row_limit) }
-    ensures only { OnOk result (IfSome (slots_of store.old Working (B.chip bench.old))
-        (λ slots. ChangesWhere (λ slot. has_passing R.kind (W.wants wanted.now) (slice_index_or slots slot None)) store.old store.new)) }
-    ensures entries { OnOk result (IfSome (slots_of store.old Working (B.chip bench.old))
-        (λ slots. entries store.new ≤ entries store.old + count_by (has_passing R.kind (W.wants wanted.now)) slots)) }
-    ensures frame { Reads each_error B.chip B.faults bench.old bench.new result }
+    ensures { Sweeps B.chip B.faults (all_without R.kind (W.wants wanted.now)) (λ slots slot. has_passing R.kind (W.wants wanted.now) (slice_index_or slots slot None)) (count_by (has_passing R.kind (W.wants wanted.now))) bench.old bench.new store.old store.new result }
 {
     let mut octets = RecordOctets::new();
     for slot in 0..store.slots_in_use() {
@@ -52,18 +36,8 @@ fn remove_wanted<R: Record, W: Wanted<R>, B: Eeprom>(
     requires begun { IsTrue store.old.begun }
     requires over { IsOver store.old (B.chip bench.old) }
     requires slot { slot < store.old.chains.cells }
-    ensures removed { OnOk result (IfSome (slots_of store.old Working (B.chip bench.old))
-        (λ slots. slots_of store.new Working (B.chip bench.new) ≡ Some (slice_set slots slot (without_passing R.kind (W.wants wanted.now) (slice_index_or slots slot None))))) }
-    ensures committed { OnOk result (slots_of store.new Committed (B.chip bench.new) ≡ slots_of store.old Committed (B.chip bench.old)) }
-    ensures over { OnOk result (IsOver store.new (B.chip bench.new)) }
-    ensures begun { OnOk result (store.new.begun ≡ store.old.begun) }
-    ensures cells { OnOk result (store.new.chains.cells ≡ store.old.chains.cells) }
-    ensures rows { OnOk result (store.new.row_limit ≡ store.old.row_limit) }
-    ensures only { OnOk result (IfSome (slots_of store.old Working (B.chip bench.old))
-        (λ slots. ChangesWhere (λ other. other == slot && has_passing R.kind (W.wants wanted.now) (slice_index_or slots slot None)) store.old store.new)) }
-    ensures entries { OnOk result (IfSome (slots_of store.old Working (B.chip bench.old))
-        (λ slots. entries store.new ≤ entries store.old + cond (has_passing R.kind (W.wants wanted.now) (slice_index_or slots slot None)) 1 0)) }
-    ensures frame { Reads each_error B.chip B.faults bench.old bench.new result }
+    ensures { Sweeps B.chip B.faults (λ slots. slice_set slots slot (without_passing R.kind (W.wants wanted.now) (slice_index_or slots slot None))) (λ slots other. other == slot && has_passing R.kind (W.wants wanted.now) (slice_index_or slots slot None))
+        (λ slots. cond (has_passing R.kind (W.wants wanted.now) (slice_index_or slots slot None)) 1 0) bench.old bench.new store.old store.new result }
 {
     if let Some(entry) = read_entry::<R, B>(store, bench, Side::Working, slot, octets)? {
         if wanted.is(&entry) {

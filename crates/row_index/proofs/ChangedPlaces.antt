@@ -1,24 +1,30 @@
 -- What becomes of the places of the rows of slots when one slot is changed.
-use Rattle.std.proofs.Common.{◌≡◌, ℕ, zero, suc, ◌+◌, ◌<◌, ◌≤◌, Bool, true, false, cond, not, ltb, eqb, List, [], ◌∷◌, ◌++◌, length, Option, Some, None, get_or, inl, inr, refl, sym, ap, ◌∙◌, arith, subst}
+use Rattle.std.proofs.Common.{◌≡◌, ℕ, zero, suc, ◌+◌, ◌<◌, ◌≤◌, Bool, true, false, cond, not, ltb, eqb, List, [], ◌∷◌, ◌++◌, length, map, Option, Some, None, get_or, inl, inr, refl, sym, ap, ◌∙◌, arith, subst}
 use Rattle.std.proofs.Math.ListN.{set}
-use Rattle.std.proofs.lemmas.List.{length-set}
+use Rattle.std.proofs.lemmas.List.{get_or-set_other, get_or-set_same, length-map, length-set}
+use Rattle.std.proofs.lemmas.Option.{none-some}
 use Rattle.std.specs.Prelude.{option_map}
-use Rattle.std.specs.List.{filter, cons_option, count_by, list_all, list_any, AllByRecursion}
-use Rattle.std.proofs.lemmas.Bool.{cases_Bool, ltb-true, ltb-false, lt-ltb, eq-eqb, ne_eqb, and_from, not_from_false}
+use Rattle.std.specs.List.{filter, cons_option, count_by, AllByRecursion}
+use Rattle.std.proofs.lemmas.Bool.{cases_Bool, eq-eqb, eqb-true, eqb-false, ne_eqb}
 use Rattle.std.proofs.lemmas.List.Sums.{sum_by-append}
-use Rattle.eeprom.specs.Slots.{has, in_order, put_in_order, without}
+use Rattle.eeprom.specs.Slots.{AreApart, has, in_order, put_in_order, without}
 use Rattle.eeprom.specs.StoreOf.{Slots}
-use Rattle.eeprom.proofs.InOrder.{counts, counts_not, count-below, count_by-in_order, in_order-middle, put_in_order-last, list_any-in_order, without-none}
+use Rattle.eeprom.proofs.InOrder.{all-filter, counts_not, count_by-cons, count_by-in_order, in_order-middle, without-none}
 use Rattle.scql_base.specs.declared.records.RowRecord.{RowRecord}
 use Rattle.catalog_codec.specs.Catalog.{row_kind}
-use Rattle.record_table.specs.Changed.{IsAdded, IsChanged, IsEmptied}
+use Rattle.record_table.specs.Changed.{IsChanged, IsEmptied}
 use Rattle.catalog_codec.specs.CatalogLaws.{IsKind-row}
 use Rattle.record_table.specs.Listed.{at_slot}
-use Rattle.row_index.specs.Index.{HasRows, Index, is_above, may_add}
-use Rattle.row_index.specs.Places.{place_in, place_of, place_slot, place_stamp, row_places}
+use Rattle.row_index.specs.Index.{AreStamps, HasRows, IsOneMoreRow}
+use Rattle.row_index.specs.Places.{is_in_table, place_in, place_key, place_of, place_slot, place_stamp, row_places}
+use Rattle.row_index.specs.SideRows.{AreInOrder, AreRows, SideRows, places_of, without_slot, without_table}
 use Rattle.row_index.specs.declared.place.RowPlace.{RowPlace}
-use Rattle.row_index.proofs.Changes.{length-in_order}
+use Rattle.row_index.proofs.Changes.{AreApart-put, length-in_order}
+use Rattle.row_index.proofs.Filtered.{all-put_in_order, filter-in_order_all}
 use Rattle.row_index.proofs.Scans.{row_in_slot, places_from, slots_from, none_lower, lower_part}
+use Rattle.row_index.proofs.SlotPlaces.{count_by-map, filter-map, places-of_rows, rows-of_places}
+use Rattle.row_index.proofs.Tables.{new_key}
+use Rattle.row_index.proofs.Stamped.{order-told, places-stamped, row-stamped, stamped-each}
 
 -- The places before a slot, and those behind it: what the slot has stands between.
 record Split (slot : ℕ) (first : ℕ) (entry : Option (List ℕ)) (slots : Slots) : Type 0 where
@@ -58,94 +64,29 @@ pub places-same : (slot : ℕ) (entry : Option (List ℕ)) (slots : Slots) → s
 places-same slot entry slots within same =
     let s = split_at slot 0 entry slots within in
     let e : place_in (0 + slot, entry) ≡ place_in (0 + slot, get_or slots slot None) = subst (λ n. place_in (n, entry) ≡ place_in (n, get_or slots slot None)) (zero_more slot) same in
-    ap (in_order place_stamp) (s.new ∙ ap (λ o. s.before ++ cons_option o s.behind) e ∙ sym s.old)
+    ap (in_order place_key) (s.new ∙ ap (λ o. s.before ++ cons_option o s.behind) e ∙ sym s.old)
   where
     zero_more : (n : ℕ) → n ≡ 0 + n
     zero_more n = omega arith
 
--- an empty slot is given a row of a stamp above all others
-pub places-added : (slot : ℕ) (entry : Option (List ℕ)) (row : RowRecord) (slots : Slots) → slot < length slots → get_or slots slot None ≡ None → row_in_slot entry ≡ Some row
-    → AllByRecursion (λ place. place_stamp place < row.stamp) (row_places slots) → row_places (set slots slot entry) ≡ row_places slots ++ place_of slot row ∷ []
-places-added slot entry row slots within none reads below =
+-- a slot without a row is given one of a new key
+places-added : (slot : ℕ) (entry : Option (List ℕ)) (row : RowRecord) (slots : Slots) → slot < length slots → row_in_slot (get_or slots slot None) ≡ None → row_in_slot entry ≡ Some row
+    → count_by (has place_key (place_key (place_of slot row))) (row_places slots) ≡ 0 → row_places (set slots slot entry) ≡ put_in_order place_key (place_of slot row) (row_places slots)
+places-added slot entry row slots within none reads new =
     let s = split_at slot 0 entry slots within in
-    let old : places_from 0 slots ≡ s.before ++ s.behind = s.old ∙ ap (λ e. s.before ++ cons_option (place_in (0 + slot, e)) s.behind) none in
+    let key = place_key (place_of slot row) in
+    let old : places_from 0 slots ≡ s.before ++ s.behind = s.old ∙ ap (λ o. s.before ++ cons_option (option_map (place_of (0 + slot)) o) s.behind) none in
     let at : place_of (0 + slot) row ≡ place_of slot row = ap (λ n. place_of n row) (less_zero slot) in
-    let new : places_from 0 (set slots slot entry) ≡ s.before ++ place_of slot row ∷ s.behind =
+    let now : places_from 0 (set slots slot entry) ≡ s.before ++ place_of slot row ∷ s.behind =
     s.new ∙ ap (λ o. s.before ++ cons_option (option_map (place_of (0 + slot)) o) s.behind) reads ∙ ap (λ place. s.before ++ place ∷ s.behind) at in
-    let a = count-below place_stamp row.stamp (row_places slots) below in
-    let b = count_by-in_order place_stamp (has place_stamp row.stamp) (places_from 0 slots) in
-    let c = ap (count_by (has place_stamp row.stamp)) old in
-    let d = sum_by-append (λ y. cond (has place_stamp row.stamp y) 1 0) s.before s.behind in
-    let free : count_by (has place_stamp row.stamp) s.before ≡ 0 = omega arith in
-    ap (in_order place_stamp) new ∙ in_order-middle place_stamp (place_of slot row) s.before s.behind free ∙ ap (λ xs. put_in_order place_stamp (place_of slot row) (in_order place_stamp xs)) (sym old)
-    ∙ put_in_order-last place_stamp (place_of slot row) (row_places slots) below
+    let b = count_by-in_order place_key (has place_key key) (places_from 0 slots) in
+    let c = ap (count_by (has place_key key)) old in
+    let d = sum_by-append (λ y. cond (has place_key key y) 1 0) s.before s.behind in
+    let free : count_by (has place_key key) s.before ≡ 0 = omega arith in
+    ap (in_order place_key) now ∙ in_order-middle place_key (place_of slot row) s.before s.behind free ∙ ap (λ xs. put_in_order place_key (place_of slot row) (in_order place_key xs)) (sym old)
   where
     less_zero : (n : ℕ) → 0 + n ≡ n
     less_zero n = omega arith
-
--- whether keys never fall; so they are in order
-abbrev pub NeverFalls : {X : Type 0} → (X → ℕ) → List X → Type 0
-NeverFalls key [] = Unit {0}
-NeverFalls key (x ∷ xs) = AllByRecursion (λ y. key x ≤ key y) xs × NeverFalls key xs
-
-put_all : {X : Type 0} (key : X → ℕ) (P : X → Type 0) (x : X) (xs : List X) → P x → AllByRecursion P xs → AllByRecursion P (put_in_order key x xs)
-put_all key P x [] here all = (here, tt)
-put_all key P x (y ∷ ys) here all =
-    elim (cases_Bool (ltb (key x) (key y))) [
-      | inl t ↦ rw t (here, all)
-      | inr f ↦ rw f (all.0, put_all key P x ys here all.1)
-    ]
-
-weaker : {X : Type 0} (key : X → ℕ) (k m : ℕ) (xs : List X) → k ≤ m → AllByRecursion (λ y. m ≤ key y) xs → AllByRecursion (λ y. k ≤ key y) xs
-weaker key k m [] le all = tt
-weaker key k m (x ∷ xs) le all = (omega (arith, all.0), weaker key k m xs le all.1)
-
-NeverFalls-put : {X : Type 0} (key : X → ℕ) (x : X) (xs : List X) → NeverFalls key xs → NeverFalls key (put_in_order key x xs)
-NeverFalls-put key x [] up = (tt, tt)
-NeverFalls-put key x (y ∷ ys) up =
-    elim (cases_Bool (ltb (key x) (key y))) [
-      | inl t ↦ (let less = ltb-true (key x) (key y) t in rw t ((omega arith, weaker key (key x) (key y) ys (omega arith) up.0), up))
-      | inr f ↦ (let most = ltb-false (key x) (key y) f in rw f (put_all key (λ z. key y ≤ key z) x ys most up.0, NeverFalls-put key x ys up.1))
-    ]
-
-NeverFalls-in_order : {X : Type 0} (key : X → ℕ) (xs : List X) → NeverFalls key (in_order key xs)
-NeverFalls-in_order key [] = tt
-NeverFalls-in_order key (x ∷ xs) = NeverFalls-put key x (in_order key xs) (NeverFalls-in_order key xs)
-
--- an element goes before the first of those that are left as among all
-put-first : {X : Type 0} (key : X → ℕ) (p : X → Bool) (x : X) (k : ℕ) (xs : List X) → key x < k → AllByRecursion (λ y. k ≤ key y) xs → put_in_order key x (filter p xs) ≡ x ∷ filter p xs
-put-first key p x k [] less all = refl
-put-first key p x k (y ∷ ys) less all =
-    elim (cases_Bool (p y)) [
-      | inl t ↦ rw (t, lt-ltb (key x) (key y) (omega (arith, all.0))) refl
-      | inr f ↦ rw f (put-first key p x k ys less all.1)
-    ]
-
-filter-put : {X : Type 0} (key : X → ℕ) (p : X → Bool) (x : X) (xs : List X) → NeverFalls key xs → filter p (put_in_order key x xs) ≡ cond (p x) (put_in_order key x (filter p xs)) (filter p xs)
-filter-put key p x [] up = refl
-filter-put key p x (y ∷ ys) up =
-    elim (cases_Bool (ltb (key x) (key y))) [
-      | inl t ↦ (let less = ltb-true (key x) (key y) t in
-          let first = put-first key p x (key y) (y ∷ ys) less (omega arith, up.0) in
-          rw t (ap (λ kept. cond (p x) kept (filter p (y ∷ ys))) (sym first)))
-      | inr f ↦ (let rest = filter-put key p x ys up.1 in
-          elim (cases_Bool (p y)) [
-            | inl t ↦ elim (cases_Bool (p x)) [
-              | inl u ↦ (let r = rw u at rest in rw (f, t, u, f) (ap (λ zs. y ∷ zs) r))
-              | inr g ↦ (let r = rw g at rest in rw (f, t, g) (ap (λ zs. y ∷ zs) r))
-            ]
-            | inr g ↦ rw (f, g) rest
-          ])
-    ]
-
-pub filter-in_order_all : {X : Type 0} (key : X → ℕ) (p : X → Bool) (xs : List X) → filter p (in_order key xs) ≡ in_order key (filter p xs)
-filter-in_order_all key p [] = refl
-filter-in_order_all key p (x ∷ xs) =
-    filter-put key p x (in_order key xs) (NeverFalls-in_order key xs)
-    ∙ elim (cases_Bool (p x)) [
-      | inl t ↦ rw t (ap (put_in_order key x) (filter-in_order_all key p xs))
-      | inr f ↦ rw f (filter-in_order_all key p xs)
-    ]
 
 -- of the places from a number on, those in lesser slots are none
 none_before : (first slot : ℕ) (slots : Slots) → slot < first → count_by (has place_slot slot) (places_from first slots) ≡ 0
@@ -173,113 +114,172 @@ places_from-emptied (suc slot) first (entry ∷ slots) within =
     one (Some row) rest = rw (ne_eqb first (first + suc slot) (omega arith)) (ap (λ places. place_of first row ∷ places) rest)
 
 -- there are no more places than slots, and fewer where a slot is empty
-most_places : (first : ℕ) (slots : Slots) → length (places_from first slots) ≤ length slots
-most_places first [] = omega arith
-most_places first (entry ∷ slots) = one (row_in_slot entry) (most_places (suc first) slots)
+pub most-places : (first : ℕ) (slots : Slots) → length (places_from first slots) ≤ length slots
+most-places first [] = omega arith
+most-places first (entry ∷ slots) = one (row_in_slot entry) (most-places (suc first) slots)
   where
     one : (row : Option RowRecord) → length (places_from (suc first) slots) ≤ length slots → length (cons_option (option_map (place_of first) row) (places_from (suc first) slots)) ≤ suc (length slots)
     one None most = omega arith
     one (Some row) most = omega arith
 
-fewer_places : (slot first : ℕ) (slots : Slots) → slot < length slots → get_or slots slot None ≡ None → length (places_from first slots) < length slots
+fewer_places : (slot first : ℕ) (slots : Slots) → slot < length slots → row_in_slot (get_or slots slot None) ≡ None → length (places_from first slots) < length slots
 fewer_places slot first [] within none = absurd (omega arith)
-fewer_places zero first (entry ∷ slots) within none = rw none (let m = most_places (suc first) slots in omega arith)
+fewer_places zero first (entry ∷ slots) within none = rw none (let m = most-places (suc first) slots in omega arith)
 fewer_places (suc slot) first (entry ∷ slots) within none = one (row_in_slot entry) (fewer_places slot (suc first) slots (omega arith) none)
   where
     one : (row : Option RowRecord) → length (places_from (suc first) slots) < length slots → length (cons_option (option_map (place_of first) row) (places_from (suc first) slots)) < suc (length slots)
     one None few = omega arith
     one (Some row) few = omega arith
 
-any-none : {X : Type 0} (p : X → Bool) (xs : List X) → count_by p xs ≡ 0 → list_any p xs ≡ false
-any-none p [] none = refl
-any-none p (x ∷ xs) none =
-    elim (cases_Bool (p x)) [
-      | inl t ↦ absurd (let c = counts p x xs t in omega arith)
-      | inr f ↦ rw f (any-none p xs (let c = counts_not p x xs f in omega arith))
-    ]
-
--- an empty slot has no place
-free_slot : (slot first : ℕ) (slots : Slots) → get_or slots slot None ≡ None → list_any (has place_slot (first + slot)) (places_from first slots) ≡ false
+-- a slot without a row has no place
+free_slot : (slot first : ℕ) (slots : Slots) → row_in_slot (get_or slots slot None) ≡ None → count_by (has place_slot (first + slot)) (places_from first slots) ≡ 0
 free_slot slot first [] none = refl
 free_slot zero first (entry ∷ slots) none =
     let same : first + 0 ≡ first = omega arith in
-    rw none (subst (λ n. list_any (has place_slot n) (places_from (suc first) slots) ≡ false) (sym same) (any-none (has place_slot first) (places_from (suc first) slots) (none_before (suc first) first slots (omega arith))))
+    rw none (subst (λ n. count_by (has place_slot n) (places_from (suc first) slots) ≡ 0) (sym same) (none_before (suc first) first slots (omega arith)))
 free_slot (suc slot) first (entry ∷ slots) none =
     let same : suc first + slot ≡ first + suc slot = omega arith in
-    one (row_in_slot entry) (subst (λ n. list_any (has place_slot n) (places_from (suc first) slots) ≡ false) same (free_slot slot (suc first) slots none))
+    one (row_in_slot entry) (subst (λ n. count_by (has place_slot n) (places_from (suc first) slots) ≡ 0) same (free_slot slot (suc first) slots none))
   where
-    one : (row : Option RowRecord) → list_any (has place_slot (first + suc slot)) (places_from (suc first) slots) ≡ false
-        → list_any (has place_slot (first + suc slot)) (cons_option (option_map (place_of first) row) (places_from (suc first) slots)) ≡ false
+    one : (row : Option RowRecord) → count_by (has place_slot (first + suc slot)) (places_from (suc first) slots) ≡ 0
+        → count_by (has place_slot (first + suc slot)) (cons_option (option_map (place_of first) row) (places_from (suc first) slots)) ≡ 0
     one None rest = rest
-    one (Some row) rest = rw (ne_eqb first (first + suc slot) (omega arith)) rest
+    one (Some row) rest = counts_not (has place_slot (first + suc slot)) (place_of first row) (places_from (suc first) slots) (ne_eqb first (first + suc slot) (omega arith)) ∙ rest
 
--- a row that is added to an empty slot, and whose stamp is above all others, stands last among the places
-pub HasRows-added : (cells : ℕ) (places : List RowPlace) (row : RowRecord) (slot : ℕ) (old new : Slots) → HasRows cells places old → IsAdded row_kind row slot old new → row_kind.form.fits row ≡ true → slot < cells
-    → AllByRecursion (λ place. place_stamp place < row.stamp) places → HasRows cells (places ++ place_of slot row ∷ []) new
-HasRows-added cells places row slot old new has_rows added fits there below =
-    let within : slot < length old = omega (arith, there, has_rows.all) in
-    record {
-      all = ap length added.is ∙ length-set old slot _ ∙ has_rows.all;
-      are = ap (λ xs. xs ++ place_of slot row ∷ []) has_rows.are
-          ∙ sym (ap row_places added.is ∙ places-added slot _ row old within added.empty (IsKind-row.again row fits) (subst (AllByRecursion (λ place. place_stamp place < row.stamp)) has_rows.are below));
-    }
+-- slots that have the same rows have the same places of rows
+pub same_places : (first : ℕ) (old new : Slots) → length new ≡ length old → ((slot : ℕ) → at_slot row_kind slot new ≡ at_slot row_kind slot old) → places_from first new ≡ places_from first old
+same_places first [] [] many same = refl
+same_places first [] (y ∷ ys) many same = absurd (omega (arith, many))
+same_places first (x ∷ xs) [] many same = absurd (omega (arith, many))
+same_places first (x ∷ xs) (y ∷ ys) many same =
+    ap (λ row. cons_option (option_map (place_of first) row) (places_from (suc first) ys)) (same 0)
+    ∙ ap (cons_option (option_map (place_of first) (row_in_slot x))) (same_places (suc first) xs ys (omega (arith, many)) (λ slot. same (suc slot)))
 
--- its slot had no place before, and there was room
-pub room-added : (cells : ℕ) (places : List RowPlace) (slot : ℕ) (slots : Slots) → HasRows cells places slots → get_or slots slot None ≡ None → slot < cells
-    → (list_any (has place_slot slot) places ≡ false) × (length places < cells)
-room-added cells places slot slots has_rows none there =
-    let within : slot < length slots = omega (arith, there, has_rows.all) in
-    let free : list_any (has place_slot slot) (row_places slots) ≡ false =
-    list_any-in_order place_stamp (has place_slot slot) (places_from 0 slots) ∙ subst (λ n. list_any (has place_slot n) (places_from 0 slots) ≡ false) (less_zero slot) (free_slot slot 0 slots none) in
-    let few = fewer_places slot 0 slots within none in
-    let many = length-in_order place_stamp (places_from 0 slots) in
-    (rw has_rows.are free, omega (arith, ap length has_rows.are, has_rows.all))
+within-some : {X : Type 0} (xs : List (Option X)) (i : ℕ) (x : X) → get_or xs i None ≡ Some x → i < length xs
+within-some [] i x is = absurd (none-some x is)
+within-some (y ∷ ys) zero x is = omega arith
+within-some (y ∷ ys) (suc i) x is = (let rest = within-some ys i x is in omega arith)
+
+-- a slot with a row is one of the slots
+within-row : (slots : Slots) (slot : ℕ) (row : RowRecord) → at_slot row_kind slot slots ≡ Some row → slot < length slots
+within-row slots slot row at = of (get_or slots slot None) refl at
+  where
+    of : (entry : Option (List ℕ)) → get_or slots slot None ≡ entry → row_in_slot entry ≡ Some row → slot < length slots
+    of None is at = absurd (none-some row at)
+    of (Some octets) is at = within-some slots slot octets is
+
+-- where a row is added to a slot, its place is put among the others
+row_places-added : (table slot : ℕ) (before after : Slots) (more : IsOneMoreRow table slot before after) → count_by (has place_key (place_key (place_of slot more.row))) (row_places before) ≡ 0
+    → row_places after ≡ put_in_order place_key (place_of slot more.row) (row_places before)
+row_places-added table slot before after more new =
+    let entry = get_or after slot None in
+    let within : slot < length before = (let there = within-row after slot more.row more.at in omega (arith, there, more.all)) in
+    let each : (other : ℕ) → at_slot row_kind other after ≡ at_slot row_kind other (set before slot entry)
+    = λ other. elim (cases_Bool (eqb other slot)) [
+      | inl t ↦ (let same = eqb-true other slot t in rw same (ap row_in_slot (sym (get_or-set_same before slot entry None within))))
+      | inr f ↦ more.others other (eqb-false other slot f) ∙ ap row_in_slot (sym (get_or-set_other before slot other entry None (eqb-false other slot f)))
+    ] in
+    ap (in_order place_key) (same_places 0 (set before slot entry) after (more.all ∙ sym (length-set before slot entry)) each)
+    ∙ places-added slot entry more.row before within more.empty more.at new
+
+same_place : (a b c d slot : ℕ) → a ≡ b → c ≡ d → ◌≡◌ {A = RowPlace} (record { stamp = a; table = c; slot = slot }) (record { stamp = b; table = d; slot = slot })
+same_place a b c d slot p q = cc
+
+-- there is room for the row that is added, and its slot is none of the others'
+pub room-added : (cells table slot : ℕ) (rows : SideRows) (before after : Slots) → HasRows cells rows before → IsOneMoreRow table slot before after → (slot < cells) × (length rows.slots < cells) × (count_by (λ other. eqb other slot) rows.slots ≡ 0)
+room-added cells table slot rows before after has_rows more =
+    let within : slot < length before = (let there = within-row after slot more.row more.at in omega (arith, there, more.all)) in
+    let few = fewer_places slot 0 before within more.empty in
+    let many = length-in_order place_key (places_from 0 before) in
+    let len = ap length has_rows.are.slots ∙ length-map (row_places before) place_slot in
+    let free = ap (count_by (λ other. eqb other slot)) has_rows.are.slots ∙ count_by-map (λ other. eqb other slot) place_slot (row_places before)
+    ∙ count_by-in_order place_key (has place_slot slot) (places_from 0 before) ∙ subst (λ n. count_by (has place_slot n) (places_from 0 before) ≡ 0) (less_zero slot) (free_slot slot 0 before more.empty) in
+    (omega (arith, within, has_rows.all), omega (arith, len, many, few, has_rows.all), free)
   where
     less_zero : (n : ℕ) → 0 + n ≡ n
     less_zero n = omega arith
+
+-- The rows are those of the slots again when the one that is added was put among them.
+pub HasRows-added : (cells table slot : ℕ) (rows next : SideRows) (stamps : List ℕ) (before after : Slots) → HasRows cells rows before → IsOneMoreRow table slot before after → AreStamps stamps after → get_or stamps slot 0 < 4294967296
+    → (AreInOrder (places_of stamps rows) → places_of stamps next ≡ put_in_order place_key (record { stamp = get_or stamps slot 0; table = table; slot = slot }) (places_of stamps rows)) → HasRows cells next after
+HasRows-added cells table slot rows next stamps before after has_rows more are_stamps fits put =
+    let row = more.row in
+    let place : RowPlace = place_of slot row in
+    let stamp : get_or stamps slot 0 ≡ row.stamp = row-stamped stamps after slot row are_stamps more.at in
+    let small : row.stamp < 4294967296 = subst (λ n. n < 4294967296) stamp fits in
+    let stamped = stamped-each stamps before (λ at other is. row-stamped stamps after at other are_stamps (more.others at (λ same. none-some other (sym more.empty ∙ sym (ap (λ n. at_slot row_kind n before) same) ∙ is)) ∙ is)) in
+    let here : places_of stamps rows ≡ row_places before = places-of_rows stamps rows (row_places before) has_rows.are stamped in
+    let order = order-told cells rows before has_rows in
+    let new = new_key place (row_places before) small has_rows.fits more.new in
+    let own : record { stamp = get_or stamps slot 0; table = table; slot = slot } ≡ place = same_place (get_or stamps slot 0) row.stamp table row.table slot stamp (sym more.of_table) in
+    let after_are = row_places-added table slot before after more new in
+    let now : places_of stamps next ≡ row_places after = put (subst AreInOrder (sym here) order) ∙ ap (λ (p : RowPlace). put_in_order place_key p (places_of stamps rows)) own ∙ ap (put_in_order place_key place) here ∙ sym after_are in
+    record {
+      all = more.all ∙ has_rows.all;
+      are = subst (AreRows next) now (rows-of_places stamps next);
+      apart = subst (AreApart place_stamp) (sym after_are) (AreApart-put place_key place_stamp place (row_places before) has_rows.apart more.new);
+      fits = subst (AllByRecursion (λ (p : RowPlace). place_stamp p < 4294967296)) (sym after_are) (all-put_in_order place_key (λ p. place_stamp p < 4294967296) place (row_places before) small has_rows.fits);
+    }
+
+-- slots with the same places have the same rows
+pub HasRows-same : (cells : ℕ) (rows : SideRows) (old new : Slots) → HasRows cells rows old → length new ≡ cells → row_places new ≡ row_places old → HasRows cells rows new
+HasRows-same cells rows old new has_rows all same = record { all = all; are = rw same has_rows.are; apart = rw same has_rows.apart; fits = rw same has_rows.fits }
 
 -- a row in the place of one with its stamp and its table leaves the places
-pub HasRows-changed : (cells : ℕ) (places : List RowPlace) (was row : RowRecord) (slot : ℕ) (old new : Slots) → HasRows cells places old → IsChanged row_kind row slot old new → row_kind.form.fits row ≡ true → slot < cells
-    → at_slot row_kind slot old ≡ Some was → row.stamp ≡ was.stamp → row.table ≡ was.table → HasRows cells places new
-HasRows-changed cells places was row slot old new has_rows changed fits there at stamp table =
+pub HasRows-changed : (cells : ℕ) (rows : SideRows) (was row : RowRecord) (slot : ℕ) (old new : Slots) → HasRows cells rows old → IsChanged row_kind row slot old new → row_kind.form.fits row ≡ true → slot < cells
+    → at_slot row_kind slot old ≡ Some was → row.stamp ≡ was.stamp → row.table ≡ was.table → HasRows cells rows new
+HasRows-changed cells rows was row slot old new has_rows changed fits there at stamp table =
     let within : slot < length old = omega (arith, there, has_rows.all) in
-    let same_place : place_of slot row ≡ place_of slot was = made row.stamp was.stamp row.table was.table stamp table in
-    record {
-      all = ap length changed ∙ length-set old slot _ ∙ has_rows.all;
-      are = has_rows.are ∙ sym (ap row_places changed ∙ places-same slot _ old within (ap (option_map (place_of slot)) (IsKind-row.again row fits) ∙ ap Some same_place ∙ sym (ap (option_map (place_of slot)) at)));
-    }
-  where
-    made : (a b c d : ℕ) → a ≡ b → c ≡ d → ◌≡◌ {A = RowPlace} (record { stamp = a; table = c; slot = slot }) (record { stamp = b; table = d; slot = slot })
-    made a b c d p q = cc
+    let same = same_place row.stamp was.stamp row.table was.table slot stamp table in
+    HasRows-same cells rows old new has_rows (ap length changed ∙ length-set old slot _ ∙ has_rows.all)
+    (ap row_places changed ∙ places-same slot _ old within (ap (option_map (place_of slot)) (IsKind-row.again row fits) ∙ ap Some same ∙ sym (ap (option_map (place_of slot)) at)))
 
--- a slot that is emptied has no place, and all others stay
-pub HasRows-removed : (cells : ℕ) (places : List RowPlace) (slot : ℕ) (old new : Slots) → HasRows cells places old → IsEmptied slot old new → slot < cells → HasRows cells (without place_slot slot places) new
-HasRows-removed cells places slot old new has_rows emptied there =
+filter_count : {X : Type 0} (p q : X → Bool) (xs : List X) → count_by q (filter p xs) ≤ count_by q xs
+filter_count p q [] = omega arith
+filter_count p q (x ∷ xs) =
+    let rest = filter_count p q xs in
+    let c = count_by-cons q x xs in
+    elim (cases_Bool (p x)) [
+      | inl t ↦ rw t (let d = count_by-cons q x (filter p xs) in omega arith)
+      | inr f ↦ rw f (omega arith)
+    ]
+
+-- what is left of the rows, where some of their places are left
+pub HasRows-left : (cells : ℕ) (p : RowPlace → Bool) (rows left : SideRows) (old new : Slots) → HasRows cells rows old → length new ≡ cells → row_places new ≡ filter p (row_places old)
+    → left.tables ≡ rows.tables → left.slots ≡ map place_slot (filter p (row_places old)) → HasRows cells left new
+HasRows-left cells p rows left old new has_rows all places tables slots = record {
+  all = all;
+  are = rw places record {
+    slots = slots;
+    tables = rw tables (all-filter (λ (place : RowPlace). get_or rows.tables place.slot 0 ≡ place.table) p (row_places old) has_rows.are.tables);
+  };
+  apart = rw places (λ k. let a = has_rows.apart k in let b = filter_count p (has place_stamp k) (row_places old) in omega arith);
+  fits = rw places (all-filter (λ (place : RowPlace). place_stamp place < 4294967296) p (row_places old) has_rows.fits);
+}
+
+-- a slot that is emptied has no row, and all others stay
+pub HasRows-removed : (cells : ℕ) (rows : SideRows) (slot : ℕ) (old new : Slots) → HasRows cells rows old → IsEmptied slot old new → slot < cells → HasRows cells (without_slot slot rows) new
+HasRows-removed cells rows slot old new has_rows emptied there =
     let within : slot < length old = omega (arith, there, has_rows.all) in
-    let kept : in_order place_stamp (without place_slot slot (places_from 0 old)) ≡ without place_slot slot (row_places old) =
-    sym (filter-in_order_all place_stamp (λ y. not (eqb (place_slot y) slot)) (places_from 0 old)) in
-    record {
-      all = ap length emptied ∙ length-set old slot _ ∙ has_rows.all;
-      are = ap (without place_slot slot) has_rows.are ∙ sym kept
-          ∙ ap (in_order place_stamp) (sym (subst (λ n. places_from 0 (set old slot None) ≡ without place_slot n (places_from 0 old)) (less_zero slot) (places_from-emptied slot 0 old within)))
-          ∙ ap row_places (sym emptied);
-    }
+    let test = λ (y : RowPlace). not (eqb (place_slot y) slot) in
+    let places : row_places new ≡ filter test (row_places old) =
+    ap row_places emptied ∙ ap (in_order place_key) (subst (λ n. places_from 0 (set old slot None) ≡ without place_slot n (places_from 0 old)) (less_zero slot) (places_from-emptied slot 0 old within))
+    ∙ sym (filter-in_order_all place_key test (places_from 0 old)) in
+    HasRows-left cells test rows (without_slot slot rows) old new has_rows (ap length emptied ∙ length-set old slot _ ∙ has_rows.all) places refl
+    (ap (filter (λ other. not (eqb other slot))) has_rows.are.slots ∙ filter-map (λ other. not (eqb other slot)) place_slot (row_places old))
   where
     less_zero : (n : ℕ) → 0 + n ≡ n
     less_zero n = omega arith
 
-list_all-all : {X : Type 0} (p : X → Bool) (P : X → Type 0) (xs : List X) → ((x : X) → P x → p x ≡ true) → AllByRecursion P xs → list_all p xs ≡ true
-list_all-all p P [] says all = refl
-list_all-all p P (x ∷ xs) says all = and_from (p x) (list_all p xs) (says x all.0) (list_all-all p P xs says all.1)
-
--- a row may be added whose stamp is above all others, to a slot that is empty
-pub may_add-told : (index : Index) (place : RowPlace) (working : Slots) → HasRows index.cells index.working working → get_or working place.slot None ≡ None → place.slot < index.cells
-    → AllByRecursion (λ y. place_stamp y < place.stamp) index.committed → AllByRecursion (λ y. place_stamp y < place.stamp) index.working → may_add index place ≡ true
-may_add-told index place working has_working none there below below_working =
-    let room = room-added index.cells index.working place.slot working has_working none there in
-    let a : is_above place.stamp index.committed ≡ true = list_all-all (λ y. ltb (place_stamp y) place.stamp) (λ y. place_stamp y < place.stamp) index.committed (λ y h. lt-ltb (place_stamp y) place.stamp h) below in
-    let b : is_above place.stamp index.working ≡ true = list_all-all (λ y. ltb (place_stamp y) place.stamp) (λ y. place_stamp y < place.stamp) index.working (λ y h. lt-ltb (place_stamp y) place.stamp h) below_working in
-    let c = lt-ltb place.slot index.cells there in
-    let d = not_from_false (list_any (has place_slot place.slot) index.working) room.0 in
-    let e = lt-ltb (length index.working) index.cells room.1 in
-    rw (a, b, c, room.0, e) refl
+-- where the rows of a table are let go, the places are left that aren't of the table
+pub kept-without_table : (table : ℕ) (rows : SideRows) (places : List RowPlace) → AreRows rows places → (without_table table rows).slots ≡ map place_slot (filter (λ place. not (is_in_table table place)) places)
+kept-without_table table rows places are = ap (filter (λ slot. not (eqb (get_or rows.tables slot 0) table))) are.slots ∙ each places are.tables
+  where
+    each : (places : List RowPlace) → AllByRecursion (λ (place : RowPlace). get_or rows.tables place.slot 0 ≡ place.table) places
+        → filter (λ slot. not (eqb (get_or rows.tables slot 0) table)) (map place_slot places) ≡ map place_slot (filter (λ place. not (is_in_table table place)) places)
+    each [] all = refl
+    each (place ∷ places) all =
+        elim (cases_Bool (eqb place.table table)) [
+          | inl t ↦ rw (all.0, t) (each places all.1)
+          | inr f ↦ rw (all.0, f) (ap (λ slots. place.slot ∷ slots) (each places all.1))
+        ]

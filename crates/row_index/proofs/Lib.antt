@@ -1,10 +1,11 @@
 pub mod Searches
+pub mod Filtered
 pub mod Tables
 pub mod SlotPlaces
 pub mod Changes
-pub mod Kept
 pub mod Scans
+pub mod Stamped
 pub mod ChangedPlaces
-pub mod Gathering
+pub mod Filling
 pub mod Standing
 pub mod IndexLaws

@@ -1,18 +1,20 @@
--- The places of the rows of slots, against the list of the rows; and what becomes of them when one slot is changed.
-use Rattle.std.proofs.Common.{◌≡◌, ℕ, zero, suc, ◌+◌, ◌<◌, ◌≤◌, Bool, true, false, cond, ltb, List, [], ◌∷◌, length, Option, Some, None, get_or, inl, inr, refl, sym, ap, ◌∙◌, arith, subst, map}
+-- The places of the rows of slots, against the list of the rows.
+use Rattle.std.proofs.Common.{◌≡◌, ℕ, zero, suc, ◌+◌, ◌<◌, ◌≤◌, Bool, true, false, cond, ◌&&◌, ◌==◌, ltb, List, [], ◌∷◌, length, Option, Some, None, get_or, inl, inr, refl, sym, ap, ◌∙◌, arith, subst, map}
 use Rattle.std.specs.Prelude.{option_map, option_and_then, IfSome, is_some}
 use Rattle.std.specs.List.{find, filter_map, cons_option, count_by, AllByRecursion}
 use Rattle.std.proofs.lemmas.Bool.{cases_Bool, ne_eqb}
-use Rattle.eeprom.specs.Slots.{has, in_order, in_slot, put_in_order}
+use Rattle.eeprom.specs.Slots.{AreApart, has, in_order, in_slot, put_in_order}
 use Rattle.eeprom.specs.StoreOf.{Slots}
-use Rattle.eeprom.proofs.InOrder.{counts_not, count_by-cons}
+use Rattle.eeprom.proofs.InOrder.{counts_not, count_by-cons, count_by-in_order}
 use Rattle.scql_base.specs.declared.records.RowRecord.{RowRecord}
 use Rattle.catalog_codec.specs.Catalog.{row_kind}
 use Rattle.catalog_codec.specs.Kinds.{read_as}
 use Rattle.record_table.specs.Listed.{at_slot, listed}
-use Rattle.row_index.specs.Places.{numbered, place_in, place_of, place_slot, place_stamp, row_places}
+use Rattle.row_index.specs.Places.{is_in_table, numbered, place_in, place_key, place_of, place_slot, place_stamp, row_places}
 use Rattle.row_index.specs.declared.place.RowPlace.{RowPlace}
-use Rattle.row_index.proofs.Tables.{all-in_order}
+use Rattle.row_index.proofs.Filtered.{all-in_order}
+use Rattle.row_index.proofs.SlotPlaces.{count_by-map}
+use Rattle.row_index.proofs.Tables.{found_alike}
 
 -- the row in a slot
 abbrev pub row_in_slot : Option (List ℕ) → Option RowRecord
@@ -76,8 +78,12 @@ rows-pairs slot (entry ∷ slots) = one (row_in_slot entry) (rows-pairs (suc slo
 abbrev pub pairs : Slots → List (ℕ × RowRecord)
 pairs slots = in_order pair_key (pairs_from 0 slots)
 
-row_places-pairs : (slots : Slots) → row_places slots ≡ map pair_place (pairs slots)
-row_places-pairs slots = ap (in_order place_stamp) (places-pairs 0 slots) ∙ map-in_order pair_place place_stamp (pairs_from 0 slots)
+-- the places in order of their stamps
+abbrev pub stamp_places : Slots → List RowPlace
+stamp_places slots = in_order place_stamp (places_from 0 slots)
+
+stamp_places-pairs : (slots : Slots) → stamp_places slots ≡ map pair_place (pairs slots)
+stamp_places-pairs slots = ap (in_order place_stamp) (places-pairs 0 slots) ∙ map-in_order pair_place place_stamp (pairs_from 0 slots)
 
 listed-pairs : (slots : Slots) → listed row_kind slots ≡ map (λ (pair : ℕ × RowRecord). pair.1) (pairs slots)
 listed-pairs slots = ap (in_order row_kind.key) (rows-pairs 0 slots) ∙ map-in_order (λ (pair : ℕ × RowRecord). pair.1) row_kind.key (pairs_from 0 slots)
@@ -113,11 +119,11 @@ found_there P p (x ∷ xs) all =
     ]
 
 -- the row of the place that a test finds is the row that the same test finds in the list
-pub found_row : (slots : Slots) (p : RowPlace → Bool) (q : RowRecord → Bool) → ((slot : ℕ) (row : RowRecord) → p (place_of slot row) ≡ q row)
-    → option_and_then (λ place. at_slot row_kind (place_slot place) slots) (find p (row_places slots)) ≡ find q (listed row_kind slots)
+found_row : (slots : Slots) (p : RowPlace → Bool) (q : RowRecord → Bool) → ((slot : ℕ) (row : RowRecord) → p (place_of slot row) ≡ q row)
+    → option_and_then (λ place. at_slot row_kind (place_slot place) slots) (find p (stamp_places slots)) ≡ find q (listed row_kind slots)
 found_row slots p q same =
     let test : ℕ × RowRecord → Bool = (λ pair. q pair.1) in
-    let place = ap (find p) (row_places-pairs slots) ∙ find-map pair_place p (pairs slots) ∙ ap (option_map pair_place) (find-agree (λ pair. p (pair_place pair)) test (pairs slots) (λ pair. same pair.0 pair.1)) in
+    let place = ap (find p) (stamp_places-pairs slots) ∙ find-map pair_place p (pairs slots) ∙ ap (option_map pair_place) (find-agree (λ pair. p (pair_place pair)) test (pairs slots) (λ pair. same pair.0 pair.1)) in
     let row = ap (find q) (listed-pairs slots) ∙ find-map (λ (pair : ℕ × RowRecord). pair.1) q (pairs slots) in
     ap (option_and_then (λ place. at_slot row_kind (place_slot place) slots)) place
     ∙ one (find test (pairs slots)) (found_there (IsThere 0 slots) test (pairs slots) (all-in_order pair_key (IsThere 0 slots) (pairs_from 0 slots) (are_there 0 slots)))
@@ -129,16 +135,37 @@ found_row slots p q same =
     one (Some pair) there = let at : pair.0 ≡ there.0 = omega (arith, there.1) in rw at there.3
 
 -- and there is one exactly where the list has one
-pub found_both : (slots : Slots) (p : RowPlace → Bool) (q : RowRecord → Bool) → ((slot : ℕ) (row : RowRecord) → p (place_of slot row) ≡ q row) → is_some (find p (row_places slots)) ≡ is_some (find q (listed row_kind slots))
+found_both : (slots : Slots) (p : RowPlace → Bool) (q : RowRecord → Bool) → ((slot : ℕ) (row : RowRecord) → p (place_of slot row) ≡ q row) → is_some (find p (stamp_places slots)) ≡ is_some (find q (listed row_kind slots))
 found_both slots p q same =
     let test : ℕ × RowRecord → Bool = (λ pair. q pair.1) in
-    let place = ap (find p) (row_places-pairs slots) ∙ find-map pair_place p (pairs slots) ∙ ap (option_map pair_place) (find-agree (λ pair. p (pair_place pair)) test (pairs slots) (λ pair. same pair.0 pair.1)) in
+    let place = ap (find p) (stamp_places-pairs slots) ∙ find-map pair_place p (pairs slots) ∙ ap (option_map pair_place) (find-agree (λ pair. p (pair_place pair)) test (pairs slots) (λ pair. same pair.0 pair.1)) in
     let row = ap (find q) (listed-pairs slots) ∙ find-map (λ (pair : ℕ × RowRecord). pair.1) q (pairs slots) in
     ap is_some place ∙ one (find test (pairs slots)) ∙ sym (ap is_some row)
   where
     one : (o : Option (ℕ × RowRecord)) → is_some (option_map pair_place o) ≡ is_some (option_map (λ (pair : ℕ × RowRecord). pair.1) o)
     one None = refl
     one (Some pair) = refl
+
+-- so of a search in one table among the places as they are kept
+pub found_row_in : (slots : Slots) (table : ℕ) (p : RowPlace → Bool) (q : RowRecord → Bool) → ((slot : ℕ) (row : RowRecord) → (is_in_table table (place_of slot row) && p (place_of slot row)) ≡ q row)
+    → option_and_then (λ place. at_slot row_kind (place_slot place) slots) (find (λ place. is_in_table table place && p place) (row_places slots)) ≡ find q (listed row_kind slots)
+found_row_in slots table p q same =
+    ap (option_and_then (λ place. at_slot row_kind (place_slot place) slots)) (found_alike table p (places_from 0 slots)) ∙ found_row slots (λ place. is_in_table table place && p place) q same
+
+pub found_both_in : (slots : Slots) (table : ℕ) (p : RowPlace → Bool) (q : RowRecord → Bool) → ((slot : ℕ) (row : RowRecord) → (is_in_table table (place_of slot row) && p (place_of slot row)) ≡ q row)
+    → is_some (find (λ place. is_in_table table place && p place) (row_places slots)) ≡ is_some (find q (listed row_kind slots))
+found_both_in slots table p q same = ap is_some (found_alike table p (places_from 0 slots)) ∙ found_both slots (λ place. is_in_table table place && p place) q same
+
+-- no two rows have one stamp where no two of their places have
+pub rows-apart : (slots : Slots) → AreApart place_stamp (row_places slots) → AreApart row_kind.key (listed row_kind slots)
+rows-apart slots apart = λ k.
+    (let test : ℕ × RowRecord → Bool = (λ pair. pair.1.stamp == k) in
+    let rows = ap (count_by (has row_kind.key k)) (listed-pairs slots) ∙ count_by-map (has row_kind.key k) (λ (pair : ℕ × RowRecord). pair.1) (pairs slots) in
+    let places = ap (count_by (has place_stamp k)) (stamp_places-pairs slots) ∙ count_by-map (has place_stamp k) pair_place (pairs slots) in
+    let both = count_by-in_order place_stamp (has place_stamp k) (places_from 0 slots) in
+    let kept = count_by-in_order place_key (has place_stamp k) (places_from 0 slots) in
+    let a = apart k in
+    omega (arith, rows, places, both, kept))
 
 all-map : {X Y : Type 0} (f : X → Y) (P : Y → Type 0) (xs : List X) → AllByRecursion (λ x. P (f x)) xs → AllByRecursion P (map f xs)
 all-map f P [] all = tt
@@ -149,9 +176,9 @@ all-unmap f P [] all = tt
 all-unmap f P (x ∷ xs) all = (all.0, all-unmap f P xs all.1)
 
 -- what holds of the stamps of all rows holds of those of their places
-pub places-below : (stamp : ℕ) (slots : Slots) → AllByRecursion (λ (row : RowRecord). row.stamp < stamp) (listed row_kind slots) → AllByRecursion (λ place. place_stamp place < stamp) (row_places slots)
+pub places-below : (stamp : ℕ) (slots : Slots) → AllByRecursion (λ (row : RowRecord). row.stamp < stamp) (listed row_kind slots) → AllByRecursion (λ place. place_stamp place < stamp) (stamp_places slots)
 places-below stamp slots below =
-    subst (AllByRecursion (λ place. place_stamp place < stamp)) (sym (row_places-pairs slots))
+    subst (AllByRecursion (λ place. place_stamp place < stamp)) (sym (stamp_places-pairs slots))
     (all-map pair_place (λ place. place_stamp place < stamp) (pairs slots)
     (all-unmap (λ (pair : ℕ × RowRecord). pair.1) (λ (row : RowRecord). row.stamp < stamp) (pairs slots) (subst (AllByRecursion (λ (row : RowRecord). row.stamp < stamp)) (listed-pairs slots) below)))
 

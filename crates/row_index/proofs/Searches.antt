@@ -1,9 +1,9 @@
 -- Lists in rising order of a key, searched by halves.
 use Rattle.std.proofs.Common.{◌≡◌, ℕ, zero, suc, ◌<◌, ◌≤◌, Bool, true, false, cond, ◌&&◌, ltb, leb, eqb, List, [], ◌∷◌, length, map, take, drop, Option, Some, None, get_or, inl, inr, refl, sym, ap, ◌∙◌, arith, subst}
-use Rattle.std.specs.List.{find, insert, slice_get, count_by, list_all, list_any, AllByRecursion}
+use Rattle.std.specs.List.{find, insert, slice_get, count_by, list_all, AllByRecursion}
 use Rattle.std.specs.Prelude.{Result, IsOk, is_ok}
 use Rattle.std.specs.List.Sorted.{IsPartitionPoint, IsNonDecreasingBy}
-use Rattle.std.proofs.lemmas.Bool.{cases_Bool, ltb-true, ltb-false, leb-true, leb-false, lt-ltb, le-ltb, lt-leb, le-leb, ne_eqb, and_parts, and_right, or_parts}
+use Rattle.std.proofs.lemmas.Bool.{cases_Bool, ltb-true, ltb-false, leb-true, leb-false, lt-ltb, le-ltb, lt-leb, le-leb, ne_eqb, and_parts, and_right}
 use Rattle.std.proofs.lemmas.Option.{none-some, same_Some}
 use Rattle.eeprom.specs.Slots.{Rises, has, is_after, put_in_order}
 use Rattle.eeprom.proofs.InOrder.{counts, counts_not}
@@ -15,19 +15,10 @@ all-at P (x ∷ xs) zero d within all = all.0
 all-at P (x ∷ xs) (suc i) d within all = all-at P xs i d (omega arith) all.1
 
 -- what holds of all holds of the one that a search reads
-all-got : {X : Type 0} (P : X → Type 0) (xs : List X) (i : ℕ) (x : X) → AllByRecursion P xs → slice_get xs i ≡ Some x → P x
+pub all-got : {X : Type 0} (P : X → Type 0) (xs : List X) (i : ℕ) (x : X) → AllByRecursion P xs → slice_get xs i ≡ Some x → P x
 all-got P [] i x all got = absurd (none-some x got)
 all-got P (y ∷ ys) zero x all got = subst P (same_Some y x got) all.0
 all-got P (y ∷ ys) (suc i) x all got = all-got P ys i x all.1 got
-
--- each passes where all pass, and none where none does
-pub all-list_all : {X : Type 0} (p : X → Bool) (P : X → Type 0) (xs : List X) → ((x : X) → p x ≡ true → P x) → list_all p xs ≡ true → AllByRecursion P xs
-all-list_all p P [] says all = tt
-all-list_all p P (x ∷ xs) says all = let both = and_parts (p x) (list_all p xs) all in (says x both.0, all-list_all p P xs says both.1)
-
-pub none-list_any : {X : Type 0} (p : X → Bool) (xs : List X) → list_any p xs ≡ false → count_by p xs ≡ 0
-none-list_any p [] none = refl
-none-list_any p (x ∷ xs) none = let both = or_parts (p x) (list_any p xs) none in counts_not p x xs both.0 ∙ none-list_any p xs both.1
 
 -- keys that rise don't fall
 pub IsNonDecreasingBy-rising : {X : Type 0} (key : X → ℕ) (xs : List X) → Rises key xs → IsNonDecreasingBy key xs

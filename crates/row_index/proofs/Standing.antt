@@ -1,65 +1,18 @@
 -- When an index stands for a store.
-use Rattle.std.proofs.Common.{◌≡◌, ℕ, List, Bool, false, Option, Some, None, length, refl, sym, ap, ◌∙◌, subst}
+use Rattle.std.proofs.Common.{◌≡◌, ℕ, List, Option, Some, None, refl, sym, ◌∙◌, subst}
 use Rattle.std.proofs.lemmas.Option.{none-some, same_Some}
-use Rattle.std.specs.Prelude.{IfSome, IsSome, MatchOption, option_and_then, if◌then◌else◌}
-use Rattle.eeprom.proofs.Chains.{length-slots_at}
-use Rattle.eeprom.proofs.Places.{length-numbers_at}
+use Rattle.std.specs.Prelude.{IfSome, IsSome, option_and_then}
 use Rattle.eeprom.specs.Chip.{Becomes, Chip}
-use Rattle.eeprom.specs.Slots.{AreApart}
-use Rattle.eeprom.specs.StoreOf.{Slots, slots_at}
+use Rattle.eeprom.specs.StoreOf.{Slots}
 use Rattle.record_store.specs.Held.{Held, StandsFor, contents}
 use Rattle.record_store.specs.declared.side.Side.{Side}
 use Rattle.record_store.specs.declared.side.Side.TheVariants.{Committed, Working}
 use Rattle.record_table.specs.Changed.{Rewrites}
 use Rattle.record_table.specs.Listed.{slots_of}
-use Rattle.row_index.specs.Index.{HasRows, Index, Indexes, IndexesIfApart, side_places}
-use Rattle.row_index.specs.Places.{place_stamp, row_places}
-use Rattle.row_index.specs.declared.place.RowPlace.{RowPlace}
-
--- a store has as many committed slots as cells
-length-committed : (store : Held) (image : List ℕ) → StandsFor store image → IfSome (contents store Committed image) (λ slots. length slots ≡ store.chains.cells)
-length-committed store image stands =
-    let all : length store.committed ≡ store.chains.cells = ap length (sym stands.begins.directory) ∙ length-numbers_at image 32 store.chains.cells in
-    subst (λ (n : ℕ). IfSome (contents store Committed image) (λ slots. length slots ≡ n)) all (length-slots_at image store.chains.cells store.committed)
-
-told_length : (store : Held) (image : Option (List ℕ)) → IfSome image (StandsFor store) → IfSome (option_and_then (contents store Committed) image) (λ slots. length slots ≡ store.chains.cells)
-told_length store None stands = tt
-told_length store (Some image) stands = length-committed store image stands
-
--- without a transaction both sides have the same slots
-working_idle : (store : Held) (image : Option (List ℕ)) → store.begun ≡ false → option_and_then (contents store Working) image ≡ option_and_then (contents store Committed) image
-working_idle store None idle = refl
-working_idle store (Some image) idle = ap (λ (begun : Bool). slots_at image store.chains.cells (if begun then store.working else store.committed)) idle
-
-have_rows : (cells : ℕ) (places : List RowPlace) (slots : Option Slots) → IfSome slots (λ slots. length slots ≡ cells) → IfSome slots (λ slots. AreApart place_stamp (row_places slots))
-    → IfSome slots (λ slots. AreApart place_stamp (row_places slots) → places ≡ row_places slots) → IfSome slots (HasRows cells places)
-have_rows cells places None all apart are = tt
-have_rows cells places (Some slots) all apart are = record { all = all; are = are apart }
-
--- an index that has the committed rows on both sides stands for a store without a transaction
-pub stands-read : (index : Index) (store : Held) (chip : Chip) → IfSome chip.image (StandsFor store) → store.begun ≡ false → index.cells ≡ store.chains.cells → index.working ≡ index.committed
-    → IfSome (slots_of store Committed chip) (λ slots. AreApart place_stamp (row_places slots))
-    → IfSome (slots_of store Committed chip) (λ slots. AreApart place_stamp (row_places slots) → index.committed ≡ row_places slots) → Indexes index store chip
-stands-read index store chip stands idle cells both apart are =
-    let all = subst (λ (n : ℕ). IfSome (slots_of store Committed chip) (λ slots. length slots ≡ n)) (sym cells) (told_length store chip.image stands) in
-    let rows = have_rows index.cells index.committed (slots_of store Committed chip) all apart are in
-    record {
-      cells = cells;
-      committed = rows;
-      working = subst (λ o. IfSome o (HasRows index.cells index.working)) (sym (working_idle store chip.image idle)) (subst (λ places. IfSome (slots_of store Committed chip) (HasRows index.cells places)) (sym both) rows);
-    }
-
--- and so where they have no stamp twice, as far as that is told
-pub stands-if_apart : (index : Index) (store : Held) (chip : Chip) → (IfSome (slots_of store Committed chip) (λ slots. AreApart place_stamp (row_places slots)) → Indexes index store chip) → IndexesIfApart index store chip
-stands-if_apart index store chip stands = told (slots_of store Committed chip) stands
-  where
-    told : (slots : Option Slots) → (IfSome slots (λ slots. AreApart place_stamp (row_places slots)) → Indexes index store chip)
-        → MatchOption slots (Indexes index store chip) (λ slots. AreApart place_stamp (row_places slots) → Indexes index store chip)
-    told None stands = stands tt
-    told (Some slots) stands = stands
+use Rattle.row_index.specs.Index.{HasRows, Index, Indexes, side_rows}
 
 -- the rows of a side are those of its slots
-pub rows-told : (index : Index) (store : Held) (chip : Chip) (side : Side) → Indexes index store chip → IfSome (slots_of store side chip) (HasRows index.cells (side_places index side))
+pub rows-told : (index : Index) (store : Held) (chip : Chip) (side : Side) → Indexes index store chip → IfSome (slots_of store side chip) (HasRows index.cells (side_rows index side))
 rows-told index store chip Committed stands = stands.committed
 rows-told index store chip Working stands = stands.working
 

@@ -1,4 +1,4 @@
 pub mod Index
 pub mod Ordered
 pub mod Places
-pub mod SlotRows
+pub mod SideRows

@@ -1,18 +1,15 @@
-//! Where the rows of a store stand, in memory: each row by its stamp, and the rows of each table one behind the other.
+//! Where the rows of a store stand, in memory: the rows of each table one behind the other, in order of their stamps.
 #![tactic(auto)]
 
-mod build;
+mod columns;
 mod done;
 mod index;
 mod order;
-mod ordered;
 mod place;
-mod refusal;
-mod slot_row;
+mod side_rows;
 
 pub use index::RowIndex;
 pub use place::RowPlace;
-pub use refusal::BuildRefusal;
 
 #[cfg(test)]
 mod tests;

@@ -1,6 +1,8 @@
 // An index over two rows that are written by hand, and how it follows transactions.
+ghost use Rattle.std.specs.Prelude.{◌≡◌, false, IfOk};
+
 use crate::{RowIndex, RowPlace};
-use eeprom::{Eeprom, FaultPlan, MemBench};
+use eeprom::{FaultPlan, MemBench};
 use record_store::{Side, Store};
 use std::alloc::{AllocError, Global};
 use std::test::Fail;
@@ -10,7 +12,10 @@ const LATER: [u8; 11] = [0x06, 0, 0, 0, 5, 0, 0, 0, 3, 1, 0x41];
 
 const EARLIER: [u8; 10] = [0x06, 0, 0, 0, 4, 0, 0, 0, 2, 0];
 
-// A store of 16 cells with both.
+/// The row of stamp 6 in table 2.
+const LATEST: [u8; 10] = [0x06, 0, 0, 0, 6, 0, 0, 0, 2, 0];
+
+// A store of 16 cells with two rows.
 fn made(alloc: Global) -> Result<MemBench, AllocError> {
     let plan = FaultPlan {
         reads: Vec::new(alloc),
@@ -24,93 +29,99 @@ fn made(alloc: Global) -> Result<MemBench, AllocError> {
     Ok(bench)
 }
 
+// The index of these rows.
+fn filled(alloc: Global, store: &Store) -> Result<RowIndex, AllocError>
+    ensures idle { IfOk result (λ index. index.begun ≡ false) }
+{
+    let mut index = RowIndex::with_room(alloc, 16)?;
+    index.fill(
+        store,
+        &[
+            RowPlace {
+                stamp: 4,
+                table: 2,
+                slot: 1,
+            },
+            RowPlace {
+                stamp: 5,
+                table: 3,
+                slot: 0,
+            },
+        ],
+    );
+    Ok(index)
+}
+
 #[test]
-fn an_index_is_built(rt: HostRuntime) -> Result<(), Fail> {
+fn an_index_is_filled(rt: HostRuntime) -> Result<(), Fail> {
     let alloc = rt.alloc();
     let mut bench = made(alloc)?;
     let opened = Store::open(alloc, &mut bench);
     assert!(rt; opened.is_ok());
     if let Ok(store) = opened {
-        let before = bench.octets_read();
-        let built = RowIndex::build(alloc, &store, &mut bench);
-        assert_eq!(rt; bench.octets_read().checked_sub(before), Some(64));
-        assert!(rt; built.is_ok());
-        if let Ok(index) = built {
-            assert!(rt; index.find(Side::Committed, 5) == Some((3, 0)));
-            assert!(rt; index.find(Side::Working, 4) == Some((2, 1)));
-            assert!(rt; index.next_after(Side::Committed, 2, 0) == Some((4, 1)));
-            assert!(rt; index.next_after(Side::Committed, 2, 4).is_none());
+        let index = filled(alloc, &store)?;
+        assert!(rt; index.find(&store, Side::Committed, 3, 5, 0) == Some(0));
+        assert!(rt; index.find(&store, Side::Working, 2, 4, 0) == Some(1));
+        assert!(rt; index.find(&store, Side::Working, 3, 4, 0).is_none());
+        let mut near = 0;
+        assert!(rt; index.next_after(&store, Side::Committed, 2, 0, &mut near) == Some((4, 1)));
+        assert!(rt;
+            index
+                .next_after(&store, Side::Committed, 2, 4, &mut near)
+                .is_none()
+        );
+    }
+    Ok(())
+}
+
+#[test]
+fn an_index_follows_transactions(rt: HostRuntime) -> Result<(), Fail> {
+    let alloc = rt.alloc();
+    let mut bench = made(alloc)?;
+    let opened = Store::open(alloc, &mut bench);
+    assert!(rt; opened.is_ok());
+    if let Ok(mut store) = opened {
+        let mut index = filled(alloc, &store)?;
+        store.begin();
+        index.begin();
+        let put = store.put(&mut bench, None, &LATEST);
+        assert!(rt; put.is_ok());
+        if let Ok(slot) = put {
+            index.added(&store, 2, slot);
+            let mut near = usize::MAX;
+            assert!(rt; index.next_after(&store, Side::Working, 2, 0, &mut near) == Some((4, 1)));
+            assert!(rt; near == 0);
+            assert!(rt;
+                index.next_after(&store, Side::Working, 2, 4, &mut near) == Some((6, slot))
+            );
+            assert!(rt; near == 1);
+            assert!(rt; index.rows_of(&store, Side::Working, 2).len() == 2);
+            assert!(rt; index.find(&store, Side::Committed, 2, 6, 0).is_none());
+            index.removed(&store, 0);
+            assert!(rt; index.find(&store, Side::Working, 3, 5, 2).is_none());
+            store.rollback();
+            index.rollback();
+            assert!(rt; index.find(&store, Side::Working, 3, 5, 0) == Some(0));
+            assert!(rt; index.find(&store, Side::Working, 2, 6, 1).is_none());
         }
     }
     Ok(())
 }
 
 #[test]
-fn an_index_is_filled(rt: HostRuntime) -> Result<(), Fail> {
-    let alloc = rt.alloc();
-    let mut index = RowIndex::with_room(alloc, 16)?;
-    index.fill(&[
-        RowPlace {
-            stamp: 4,
-            table: 2,
-            slot: 1,
-        },
-        RowPlace {
-            stamp: 5,
-            table: 1,
-            slot: 0,
-        },
-    ]);
-    assert!(rt; index.find(Side::Committed, 5) == Some((1, 0)));
-    assert!(rt; index.next_after(Side::Working, 1, 0) == Some((5, 0)));
-    Ok(())
-}
-
-#[test]
-fn an_index_follows_transactions(rt: HostRuntime) -> Result<(), Fail> {
-    let mut index = RowIndex::with_room(rt.alloc(), 16)?;
-    index.begin();
-    index.added(2, 6, 9);
-    assert!(rt; index.next_after(Side::Working, 2, 4) == Some((6, 9)));
-    assert!(rt; index.find(Side::Committed, 6).is_none());
-    index.commit();
-    assert!(rt; index.find(Side::Committed, 6) == Some((2, 9)));
-    index.begin();
-    index.removed(9);
-    assert!(rt; index.find(Side::Working, 6).is_none());
-    index.rollback();
-    assert!(rt; index.find(Side::Working, 6) == Some((2, 9)));
-    Ok(())
-}
-
-#[test]
-fn the_place_of_the_next_row_is_kept(rt: HostRuntime) -> Result<(), Fail> {
-    let mut index = RowIndex::with_room(rt.alloc(), 16)?;
-    index.begin();
-    index.added(2, 6, 9);
-    index.added(2, 8, 4);
-    let mut near = usize::MAX;
-    assert!(rt; index.next_after_near(Side::Working, 2, 0, &mut near) == Some((6, 9)));
-    assert!(rt; near == 0);
-    assert!(rt; index.next_after_near(Side::Working, 2, 6, &mut near) == Some((8, 4)));
-    assert!(rt; near == 1);
-    Ok(())
-}
-
-#[test]
 fn a_table_is_removed(rt: HostRuntime) -> Result<(), Fail> {
-    let mut index = RowIndex::with_room(rt.alloc(), 16)?;
-    index.begin();
-    index.added(2, 6, 9);
-    index.added(3, 7, 1);
-    index.added(2, 8, 4);
-    assert!(rt; index.rows_of(Side::Working, 2).len() == 2);
-    index.table_removed(2);
-    assert!(rt; index.rows_of(Side::Working, 2).is_empty());
-    assert!(rt; index.find(Side::Working, 7) == Some((3, 1)));
-    // The slot of a row that went is free again.
-    index.added(2, 9, 9);
-    index.commit();
-    assert!(rt; index.find(Side::Committed, 9) == Some((2, 9)));
+    let alloc = rt.alloc();
+    let mut bench = made(alloc)?;
+    let opened = Store::open(alloc, &mut bench);
+    assert!(rt; opened.is_ok());
+    if let Ok(store) = opened {
+        let mut index = filled(alloc, &store)?;
+        index.begin();
+        index.table_removed(2);
+        assert!(rt; index.rows_of(&store, Side::Working, 2).is_empty());
+        assert!(rt; index.find(&store, Side::Working, 3, 5, 0) == Some(0));
+        index.commit();
+        assert!(rt; index.find(&store, Side::Committed, 2, 4, 0).is_none());
+    }
     Ok(())
 }

@@ -1,6 +1,6 @@
 -- How an operation on tables ends that does nothing but read before its part, or reads alone; and how the tables stand then.
-use Rattle.std.proofs.Common.{◌≡◌, ℕ, List, Option, Some, None, Result, Ok, Err, refl, sym, ap, subst, ◌∙◌}
-use Rattle.std.specs.Prelude.{IfSome, IsErrOf, is_some}
+use Rattle.std.proofs.Common.{◌≡◌, ℕ, List, Result, Ok, Err, refl, sym, ap, subst, ◌∙◌}
+use Rattle.std.specs.Prelude.{IsErrOf, is_some}
 use Rattle.std.specs.Result.{IsErrAnd}
 use Rattle.eeprom.specs.Chip.{Chip}
 use Rattle.eeprom.specs.Fault.{CountsFaults}
@@ -16,7 +16,7 @@ use Rattle.record_table.proofs.Ending.{Ends-stopped, no_fault-on}
 use Rattle.record_table.specs.declared.stop.Stop.{Stop}
 use Rattle.record_table.specs.declared.stop.Stop.TheVariants.{Refused, Fault}
 use Rattle.row_index.specs.Index.{Index, Indexes}
-use Rattle.row_index.proofs.IndexLaws.{Indexes-kept, Indexes-untold}
+use Rattle.row_index.proofs.IndexLaws.{Indexes-kept}
 use Rattle.row_table.specs.Tables.{Ended, EndedBy, Stand}
 use Rattle.row_table.specs.declared.tables.Tables.{Tables}
 
@@ -162,25 +162,3 @@ pub Ended-in_memory : {S T : Type 0} {chip : S → Chip} {faults : S → ℕ} {m
 Ended-in_memory {S} {T} {chip} {faults} {may} {edits} {before} {after} {old} {new} {x} stand same counts index makes goes_on rows committed =
     EndedBy-in_memory same counts (λ db held asked. (let made = makes db held asked in (made.0, sym made.1, made.2))) goes_on committed
     (Follows-rows stand index (λ db held asked. (let made = makes db held asked in (made.0, made.2))) goes_on.cells rows committed)
-
--- where an image is told, a fact that each database gives; and where none is told
-stands-held : (index : Index) (old new : Held) (may : Database → Type 0) (before after : Chip) → IfSome before.image (λ _. (db : Database) × IsHeld old Working before db × may db) → is_some after.image ≡ is_some before.image → index.cells ≡ new.chains.cells
-    → ((db : Database) → IsHeld old Working before db → may db → Indexes index new after) → Indexes index new after
-stands-held index old new may before after holds told cells each = of before.image after.image refl holds told
-  where
-    of : (was now : Option (List ℕ)) → after.image ≡ now → IfSome was (λ _. (db : Database) × IsHeld old Working before db × may db) → is_some now ≡ is_some was → Indexes index new after
-    of (Some image) now is holds told = each holds.0 holds.1 holds.2
-    of None None is holds told = Indexes-untold index new after cells (ap is_some is)
-    of None (Some image) is holds told = absurd cc
-
--- Tables that stood, and that held a database of which the operation may ask, if they were told, stand again where the EEPROM didn't fail.
-pub Stand-ended : {S T : Type 0} {chip : S → Chip} {faults : S → ℕ} {may : Database → Type 0} {edits : Database → Result (List Edit) StatusWord → Type 0} {before after : S} {old new : Tables} {result : Result T Stop}
-    → EndedBy chip faults may edits before after old new result → Stand old (chip before) → IfSome (chip before).image (λ _. (db : Database) × IsHeld old.store Working (chip before) db × may db) → ¬ IsErrOf result Fault
-    → Stand new (chip after)
-Stand-ended {S} {T} {chip} {faults} {may} {edits} {before} {after} {old} {new} {result} ended stand holds fine =
-    let goes_on = ended.goes_on fine in
-    record {
-      over = goes_on.over;
-      index = stands-held new.index old.store new.store may (chip before) (chip after) holds goes_on.told (ended.index_cells ∙ stand.index.cells ∙ sym goes_on.cells) (λ db held may. ended.index db held may fine);
-      together = ended.index_begun ∙ stand.together ∙ sym goes_on.begun;
-    }

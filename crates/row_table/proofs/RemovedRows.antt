@@ -16,8 +16,8 @@ use Rattle.record_store.specs.declared.side.Side.TheVariants.{Committed, Working
 use Rattle.catalog_codec.specs.Catalog.{row_kind}
 use Rattle.record_table.specs.Listed.{slots_of}
 use Rattle.row_index.specs.Index.{HasRows, Index, Indexes}
-use Rattle.row_index.specs.Places.{is_in_table, place_slot}
-use Rattle.row_index.specs.declared.place.RowPlace.{RowPlace}
+use Rattle.row_index.specs.Places.{is_in_table, place_slot, row_places}
+use Rattle.row_index.specs.SideRows.{without_table}
 use Rattle.row_table.specs.Found.{is_in}
 use Rattle.record_table.specs.Swept.{all_without, has_passing}
 use Rattle.row_table.proofs.RowsLeft.{HasRows-without_table, at-slots, is_numbered, length-places, slots-without_table, slots_in, without_slots, without_slots-more}
@@ -34,19 +34,19 @@ removed-row mid new chip numbers n slot d (Some slots) within so_far here at =
     rw add-one (now ∙ ap Some (ap (λ slot. set (without_slots (take n numbers) slots) slot None) at ∙ sym more))
 
 -- and when all are, the slots have no row of the table
-pub removed-rows : (new : Held) (chip : Chip) (table cells n : ℕ) (numbers : List ℕ) (working : List RowPlace) (slots : Option Slots) → length numbers ≤ n → numbers ≡ map place_slot (filter (is_in_table table) working)
-    → IfSome slots (HasRows cells working) → IfSome slots (λ slots. slots_of new Working chip ≡ Some (without_slots (take n numbers) slots))
+pub removed-rows : (new : Held) (chip : Chip) (table n : ℕ) (numbers : List ℕ) (slots : Option Slots) → length numbers ≤ n → IfSome slots (λ slots. numbers ≡ slots_in table slots)
+    → IfSome slots (λ slots. slots_of new Working chip ≡ Some (without_slots (take n numbers) slots))
     → IfSome slots (λ slots. slots_of new Working chip ≡ Some (all_without row_kind (is_in table) slots))
-removed-rows new chip table cells n numbers working None all are has_rows removed = tt
-removed-rows new chip table cells n numbers working (Some slots) all are has_rows removed =
-    removed ∙ ap Some (ap (λ numbers. without_slots numbers slots) (take_all n numbers all ∙ are ∙ ap (λ places. map place_slot (filter (is_in_table table) places)) has_rows.are) ∙ slots-without_table table slots)
+removed-rows new chip table n numbers None all are removed = tt
+removed-rows new chip table n numbers (Some slots) all are removed =
+    removed ∙ ap Some (ap (λ numbers. without_slots numbers slots) (take_all n numbers all ∙ are) ∙ slots-without_table table slots)
 
 -- each is an entry at most
-pub entries-rows : (old new : Held) (table cells n : ℕ) (numbers : List ℕ) (working : List RowPlace) (slots : Option Slots) → n ≤ length numbers → numbers ≡ map place_slot (filter (is_in_table table) working)
-    → IfSome slots (HasRows cells working) → entries new ≤ entries old + n → IfSome slots (λ slots. entries new ≤ entries old + count_by (has_passing row_kind (is_in table)) slots)
-entries-rows old new table cells n numbers working None most are has_rows few = tt
-entries-rows old new table cells n numbers working (Some slots) most are has_rows few =
-    omega (arith, few, most, ap length are, length-map (filter (is_in_table table) working) place_slot, ap (λ places. length (filter (is_in_table table) places)) has_rows.are, length-places table slots)
+pub entries-rows : (old new : Held) (table n : ℕ) (numbers : List ℕ) (slots : Option Slots) → n ≤ length numbers → IfSome slots (λ slots. numbers ≡ slots_in table slots)
+    → entries new ≤ entries old + n → IfSome slots (λ slots. entries new ≤ entries old + count_by (has_passing row_kind (is_in table)) slots)
+entries-rows old new table n numbers None most are few = tt
+entries-rows old new table n numbers (Some slots) most are few =
+    omega (arith, few, most, ap length are, length-map (filter (is_in_table table) (row_places slots)) place_slot, length-places table slots)
 
 -- only the slots of the numbers so far have another chain, and with one more that of its number
 pub only-row : (old mid new : Held) (numbers : List ℕ) (n slot d : ℕ) → n < length numbers → ChangesWhere (λ s. is_numbered s (take n numbers)) old mid → ChangesOnly slot mid new → slot ≡ get_or numbers n d
@@ -64,18 +64,18 @@ only-row old mid new numbers n slot d within so_far only at =
     neither false s none = ne_eqb s slot (λ (same : s ≡ slot). true≢false (sym (ap (λ (b : Bool). b || false) (eq-eqb (get_or numbers n d) s (sym at ∙ sym same))) ∙ none))
 
 -- so of all slots those that had a row of the table
-pub only-rows : (old new : Held) (table cells n : ℕ) (numbers : List ℕ) (working : List RowPlace) (slots : Option Slots) → length numbers ≤ n → numbers ≡ map place_slot (filter (is_in_table table) working)
-    → IfSome slots (HasRows cells working) → ChangesWhere (λ s. is_numbered s (take n numbers)) old new → IfSome slots (λ slots. ChangesWhere (λ s. has_passing row_kind (is_in table) (get_or slots s None)) old new)
-only-rows old new table cells n numbers working None all are has_rows only = tt
-only-rows old new table cells n numbers working (Some slots) all are has_rows only =
-    let numbers_are : take n numbers ≡ slots_in table slots = take_all n numbers all ∙ are ∙ ap (λ places. map place_slot (filter (is_in_table table) places)) has_rows.are in
+pub only-rows : (old new : Held) (table n : ℕ) (numbers : List ℕ) (slots : Option Slots) → length numbers ≤ n → IfSome slots (λ slots. numbers ≡ slots_in table slots)
+    → ChangesWhere (λ s. is_numbered s (take n numbers)) old new → IfSome slots (λ slots. ChangesWhere (λ s. has_passing row_kind (is_in table) (get_or slots s None)) old new)
+only-rows old new table n numbers None all are only = tt
+only-rows old new table n numbers (Some slots) all are only =
+    let numbers_are : take n numbers ≡ slots_in table slots = take_all n numbers all ∙ are in
     ChangesWhere-more (λ s. is_numbered s (take n numbers)) (λ s. has_passing row_kind (is_in table) (get_or slots s None)) old new
     (λ s (none : has_passing row_kind (is_in table) (get_or slots s None) ≡ false). ap (is_numbered s) numbers_are ∙ (at-slots table s slots ∙ none)) only
 
 -- the index without the places of the table stands for what is left
 pub Indexes-without_table : (index : Index) (table : ℕ) (old new : Held) (chip : Chip) → IsOver old chip → Indexes index old chip → new.chains.cells ≡ old.chains.cells → slots_of new Committed chip ≡ slots_of old Committed chip
     → IfSome (slots_of old Working chip) (λ slots. slots_of new Working chip ≡ Some (all_without row_kind (is_in table) slots))
-    → Indexes (record { cells = index.cells; begun = true; committed = index.committed; working = filter (λ place. not (is_in_table table place)) index.working }) new chip
+    → Indexes (record { cells = index.cells; begun = true; committed = index.committed; working = without_table table index.working }) new chip
 Indexes-without_table index table old new chip over is cells committed left = record {
   cells = is.cells ∙ sym cells;
   committed = rw committed is.committed;
@@ -83,12 +83,12 @@ Indexes-without_table index table old new chip over is cells committed left = re
 }
   where
     of_slots : (image : List ℕ) (o : Option Slots) → IsSome o → IfSome o (HasRows index.cells index.working) → IfSome o (λ slots. contents new Working image ≡ Some (all_without row_kind (is_in table) slots))
-        → IfSome (contents new Working image) (HasRows index.cells (filter (λ place. not (is_in_table table place)) index.working))
+        → IfSome (contents new Working image) (HasRows index.cells (without_table table index.working))
     of_slots image None there has_rows left = absurd (cc)
     of_slots image (Some slots) there has_rows left = rw left (HasRows-without_table index.cells table index.working slots has_rows)
 
     go : (o : Option (List ℕ)) → IfSome o (StandsFor old) → IfSome (option_and_then (contents old Working) o) (HasRows index.cells index.working)
         → IfSome (option_and_then (contents old Working) o) (λ slots. option_and_then (contents new Working) o ≡ Some (all_without row_kind (is_in table) slots))
-        → IfSome (option_and_then (contents new Working) o) (HasRows index.cells (filter (λ place. not (is_in_table table place)) index.working))
+        → IfSome (option_and_then (contents new Working) o) (HasRows index.cells (without_table table index.working))
     go None stands has_rows left = tt
     go (Some image) stands has_rows left = of_slots image (contents old Working image) stands.working has_rows left

@@ -7,24 +7,21 @@ use Rattle.std.proofs.Math.ListN.{set, get_or-map}
 use Rattle.std.proofs.lemmas.Bool.{cases_Bool, eq-eqb, eqb-true, eqb-false, ne_eqb, and_right}
 use Rattle.std.proofs.lemmas.List.{ext_get_or, get_or-set_other, length-set, length-map}
 use Rattle.std.proofs.lemmas.List.Sums.{length-filter}
-use Rattle.eeprom.specs.Slots.{has, in_order, in_slot}
+use Rattle.eeprom.specs.Slots.{has, in_order}
 use Rattle.eeprom.specs.StoreOf.{Slots}
 use Rattle.eeprom.proofs.InOrder.{count_by-cons, count_by-in_order, list_any-in_order}
 use Rattle.scql_base.specs.declared.records.RowRecord.{RowRecord}
 use Rattle.catalog_codec.specs.Catalog.{row_kind}
-use Rattle.catalog_codec.specs.CatalogLaws.{IsKind-row}
-use Rattle.catalog_codec.specs.Kinds.{Kind, IsKind, HaveOtherMarks, read_as}
-use Rattle.record_table.specs.Listed.{at_slot}
-use Rattle.record_table.proofs.ListedChanges.{is_of-read, no_other}
 use Rattle.row_index.specs.Index.{HasRows}
-use Rattle.row_index.specs.Places.{is_in_table, place_of, place_slot, place_stamp, row_places}
+use Rattle.row_index.specs.Places.{is_in_table, place_of, place_slot, place_key, row_places}
 use Rattle.row_index.specs.declared.place.RowPlace.{RowPlace}
-use Rattle.row_index.proofs.ChangedPlaces.{filter-in_order_all}
+use Rattle.row_index.proofs.ChangedPlaces.{HasRows-left, kept-without_table}
+use Rattle.row_index.proofs.Filtered.{filter-in_order_all}
+use Rattle.row_index.specs.SideRows.{SideRows, without_table}
 use Rattle.row_index.proofs.SlotPlaces.{list_any-map}
 use Rattle.row_index.proofs.Scans.{lower_part, places_from, row_in_slot, slots_from}
 use Rattle.row_table.specs.Found.{is_in}
 use Rattle.record_table.specs.Swept.{all_without, has_passing, without_passing}
-use Rattle.record_table.proofs.LeftRecords.{has-of}
 
 -- the slots of some numbers are emptied
 abbrev pub without_slots : List ℕ → Slots → Slots
@@ -113,7 +110,7 @@ pub at-slots : (table slot : ℕ) (slots : Slots) → is_numbered slot (slots_in
 at-slots table slot slots =
     list_any-map (λ number. eqb number slot) place_slot (filter (is_in_table table) (row_places slots))
     ∙ any-filter (has place_slot slot) (is_in_table table) (row_places slots)
-    ∙ list_any-in_order place_stamp (λ place. is_in_table table place && has place_slot slot place) (places_from 0 slots)
+    ∙ list_any-in_order place_key (λ place. is_in_table table place && has place_slot slot place) (places_from 0 slots)
     ∙ subst (λ n. list_any (λ place. is_in_table table place && has place_slot n place) (places_from 0 slots) ≡ has_passing row_kind (is_in table) (get_or slots slot None)) (less_zero slot) (any-in_table table slot 0 slots)
   where
     less_zero : (n : ℕ) → 0 + n ≡ n
@@ -142,8 +139,8 @@ places-left table first (entry ∷ slots) = one (row_in_slot entry) refl (places
           | inr f ↦ rw (is, f) (rw is (ap (λ rest. place_of first row ∷ rest) rest))
         ]
 
-pub row_places-left : (table : ℕ) (slots : Slots) → row_places (all_without row_kind (is_in table) slots) ≡ filter (λ place. not (is_in_table table place)) (row_places slots)
-row_places-left table slots = ap (in_order place_stamp) (places-left table 0 slots) ∙ sym (filter-in_order_all place_stamp (λ place. not (is_in_table table place)) (places_from 0 slots))
+row_places-left : (table : ℕ) (slots : Slots) → row_places (all_without row_kind (is_in table) slots) ≡ filter (λ place. not (is_in_table table place)) (row_places slots)
+row_places-left table slots = ap (in_order place_key) (places-left table 0 slots) ∙ sym (filter-in_order_all place_key (λ place. not (is_in_table table place)) (places_from 0 slots))
 
 -- as many places are of the table as slots have its rows
 count-places : (table first : ℕ) (slots : Slots) → count_by (is_in_table table) (places_from first slots) ≡ count_by (has_passing row_kind (is_in table)) slots
@@ -163,22 +160,10 @@ count-places table first (entry ∷ slots) = one (row_in_slot entry) refl (count
 
 pub length-places : (table : ℕ) (slots : Slots) → length (filter (is_in_table table) (row_places slots)) ≡ count_by (has_passing row_kind (is_in table)) slots
 length-places table slots =
-    length-filter (is_in_table table) (row_places slots) ∙ count_by-in_order place_stamp (is_in_table table) (places_from 0 slots) ∙ count-places table 0 slots
+    length-filter (is_in_table table) (row_places slots) ∙ count_by-in_order place_key (is_in_table table) (places_from 0 slots) ∙ count-places table 0 slots
 
--- where they stood, the rows that are left stand
-pub HasRows-without_table : (cells table : ℕ) (places : List RowPlace) (slots : Slots) → HasRows cells places slots → HasRows cells (filter (λ place. not (is_in_table table place)) places) (all_without row_kind (is_in table) slots)
-HasRows-without_table cells table places slots has_rows = record {
-  all = length-map slots (without_passing row_kind (is_in table)) ∙ has_rows.all;
-  are = ap (filter (λ place. not (is_in_table table place))) has_rows.are ∙ sym (row_places-left table slots);
-}
-
--- all rows stay in their slots where records of a kind go whose marks are others
-pub rows-kept : {X : Type 0} (kind : Kind X) (p : X → Bool) (slots : Slots) (slot : ℕ) → IsKind kind → HaveOtherMarks kind row_kind → at_slot row_kind slot (all_without kind p slots) ≡ at_slot row_kind slot slots
-rows-kept kind p slots slot is apart =
-    let entry = get_or slots slot None in
-    ap (in_slot (read_as row_kind)) (get_or-map (without_passing kind p) slots slot None)
-    ∙ elim (cases_Bool (has_passing kind p entry)) [
-      | inl t ↦ (let there = has-of kind p entry (in_slot (read_as kind) entry) refl t in
-          rw (t, no_other kind row_kind entry IsKind-row apart (is_of-read kind entry there.0 is there.1)) refl)
-      | inr f ↦ rw f refl
-    ]
+-- the rows that are left are those of the slots without the table's
+pub HasRows-without_table : (cells table : ℕ) (rows : SideRows) (slots : Slots) → HasRows cells rows slots → HasRows cells (without_table table rows) (all_without row_kind (is_in table) slots)
+HasRows-without_table cells table rows slots has_rows =
+    HasRows-left cells (λ place. not (is_in_table table place)) rows (without_table table rows) slots (all_without row_kind (is_in table) slots) has_rows (length-map slots (without_passing row_kind (is_in table)) ∙ has_rows.all)
+    (row_places-left table slots) refl (kept-without_table table rows (row_places slots) has_rows.are)

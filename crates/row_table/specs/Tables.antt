@@ -1,9 +1,7 @@
 -- A store with the index of its rows, as one value: when the two stand together, and what an operation leaves of them.
-use Rattle.std.specs.Prelude.{◌≡◌, true, ℕ, ◌+◌, ◌*◌, ◌≤◌, false, not, List, [], ◌∷◌, count_by, Some, None, Result, IfSome, IsErrOf, OnOk, is_some, drop, slice_index_or}
-use Rattle.std.specs.List.{filter}
+use Rattle.std.specs.Prelude.{◌≡◌, true, ℕ, ◌+◌, ◌*◌, ◌≤◌, false, List, [], ◌∷◌, count_by, Some, None, Result, IfSome, IsTrue, IsErrOf, OnOk, is_some, drop, slice_index_or}
 use Rattle.eeprom.specs.Chip.{Chip, Becomes, Keeps, RisesBy}
 use Rattle.eeprom.specs.Fault.{Counts, CountsFaults}
-use Rattle.eeprom.specs.Slots.{without}
 use Rattle.eeprom.specs.StoreOf.{store_of, image_size}
 use Rattle.record_store.specs.Held.{IsOver, contents}
 use Rattle.record_store.specs.Transaction.{ChangesWhere, begun_from, entries}
@@ -20,8 +18,7 @@ use Rattle.record_table.specs.Making.{Ends, GoesOn, IsHeld, IsValidWith, Makes, 
 use Rattle.record_table.specs.Swept.{all_without, has_passing}
 use Rattle.record_table.specs.declared.stop.Stop.{Stop}
 use Rattle.record_table.specs.declared.stop.Stop.TheVariants.{Refused, Fault}
-use Rattle.row_index.specs.Index.{Indexes}
-use Rattle.row_index.specs.Places.{is_in_table, place_slot}
+use Rattle.row_index.specs.Index.{ChangesWorking, Indexes}
 use Rattle.row_table.specs.Found.{is_in}
 use Rattle.row_table.specs.declared.tables.Tables.{Tables}
 
@@ -30,6 +27,11 @@ pub record Stand (tables : Tables) (chip : Chip) : Type 0 where
   pub over : IsOver tables.store chip
   pub index : Indexes tables.index tables.store chip
   pub together : tables.index.begun ≡ tables.store.begun
+
+-- The tables stand over an EEPROM, and a transaction is begun.
+pub record InTransaction (tables : Tables) (chip : Chip) : Type 0 where
+  pub stand : Stand tables chip
+  pub begun : IsTrue tables.store.begun
 
 -- How an operation ends on the working side of a transaction: `may` is what it asks of the database, and `edits` says what it does to it, or its first refusal.
 pub record EndedBy {S T : Type 0} (chip : S → Chip) (faults : S → ℕ) (may : Database → Type 0) (edits : Database → Result (List Edit) StatusWord → Type 0) (before after : S) (old new : Tables) (result : Result T Stop) : Type 0 where
@@ -62,9 +64,9 @@ pub record RemovesRow (slot : ℕ) (old new : Tables) : Type 0 where
       → IsValidWith db (removing (of_row row) ∷ []) → Makes db (removing (of_row row) ∷ []) old.store new.store chip chip
   pub committed : (chip : Chip) → Stand old chip → slots_of new.store Committed chip ≡ slots_of old.store Committed chip
   pub goes_on : (chip : Chip) → Stand old chip → GoesOn old.store new.store chip chip
-  -- The index is without its place.
+  -- The index has the rows that are left.
   pub index : (chip : Chip) → Stand old chip → Indexes new.index new.store chip
-  pub places : new.index ≡ record { cells = old.index.cells; begun = true; committed = old.index.committed; working = without place_slot slot old.index.working }
+  pub changes : ChangesWorking old.index new.index
 
 -- All rows of a table are taken out of their slots, in memory alone.
 pub record RemovesRows (table : ℕ) (old new : Tables) : Type 0 where
@@ -75,9 +77,9 @@ pub record RemovesRows (table : ℕ) (old new : Tables) : Type 0 where
   -- Only slots of these rows changed, each of which is an entry at most of a commit.
   pub only : (chip : Chip) → Stand old chip → IfSome (slots_of old.store Working chip) (λ slots. ChangesWhere (λ slot. has_passing row_kind (is_in table) (slice_index_or slots slot None)) old.store new.store)
   pub entries : (chip : Chip) → Stand old chip → IfSome (slots_of old.store Working chip) (λ slots. entries new.store ≤ entries old.store + count_by (has_passing row_kind (is_in table)) slots)
-  -- The index is without their places.
+  -- The index has the rows that are left.
   pub index : (chip : Chip) → Stand old chip → Indexes new.index new.store chip
-  pub places : new.index ≡ record { cells = old.index.cells; begun = true; committed = old.index.committed; working = filter (λ place. not (is_in_table table place)) old.index.working }
+  pub changes : ChangesWorking old.index new.index
 
 -- A transaction begins: both sides have what is committed.
 pub record Begins (old new : Tables) : Type 0 where

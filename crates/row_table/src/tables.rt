@@ -1,16 +1,14 @@
 // A store with the index of its rows: transactions on both, and records made and changed in them.
-ghost use Rattle.std.specs.Prelude.{◌≡◌, ◌<◌, [], ◌∷◌, Ok, Some, IsTrue, IfSome, false, true};
+ghost use Rattle.std.specs.Prelude.{◌≡◌, ◌<◌, [], ◌∷◌, Ok, Some, IsTrue, IfSome, OnOk, false, true};
 ghost use Rattle.record_store.specs.declared.side.Side.TheVariants.{Working};
-ghost use Rattle.scql_model.specs.Database.{Database};
 ghost use Rattle.scql_model.specs.Edits.{changing, making, stamps_end};
 ghost use Rattle.scql_model.specs.Records.{of_row};
 ghost use Rattle.catalog_codec.specs.Catalog.{counter_kind, row_kind};
 ghost use Rattle.catalog_codec.specs.Kinds.{FitsChain, HaveOtherMarks};
 ghost use Rattle.record_table.specs.Listed.{at_slot, slots_of};
-ghost use Rattle.record_table.specs.Making.{IsHeld, IsValidWith};
-ghost use Rattle.row_index.specs.Index.{is_above};
+ghost use Rattle.record_table.specs.Making.{IsValidWith, KeepsRows};
 ghost use Rattle.row_table.specs.Found.{HasRowLike};
-ghost use Rattle.row_table.specs.Tables.{Begins, Commits, Ended, RemovesRow, RemovesRows, RollsBack, Stand};
+ghost use Rattle.row_table.specs.Tables.{Begins, Commits, Ended, InTransaction, RemovesRow, RemovesRows, RollsBack};
 
 use catalog_codec::Counter;
 use eeprom::{Eeprom, EepromFault};
@@ -39,8 +37,7 @@ impl Tables {
 
     /// Commits the transaction: what is on the working side is the committed state, at once. After a fault the tables aren't to be used again.
     pub fn commit<B: Eeprom>(&mut self, bench: &mut B) -> Result<(), EepromFault>
-        requires begun { IsTrue self.old.store.begun }
-        requires stand { Stand self.old (B.chip bench.old) }
+        requires open { InTransaction self.old (B.chip bench.old) }
         ensures { Commits B.chip B.faults bench.old bench.new self.old self.new result }
     {
         self.store.commit(bench)?;
@@ -65,15 +62,15 @@ impl Tables {
         counter: &Found<Counter>,
         value: &R,
     ) -> Result<(), Stop>
-        requires begun { IsTrue self.old.store.begun }
-        requires stand { Stand self.old (B.chip bench.old) }
+        requires open { InTransaction self.old (B.chip bench.old) }
         requires spelled { R.can_encode value.now }
         requires there { counter.now.slot < self.old.store.chains.cells }
         requires left { counter.now.value < stamps_end }
         requires counter { IfSome (slots_of self.old.store Working (B.chip bench.old)) (λ slots. Some counter.now.value ≡ at_slot counter_kind counter.now.slot slots) }
         requires no_row { HaveOtherMarks R.kind row_kind }
-        ensures { Ended B.chip B.faults (λ db. (R.kind.key value.now ≡ db.next) × IsValidWith db (making db (R.any value.now))) (λ db. Ok (making db (R.any value.now)))
+        ensures ended { Ended B.chip B.faults (λ db. (R.kind.key value.now ≡ db.next) × IsValidWith db (making db (R.any value.now))) (λ db. Ok (making db (R.any value.now)))
             bench.old bench.new self.old self.new result }
+        ensures rows { OnOk result (KeepsRows (slots_of self.old.store Working (B.chip bench.old)) (slots_of self.new.store Working (B.chip bench.new))) }
     {
         record_table::make(&mut self.store, bench, counter, value)?;
         Ok(())
@@ -86,18 +83,16 @@ impl Tables {
         counter: &Found<Counter>,
         row: &RowRecord,
     ) -> Result<(), Stop>
-        requires begun { IsTrue self.old.store.begun }
-        requires stand { Stand self.old (B.chip bench.old) }
+        requires open { InTransaction self.old (B.chip bench.old) }
         requires spelled { FitsChain row_kind row.now }
         requires there { counter.now.slot < self.old.store.chains.cells }
         requires left { counter.now.value < stamps_end }
         requires counter { IfSome (slots_of self.old.store Working (B.chip bench.old)) (λ slots. Some counter.now.value ≡ at_slot counter_kind counter.now.slot slots) }
-        requires last { (db : Database) → IsHeld self.old.store Working (B.chip bench.old) db → is_above db.next self.old.index.committed ≡ true }
         ensures { Ended B.chip B.faults (λ db. (row.now.stamp ≡ db.next) × IsValidWith db (making db (of_row row.now))) (λ db. Ok (making db (of_row row.now)))
             bench.old bench.new self.old self.new result }
     {
         let slot = record_table::make(&mut self.store, bench, counter, row)?;
-        self.index.added(row.table, row.stamp, slot);
+        self.index.added(&self.store, row.table, slot);
         Ok(())
     }
 
@@ -108,8 +103,7 @@ impl Tables {
         slot: u16,
         value: &R,
     ) -> Result<(), Stop>
-        requires begun { IsTrue self.old.store.begun }
-        requires stand { Stand self.old (B.chip bench.old) }
+        requires open { InTransaction self.old (B.chip bench.old) }
         requires spelled { R.can_encode value.now }
         requires there { slot < self.old.store.chains.cells }
         requires at { IfSome (slots_of self.old.store Working (B.chip bench.old)) (λ slots. (was : R) × (at_slot R.kind slot slots ≡ Some was) × (R.kind.key was ≡ R.kind.key value.now)) }
@@ -126,13 +120,13 @@ impl Tables {
         slot: u16,
         row: &RowRecord,
     ) -> Result<(), Stop>
-        requires begun { IsTrue self.old.store.begun }
-        requires stand { Stand self.old (B.chip bench.old) }
+        requires open { InTransaction self.old (B.chip bench.old) }
         requires spelled { FitsChain row_kind row.now }
         requires there { slot < self.old.store.chains.cells }
         requires same { IfSome (slots_of self.old.store Working (B.chip bench.old)) (HasRowLike row.now slot) }
-        ensures { Ended B.chip B.faults (λ db. (row_kind.form.fits row.now ≡ true) × IsValidWith db (changing (of_row row.now) ∷ [])) (λ db. Ok (changing (of_row row.now) ∷ []))
+        ensures ended { Ended B.chip B.faults (λ db. (row_kind.form.fits row.now ≡ true) × IsValidWith db (changing (of_row row.now) ∷ [])) (λ db. Ok (changing (of_row row.now) ∷ []))
             bench.old bench.new self.old self.new result }
+        ensures index_same { self.new.index ≡ self.old.index }
     {
         record_table::change_in_place(&mut self.store, bench, slot, row)
     }
@@ -144,8 +138,8 @@ impl Tables {
         requires there { slot < self.old.store.chains.cells }
         ensures { RemovesRow slot self.old self.new }
     {
+        self.index.removed(&self.store, slot);
         record_table::remove(&mut self.store, slot);
-        self.index.removed(slot);
     }
 
     /// Takes each row of a table out of its slot, and its place out of the index.
@@ -156,7 +150,7 @@ impl Tables {
         ensures { RemovesRows table self.old self.new }
     {
         let Tables { store, index } = self;
-        for slot in index.rows_of(Side::Working, table) {
+        for slot in index.rows_of(store, Side::Working, table) {
             record_table::remove(store, *slot);
         }
         index.table_removed(table);

@@ -156,12 +156,14 @@ dest-counted A is_live faults DestMute rows old new of = tt
 pub counted-done : (number : ℕ) (step : Step) (closing : Closing) (done : Piece (Unit {0})) (r : Piece ℕ) → step ≡ Done closing → done ≡ goes_on_by step → r ≡ counted_by number done → r ≡ counted_by number (whether (fetched_by closing))
 counted-done number step closing done r is goes counted = counted ∙ (ap (counted_by number) goes ∙ ap (λ (step : Step). counted_by number (goes_on_by step)) is)
 
-pub fetched-reads : {L : Type 0} (is_at : L → Machine → Type 0) (s : Machine) (number : ℕ) (closing : Closing) (now : L) → StaysAt is_at s now → FetchesSo is_at s (counted_by number (whether (fetched_by closing))) (StaysAt is_at s now) now
-fetched-reads is_at s number Nothing now stays = stays
-fetched-reads is_at s number Fine now stays = stays
-fetched-reads is_at s number (Rows all) now stays = stays
-fetched-reads is_at s number (Cut all) now stays = stays
-fetched-reads is_at s number (Refused word) now stays = stays
+-- a source that stays as it was does so however the piece ended
+pub reads-stayed : {L A : Type 0} (is_at : L → Machine → Type 0) (s : Machine) (r : Piece A) (now : L) → StaysAt is_at s now → FetchesSo is_at s r (StaysAt is_at s now) now
+reads-stayed is_at s (Ok x) now stays = stays
+reads-stayed is_at s (Err (Copied rows)) now stays = stays
+reads-stayed is_at s (Err (SourceRefused word)) now stays = stays
+reads-stayed is_at s (Err (DestRefused word)) now stays = stays
+reads-stayed is_at s (Err SourceMute) now stays = tt
+reads-stayed is_at s (Err DestMute) now stays = stays
 
 pub fetched-goes : {S D : Type 0} (s_live : S → Bool) (s_faults : S → ℕ) (d_live : D → Bool) (d_faults : D → ℕ) (number : ℕ) (closing : Closing) (source next : S) (dest new : D) → StillAnswers s_live s_faults source next → StillAnswers d_live d_faults dest new
     → GoesBy s_live s_faults d_live d_faults (counted_by number (whether (fetched_by closing))) source next dest new

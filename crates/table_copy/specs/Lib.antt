@@ -1,4 +1,5 @@
 pub mod Copy
 pub mod Copying
 pub mod Filling
+pub mod Leaving
 pub mod Progress

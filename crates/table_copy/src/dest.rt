@@ -13,7 +13,8 @@ ghost use Rattle.planner.specs.Meaning.{answer_to};
 ghost use Rattle.table_copy.specs.Copy.{may_begin, row_copied};
 ghost use Rattle.card_asking.specs.Calls.{HasGoneOn};
 ghost use Rattle.table_copy.specs.Copying.{StaysAt};
-ghost use Rattle.table_copy.specs.Filling.{BeginsSo, CommitsSo, CopiesAt, InsertsSo, IsFilling, IsInsertion, OfDest, RollsBackSo, UnlessDestMute, done_by};
+ghost use Rattle.table_copy.specs.Filling.{BeginsSo, CommitsSo, CopiesAt, InsertsSo, IsFilling, IsInsertion, RollsBackSo, UnlessDestMute, done_by};
+ghost use Rattle.table_copy.specs.Leaving.{DestLeaves, FillsOver};
 ghost use Rattle.table_copy.specs.declared.copy_end.CopyEnd.TheVariants.{DestMute};
 
 use crate::CopyEnd;
@@ -52,8 +53,7 @@ fn put<L: CardLink>(dest: &mut L, command: &Command, reply: &mut Reply) -> Resul
     ensures done { UnlessDestMute result (result ≡ done_by reply.new.word) }
     ensures moments { (m : Machine) → L.is_at dest.old m
         → LeavesOpen (IsOneOf (L.mark dest.old) (m.committed ∷ (answer_to m command.now).commits)) (L.chip dest.old) (L.chip dest.new) }
-    ensures ends { OfDest L.is_live L.faults result dest.old dest.new }
-    ensures rest { HasGoneOn L.mark L.keeps L.goes_on dest.old dest.new }
+    ensures leaves { DestLeaves L.is_live L.faults L.mark L.keeps L.goes_on result dest.old dest.new }
 {
     match ask(dest, command, reply) {
         Ok(()) => done(reply.word),
@@ -66,8 +66,7 @@ pub fn begin<L: CardLink>(dest: &mut L, reply: &mut Reply) -> Result<(), CopyEnd
     requires live { IsTrue (L.is_live dest.old) }
     ensures begins { (d : Machine) → L.is_at dest.old d → BeginsSo L.is_at d (may_begin d) result dest.new }
     ensures moments { (d : Machine) → L.is_at dest.old d → LeavesOpen (Holds (L.mark dest.old) d.committed) (L.chip dest.old) (L.chip dest.new) }
-    ensures ends { OfDest L.is_live L.faults result dest.old dest.new }
-    ensures rest { HasGoneOn L.mark L.keeps L.goes_on dest.old dest.new }
+    ensures leaves { DestLeaves L.is_live L.faults L.mark L.keeps L.goes_on result dest.old dest.new }
 {
     put(dest, &asking(Operation::Begin), reply)
 }
@@ -98,10 +97,8 @@ pub fn insert<L: CardLink>(
     requires live { IsTrue (L.is_live dest.old) }
     ensures inserts { (d : Machine) (db : Database) (row : Values) → CopiesAt L.is_at d db dest.old → octets.now ≡ row_octets row → is_row row ≡ true
         → InsertsSo L.is_at d db (row_copied d.committed.limit (actor d 0) table.now db row) result dest.new }
-    ensures fills { (d : Machine) → IsFilling L.is_at d dest.old → UnlessDestMute result (IsFilling L.is_at d dest.new) }
-    ensures moments { (d : Machine) → IsFilling L.is_at d dest.old → LeavesOpen (Holds (L.mark dest.old) d.committed) (L.chip dest.old) (L.chip dest.new) }
-    ensures ends { OfDest L.is_live L.faults result dest.old dest.new }
-    ensures rest { HasGoneOn L.mark L.keeps L.goes_on dest.old dest.new }
+    ensures fills { (d : Machine) → IsFilling L.is_at d dest.old → FillsOver L.is_at L.mark L.chip d result dest.old dest.new }
+    ensures leaves { DestLeaves L.is_live L.faults L.mark L.keeps L.goes_on result dest.old dest.new }
 {
     match insertion(table, octets) {
         Some(command) => put(dest, &command, reply),
@@ -117,8 +114,7 @@ pub fn commit<L: CardLink>(dest: &mut L, reply: &mut Reply) -> Result<(), CopyEn
     ensures commits { (d : Machine) (db : Database) → CopiesAt L.is_at d db dest.old → CommitsSo L.is_at d db result dest.new }
     ensures moments { (d : Machine) (db : Database) → CopiesAt L.is_at d db dest.old
         → LeavesOpen (IsOneOf (L.mark dest.old) (d.committed ∷ db ∷ [])) (L.chip dest.old) (L.chip dest.new) }
-    ensures ends { OfDest L.is_live L.faults result dest.old dest.new }
-    ensures rest { HasGoneOn L.mark L.keeps L.goes_on dest.old dest.new }
+    ensures leaves { DestLeaves L.is_live L.faults L.mark L.keeps L.goes_on result dest.old dest.new }
 {
     put(dest, &asking(Operation::Commit), reply)
 }

@@ -4,6 +4,7 @@
 mod copy_end;
 mod copying;
 mod dest;
+mod fetching;
 mod progress;
 mod source;
 #[cfg(test)]

@@ -1,5 +1,5 @@
 // The source of a copy: a SELECT of all columns, followed step by step.
-ghost use Rattle.std.specs.Prelude.{◌≡◌, ◌<◌, ℕ, List, [], Ok, Err, IsTrue, OnOk, false};
+ghost use Rattle.std.specs.Prelude.{◌≡◌, ℕ, List, [], Ok, Err, IsTrue, OnOk, false};
 ghost use Rattle.scql_model.specs.Machine.{Machine};
 ghost use Rattle.scql_model.specs.Matching.{Values};
 ghost use Rattle.script.specs.declared.statement.Statement.TheVariants.{Select};
@@ -7,18 +7,17 @@ ghost use Rattle.script.specs.Commands.{CanBeSent, IsSendable};
 ghost use Rattle.card_link.specs.Link.{Holds, LeavesOpen};
 ghost use Rattle.planner.specs.declared.closing.Closing.{Closing as ModelClosing};
 ghost use Rattle.planner.specs.Planned.{IfSent, started};
-ghost use Rattle.planner.specs.Turns.{IfGoesOn};
-ghost use Rattle.card_asking.specs.Following.{heard_at, to_go, turn_by};
+ghost use Rattle.card_asking.specs.Following.{ComesOn, heard_at, turn_by};
 ghost use Rattle.card_asking.specs.Giving.{GivesRows, behind_step};
 ghost use Rattle.table_copy.specs.Copy.{source_rows};
-ghost use Rattle.card_asking.specs.Calls.{HasGoneOn};
-ghost use Rattle.table_copy.specs.Filling.{OfSource, OpensSo, UnlessSourceMute, fetched_by, goes_on_by};
+ghost use Rattle.table_copy.specs.Filling.{OpensSo, UnlessSourceMute, fetched_by, goes_on_by};
+ghost use Rattle.table_copy.specs.Leaving.{SourceLeaves};
 
 use crate::CopyEnd;
-use apdu::Reply;
+use crate::fetching::Fetching;
 use card_asking::follow;
 use card_link::CardLink;
-use planner::{Closing, Plan, Step};
+use planner::{Closing, Step};
 use scql_base::{Conditions, Name, NameList, StatusWord};
 use script::Statement;
 
@@ -59,49 +58,41 @@ pub fn goes_on(step: &Step) -> Result<(), CopyEnd>
 }
 
 /// Follows a step of the source's plan. Where it was refused the copy ends.
-pub fn advance<L: CardLink>(
-    source: &mut L,
-    plan: &mut Plan,
-    step: &mut Step,
-    reply: &mut Reply,
-) -> Result<(), CopyEnd>
+pub fn advance<L: CardLink>(source: &mut L, fetching: &mut Fetching) -> Result<(), CopyEnd>
     requires live { IsTrue (L.is_live source.old) }
-    requires sendable { IfSent step.old IsSendable }
-    ensures gives { (m last : Machine) (closing : ModelClosing) (rows : List Values) → GivesRows L.is_at m closing last rows plan.old step.old source.old
-        → UnlessSourceMute result (GivesRows L.is_at m closing last (behind_step step.old rows) plan.new step.new source.new) }
-    ensures goes_on { UnlessSourceMute result (result ≡ goes_on_by step.new) }
-    ensures turns { UnlessSourceMute result (turn_by plan.old step.old reply.new ≡ record { plan = plan.new; step = step.new }) }
-    ensures reply { (m : Machine) → L.is_at source.old m → UnlessSourceMute result (reply.new ≡ heard_at m step.old reply.old) }
-    ensures still { (m last : Machine) (closing : ModelClosing) (rows : List Values) → GivesRows L.is_at m closing last rows plan.old step.old source.old
+    requires sendable { IfSent fetching.old.step IsSendable }
+    ensures gives { (m last : Machine) (closing : ModelClosing) (rows : List Values) → GivesRows L.is_at m closing last rows fetching.old.plan fetching.old.step source.old
+        → UnlessSourceMute result (GivesRows L.is_at m closing last (behind_step fetching.old.step rows) fetching.new.plan fetching.new.step source.new) }
+    ensures goes_on { UnlessSourceMute result (result ≡ goes_on_by fetching.new.step) }
+    ensures turns { UnlessSourceMute result (turn_by fetching.old.plan fetching.old.step fetching.new.reply ≡ record { plan = fetching.new.plan; step = fetching.new.step }) }
+    ensures reply { (m : Machine) → L.is_at source.old m → UnlessSourceMute result (fetching.new.reply ≡ heard_at m fetching.old.step fetching.old.reply) }
+    ensures still { (m last : Machine) (closing : ModelClosing) (rows : List Values) → GivesRows L.is_at m closing last rows fetching.old.plan fetching.old.step source.old
         → LeavesOpen (Holds (L.mark source.old) m.committed) (L.chip source.old) (L.chip source.new) }
-    ensures ends { OfSource L.is_live L.faults result source.old source.new }
-    ensures next_sendable { OnOk result (IfSent step.new IsSendable) }
-    ensures less { OnOk result (IfGoesOn step.old (to_go plan.new step.new < to_go plan.old step.old)) }
-    ensures rest { HasGoneOn L.mark L.keeps L.goes_on source.old source.new }
+    ensures comes_on { OnOk result (ComesOn fetching.old.plan fetching.old.step fetching.new.plan fetching.new.step) }
+    ensures leaves { SourceLeaves L.is_live L.faults L.mark L.keeps L.goes_on result source.old source.new }
 {
-    match follow(source, plan, step, reply) {
-        Ok(()) => goes_on(step),
+    match follow(
+        source,
+        &mut fetching.plan,
+        &mut fetching.step,
+        &mut fetching.reply,
+    ) {
+        Ok(()) => goes_on(&fetching.step),
         Err(_) => Err(CopyEnd::SourceMute),
     }
 }
 
 /// DECLARE and OPEN, of a plan that nothing was asked for yet.
-pub fn open<L: CardLink>(
-    source: &mut L,
-    plan: &mut Plan,
-    step: &mut Step,
-    reply: &mut Reply,
-) -> Result<(), CopyEnd>
+pub fn open<L: CardLink>(source: &mut L, fetching: &mut Fetching) -> Result<(), CopyEnd>
     requires live { IsTrue (L.is_live source.old) }
-    ensures opens { (s : Machine) (object : List ℕ) → plan.old ≡ started (Select object [] []) 0 false → CanBeSent 0 (Select object [] []) → L.is_at source.old s
-        → OpensSo L.is_at s (source_rows s object) plan.new step.new result source.new }
-    ensures still { (s : Machine) (object : List ℕ) → plan.old ≡ started (Select object [] []) 0 false → CanBeSent 0 (Select object [] []) → L.is_at source.old s
+    ensures opens { (s : Machine) (object : List ℕ) → fetching.old.plan ≡ started (Select object [] []) 0 false → CanBeSent 0 (Select object [] []) → L.is_at source.old s
+        → OpensSo L.is_at s (source_rows s object) fetching.new.plan fetching.new.step result source.new }
+    ensures still { (s : Machine) (object : List ℕ) → fetching.old.plan ≡ started (Select object [] []) 0 false → CanBeSent 0 (Select object [] []) → L.is_at source.old s
         → LeavesOpen (Holds (L.mark source.old) s.committed) (L.chip source.old) (L.chip source.new) }
-    ensures ends { OfSource L.is_live L.faults result source.old source.new }
-    ensures sendable { OnOk result (IfSent step.new IsSendable) }
-    ensures rest { HasGoneOn L.mark L.keeps L.goes_on source.old source.new }
+    ensures sendable { OnOk result (IfSent fetching.new.step IsSendable) }
+    ensures leaves { SourceLeaves L.is_live L.faults L.mark L.keeps L.goes_on result source.old source.new }
 {
-    plan.next_into(None, step);
-    advance(source, plan, step, reply)?;
-    advance(source, plan, step, reply)
+    fetching.plan.next_into(None, &mut fetching.step);
+    advance(source, fetching)?;
+    advance(source, fetching)
 }

@@ -1,5 +1,5 @@
 -- How a line ends: its text, and its moments.
-use Rattle.std.proofs.Common.{◌≡◌, ◌⊎◌, ℕ, ◌≤◌, ◌==◌, nat_le, Bool, true, ◌&&◌, List, [], ◌∷◌, ◌++◌, length, map, Option, Some, Ok, append_assoc, refl, sym, ◌∙◌, ap, subst, inl, inr, arith}
+use Rattle.std.proofs.Common.{◌≡◌, ◌⊎◌, ℕ, ◌≤◌, ◌==◌, nat_le, Bool, true, ◌&&◌, List, [], ◌∷◌, ◌++◌, length, map, Option, Some, Result, Ok, append_assoc, refl, sym, ◌∙◌, ap, subst, inl, inr, arith}
 use Rattle.std.specs.List.{concat, list_all, AllByRecursion}
 use Rattle.std.proofs.lemmas.Bool.{and_parts, le-ltb, cases_Bool, eqb-true, eqb-false}
 use Rattle.scql_base.specs.Row.{row_size, is_narrow}
@@ -11,7 +11,8 @@ use Rattle.scql_model.specs.Matching.{Values}
 use Rattle.scql_model.specs.Records as records
 use Rattle.scql_model.specs.Records.{is_row}
 use Rattle.scql_model.specs.ReadingCommands.{row_octets}
-use Rattle.card_link.specs.Link.{IsOneOf, HasValidData as IsOverValid}
+use Rattle.card_link.specs.Link.{AfterOutput, IsOneOf, HasValidData as IsOverValid}
+use Rattle.script.specs.declared.fault.ScriptFault.{ScriptFault}
 use Rattle.script.specs.declared.statement.Statement.{Statement}
 use Rattle.script.specs.Commands.{CanBeSent}
 use Rattle.script.specs.Line.{statement_of}
@@ -27,16 +28,20 @@ use Rattle.planner.proofs.TransactionKnown.{transaction-told}
 use Rattle.terminal.specs.declared.failure.Failure.TheVariants.{Card, Outlet}
 use Rattle.terminal.specs.declared.line_end.LineEnd.{LineEnd}
 use Rattle.terminal.specs.declared.line_end.LineEnd.TheVariants as ends
+use Rattle.terminal.specs.declared.quiet_end.QuietEnd.{QuietEnd}
 use Rattle.terminal.specs.declared.refusal.Refusal.{Refusal}
 use Rattle.scql_model.specs.Lives.{after_all}
 use Rattle.card_asking.proofs.Followed.{none-before}
-use Rattle.card_asking.proofs.Moments.{one-last}
+use Rattle.card_asking.proofs.Moments.{leaves-all, one-last}
 use Rattle.card_asking.proofs.Sound.{IsSound, select-or-none, sound}
+use Rattle.terminal.specs.Ending.{LineEnds, QuietEnds}
 use Rattle.terminal.specs.Going.{printed_row, rows_text, ran_text, IsInRun, IsMute, IsCut, HasRun, FailsSo}
 use Rattle.terminal.specs.Holding.{Holding, Knows, Sits, terminal_at, holding_after}
 use Rattle.terminal.specs.Line.{IsAnswered, IsCutOff, IsCutShort, EndsSo, EndsBy, ClosesSo, IsMoment, refusal_of, refusal_in, rows_in}
 use Rattle.terminal.specs.Failing.{Works}
+use Rattle.terminal.specs.Quiet.{closing_in}
 use Rattle.terminal.proofs.Went.{prints-both, works-both}
+use Rattle.eeprom.specs.Chip.{Chip}
 use Rattle.eeprom.specs.Fault.{Rose}
 use Rattle.eeprom.specs.Output.{Prints}
 
@@ -208,6 +213,26 @@ unread-ends is_at given is_live faults sink_faults m holding said text why ends.
 unread-ends is_at given is_live faults sink_faults m holding said text why ends.SinkFault old new is knows c at =
     record { said = c.0.said; rest = c.0.rest; start = sym is ∙ c.0.start; printed = c.0.printed; machine = m; at = at; committed = refl; knows = knows }
 
+-- so it ends, and the database stays until then
+pub unread-ended : {L : Type 0} {is_at : L → Machine → Type 0} {given : L → Option (List ℕ)} {is_live : L → Bool} {faults mark : L → ℕ} {chip : L → Chip} (sink_faults : L → ℕ) (m : Machine) (holding : Holding) (said text : List ℕ) (why : Refusal) (result : LineEnd) (old new : L)
+    → text ≡ said → Knows holding.transaction m → is_at old m → ClosesSo given is_live faults sink_faults text (Some why) result old new → AfterOutput is_at is_live faults mark chip old new
+    → LineEnds is_at given mark chip m (unread (terminal_at m holding.channel) said) [] (Some why) holding result old new
+unread-ended {L} {is_at} {given} {is_live} {faults} {mark} {chip} sink_faults m holding said text why result old new is knows at closes gives = record {
+  ends = unread-ends is_at given is_live faults sink_faults m holding said text why result old new is knows closes (gives.machine m at);
+  moments = leaves-all chip _ _ old new (λ g left holds. last-moment (mark old) g m.committed [] left holds.above holds.same) (gives.moments m at);
+}
+
 -- a line that is short enough is taken
 pub line-is : (state : TerminalState) (line : List ℕ) → length line ≤ 1000 → line_effect statement_lines state line ≡ read_effect state (statement_of line)
 line-is state line short = rw (le-ltb 1000 (length line) short) refl
+
+-- a line that is short enough ends as what it was read as
+pub read-ends : {L : Type 0} {is_at : L → Machine → Type 0} {given : L → Option (List ℕ)} {mark : L → ℕ} {chip : L → Chip} {m : Machine} {holding : Holding} {result : LineEnd} {old new : L} (state : TerminalState) (line : List ℕ) (read : Result Statement ScriptFault)
+    → length line ≤ 1000 → statement_of line ≡ read → LineEnds is_at given mark chip m (read_effect state read) (rows_in state read) (refusal_in state read) holding result old new
+    → LineEnds is_at given mark chip m (line_effect statement_lines state line) (rows_in state (statement_of line)) (refusal_in state (statement_of line)) holding result old new
+read-ends state line read short is ends = rw (line-is state line short, is) ends
+
+pub read-ends_quietly : {L : Type 0} {is_at : L → Machine → Type 0} {mark : L → ℕ} {chip : L → Chip} {m : Machine} {holding : Holding} {result : QuietEnd} {old new : L} (state : TerminalState) (line : List ℕ) (read : Result Statement ScriptFault)
+    → length line ≤ 1000 → statement_of line ≡ read → QuietEnds is_at mark chip m (read_effect state read) (closing_in state read) holding result old new
+    → QuietEnds is_at mark chip m (line_effect statement_lines state line) (closing_in state (statement_of line)) holding result old new
+read-ends_quietly state line read short is ends = rw (line-is state line short, is) ends

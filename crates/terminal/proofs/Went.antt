@@ -1,12 +1,13 @@
 -- How a statement goes on, on a desk: one step, and many.
 use Rattle.std.proofs.Common.{◌≡◌, ℕ, ◌≤◌, take, drop, take-append-drop, Bool, List, [], ◌∷◌, ◌++◌, map, Option, None, append_assoc, refl, sym, ◌∙◌, ap, subst, inl, arith}
-use Rattle.std.specs.Prelude.{Result, Err, IfErr}
+use Rattle.std.specs.Prelude.{Result, Err}
+use Rattle.std.proofs.lemmas.Result.{IfErr-weaker}
 use Rattle.std.specs.List.{concat}
 use Rattle.std.proofs.lemmas.List.{append-nil, map-append}
 use Rattle.std.proofs.lemmas.List.Folds.{concat-append}
 use Rattle.scql_model.specs.Database.{Database}
 use Rattle.scql_model.specs.Machine.{Machine}
-use Rattle.card_link.specs.Link.{HoldsWithin, IsOneOf}
+use Rattle.card_link.specs.Link.{HoldsWithin, IsOneOf, LeavesOpen}
 use Rattle.planner.specs.declared.closing.Closing.{Closing}
 use Rattle.planner.specs.declared.step.Step.{Step}
 use Rattle.planner.specs.declared.step.Step.TheVariants.{Send, Row, ResetCard, Done}
@@ -21,8 +22,9 @@ use Rattle.card_asking.proofs.Followed.{first-follows, follows-both, none-before
 use Rattle.card_asking.proofs.Moments.{one-mark, one-next}
 use Rattle.terminal.specs.declared.failure.Failure.{Failure}
 use Rattle.terminal.specs.declared.failure.Failure.TheVariants.{Card, Outlet}
-use Rattle.terminal.specs.Going.{printed_row, rows_text, ran_text, FailsSo, IsInRun, WentOn, IsMute, IsCut, HasRun}
-use Rattle.terminal.specs.Failing.{IsStart, Works, Causes}
+use Rattle.terminal.specs.Going.{printed_row, rows_text, ran_text, FailsSo, IsInRun, WentOn, IsMute, IsCut, HasRun, PlanRuns, StepRuns}
+use Rattle.terminal.specs.Failing.{Causes, IsStart, RunLeaves, Works}
+use Rattle.eeprom.specs.Chip.{Chip}
 use Rattle.eeprom.specs.Fault.{Rose}
 use Rattle.eeprom.specs.Output.{Prints}
 
@@ -122,9 +124,21 @@ pub cut-step : {L : Type 0} (is_at : L → Machine → Type 0) (given : L → Op
 cut-step is_at given m p step failure old new is s there at =
     subst (λ (f : Failure). FailsSo is_at given m (IsReadingAt p step) (run_from m p step) f old new) (sym is) (step-cut is_at given m p step old new s there at)
 
--- Outcomes.
-pub returned-err : {A : Type 0} (P : Failure → Type 0) (r : Result A Failure) (failure : Failure) → r ≡ Err failure → P failure → IfErr r P
-returned-err P r failure is holds = subst (λ r. IfErr r P) (sym is) holds
+-- A device failed: in a step, or in a plan; and what that leaves.
+pub step-failed : {L T : Type 0} {is_at : L → Machine → Type 0} {given : L → Option (List ℕ)} {mark : L → ℕ} {chip : L → Chip} {m : Machine} {p q : Planned} {step next : Step} {result : Result T Failure} {old new : L} (failure : Failure)
+    → result ≡ Err failure → FailsSo is_at given m (IsReadingAt p step) (run_from m p step) failure old new → LeavesOpen (IsInRun (mark old) m (run_from m p step)) (chip old) (chip new) → StepRuns is_at given mark chip m p step result old new q next
+step-failed {L} {T} {is_at} {given} {mark} {chip} {m} {p} {q} {step} {next} {result} {old} {new} failure is fails moments =
+    subst (λ (r : Result T Failure). StepRuns is_at given mark chip m p step r old new q next) (sym is) (record { goes = tt; fails = fails; moments = moments })
+
+pub plan-failed : {L : Type 0} {is_at : L → Machine → Type 0} {given : L → Option (List ℕ)} {mark : L → ℕ} {chip : L → Chip} {m : Machine} {reads : Type 0} {ran : Ran} {result : Result Closing Failure} {old new : L} (failure : Failure)
+    → result ≡ Err failure → FailsSo is_at given m reads ran failure old new → LeavesOpen (IsInRun (mark old) m ran) (chip old) (chip new) → PlanRuns is_at given mark chip m reads ran result old new
+plan-failed {L} {is_at} {given} {mark} {chip} {m} {reads} {ran} {result} {old} {new} failure is fails moments =
+    subst (λ (r : Result Closing Failure). PlanRuns is_at given mark chip m reads ran r old new) (sym is) (record { over = tt; fails = fails; moments = moments })
+
+pub leaves-failed : {L T : Type 0} {is_live : L → Bool} {faults sink_faults : L → ℕ} {goes_on : L → L → Type 0} {result : Result T Failure} {old new : L} (failure : Failure)
+    → result ≡ Err failure → Causes is_live faults sink_faults failure old new → goes_on old new → RunLeaves is_live faults sink_faults goes_on result old new
+leaves-failed {L} {T} {is_live} {faults} {sink_faults} {goes_on} {result} {old} {new} failure is causes goes =
+    subst (λ (r : Result T Failure). RunLeaves is_live faults sink_faults goes_on r old new) (sym is) (record { causes = causes; works = tt; goes_on = goes })
 
 -- Composition: what went on so far, and what goes on from there.
 pub goes-both : {L : Type 0} (is_at : L → Machine → Type 0) (given : L → Option (List ℕ)) (mark : L → ℕ) (m : Machine) (p q s : Planned) (step next last : Step) (old mid new : L)
@@ -192,7 +206,7 @@ fails-behind is_at given mark m p q step next Card old mid new first mute = mute
 fails-behind is_at given mark m p q step next Outlet old mid new first cut = cut-behind is_at given mark m p q step next old mid new first cut
 
 -- what only reads by another telling
-pub fails-told : {L : Type 0} (is_at : L → Machine → Type 0) (given : L → Option (List ℕ)) (m : Machine) (reads told : Type 0) (ran : Ran) (failure : Failure) (old new : L)
+fails-told : {L : Type 0} (is_at : L → Machine → Type 0) (given : L → Option (List ℕ)) (m : Machine) (reads told : Type 0) (ran : Ran) (failure : Failure) (old new : L)
     → (told → reads) → FailsSo is_at given m reads ran failure old new → FailsSo is_at given m told ran failure old new
 fails-told is_at given m reads told ran Card old new are mute = mute
 fails-told is_at given m reads told ran Outlet old new are cut = record {
@@ -206,6 +220,16 @@ fails-told is_at given m reads told ran Outlet old new are cut = record {
   in_row = cut.in_row;
   kept = λ is. cut.kept (are is);
 }
+
+-- a plan's run by another telling, also of what only reads
+pub runs-told : {L : Type 0} {is_at : L → Machine → Type 0} {given : L → Option (List ℕ)} {mark : L → ℕ} {chip : L → Chip} {m : Machine} {reads told : Type 0} {ran meant : Ran} {result : Result Closing Failure} {old new : L}
+    → (told → reads) → ran ≡ meant → PlanRuns is_at given mark chip m reads ran result old new → PlanRuns is_at given mark chip m told meant result old new
+runs-told {L} {is_at} {given} {mark} {chip} {m} {reads} {told} {ran} {meant} {result} {old} {new} are is runs =
+    subst (λ (ran : Ran). PlanRuns is_at given mark chip m told ran result old new) is (record {
+      over = runs.over;
+      fails = IfErr-weaker result _ _ (λ failure fails. fails-told is_at given m reads told ran failure old new are fails) runs.fails;
+      moments = runs.moments;
+    })
 
 -- a run that came to its last step is over
 pub is-over : {L : Type 0} (is_at : L → Machine → Type 0) (given : L → Option (List ℕ)) (mark : L → ℕ) (m : Machine) (p q : Planned) (step : Step) (closing : Closing) (old new : L)

@@ -1,20 +1,22 @@
 -- A statement under way on a desk: what was printed of it so far, and what of it is left.
-use Rattle.std.specs.Prelude.{◌≡◌, ℕ, ◌≤◌, List, [], ◌∷◌, ◌++◌, map, Option}
+use Rattle.std.specs.Prelude.{◌≡◌, ℕ, ◌≤◌, List, [], ◌∷◌, ◌++◌, map, Option, Result, IfErr, IfOk, OnOk}
 use Rattle.std.specs.List.{concat}
 use Rattle.std.specs.Option.{option_map_or}
 use Rattle.scql_base.specs.Row.{row_from}
 use Rattle.scql_model.specs.Database.{Database}
 use Rattle.scql_model.specs.Machine.{Machine}
+use Rattle.eeprom.specs.Chip.{Chip}
 use Rattle.eeprom.specs.Output.{Prints}
 use Rattle.planner.specs.declared.closing.Closing.{Closing}
 use Rattle.planner.specs.declared.step.Step.{Step}
 use Rattle.planner.specs.Held.{transaction_channel}
 use Rattle.planner.specs.Planned.{Planned}
+use Rattle.planner.specs.Readings.{IsReadingAt}
 use Rattle.planner.specs.Running.{Ran}
 use Rattle.planner.specs.Text.{row_text, closing_text}
-use Rattle.card_link.specs.Link.{IsOneOf}
+use Rattle.card_link.specs.Link.{IsOneOf, LeavesOpen}
 use Rattle.scql_model.specs.Lives.{after_all}
-use Rattle.card_asking.specs.Following.{Follows}
+use Rattle.card_asking.specs.Following.{Follows, run_from}
 use Rattle.terminal.specs.declared.failure.Failure.{Failure}
 use Rattle.terminal.specs.declared.failure.Failure.TheVariants.{Card, Outlet}
 
@@ -77,3 +79,21 @@ pub record HasRun {L : Type 0} (is_at : L → Machine → Type 0) (given : L →
   pub committed : ran.machine.committed ≡ after_all m.committed ran.commits
   pub later : mark old ≤ mark new
   pub still : ran.rows ≡ [] → mark new ≡ mark old
+
+-- A step of a plan is followed on a desk, over one machine at which the desk's card was.
+pub record StepRuns {L T : Type 0} (is_at : L → Machine → Type 0) (given : L → Option (List ℕ)) (mark : L → ℕ) (chip : L → Chip) (m : Machine) (p : Planned) (step : Step) (result : Result T Failure) (old new : L) (q : Planned) (next : Step) : Type 0 where
+  -- It goes on, and the row that it has is printed,
+  pub goes : OnOk result (WentOn is_at given mark m p step old new q next)
+  -- or a device fails in what is left.
+  pub fails : IfErr result (λ failure. FailsSo is_at given m (IsReadingAt p step) (run_from m p step) failure old new)
+  -- A power loss leaves a moment of the run from there.
+  pub moments : LeavesOpen (IsInRun (mark old) m (run_from m p step)) (chip old) (chip new)
+
+-- A plan whose run is this is carried out on a desk, but for its closing line, over one machine at which the desk's card was.
+pub record PlanRuns {L : Type 0} (is_at : L → Machine → Type 0) (given : L → Option (List ℕ)) (mark : L → ℕ) (chip : L → Chip) (m : Machine) (reads : Type 0) (ran : Ran) (result : Result Closing Failure) (old new : L) : Type 0 where
+  -- The run is over, and its rows are printed,
+  pub over : IfOk result (λ closing. HasRun is_at given mark m ran closing old new)
+  -- or a device fails in it.
+  pub fails : IfErr result (λ failure. FailsSo is_at given m reads ran failure old new)
+  -- A power loss leaves a moment of the run.
+  pub moments : LeavesOpen (IsInRun (mark old) m ran) (chip old) (chip new)

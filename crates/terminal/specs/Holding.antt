@@ -1,8 +1,9 @@
 -- What a terminal holds: the channel of its statements, and which channel has the open transaction.
-use Rattle.std.specs.Prelude.{◌≡◌, ◌==◌, ℕ, false, Option}
+use Rattle.std.specs.Prelude.{◌≡◌, ◌==◌, ℕ, Bool, false, IsTrue, Option}
 use Rattle.std.specs.Option.{option_map_or}
 use Rattle.scql_model.specs.Machine.{Machine}
 use Rattle.script.specs.declared.statement.Statement.{Statement}
+use Rattle.script.specs.Commands.{CanAlwaysBeSent}
 use Rattle.planner.specs.declared.closing.Closing.{Closing}
 use Rattle.planner.specs.Held.{channel_after, transaction_channel, held_after, held_when}
 use Rattle.planner.specs.Planned.{Planned, started}
@@ -36,3 +37,9 @@ holding_after statement closing holding = record {
 -- A plan is at the start of its statement, on the terminal's channel. Inside that channel's transaction it needs none of its own.
 abbrev pub IsStarted : Holding → Planned → Type 0
 IsStarted holding plan = plan ≡ started plan.statement holding.channel (option_map_or (λ own. own == holding.channel) holding.transaction false)
+
+-- A plan may be carried out on a link: the link is live, the plan's commands can be sent, and it is at its start.
+pub record MayRun {L : Type 0} (is_live : L → Bool) (holding : Holding) (plan : Planned) (link : L) : Type 0 where
+  pub live : IsTrue (is_live link)
+  pub sendable : CanAlwaysBeSent plan.statement
+  pub started : IsStarted holding plan

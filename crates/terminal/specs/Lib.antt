@@ -1,3 +1,4 @@
+pub mod Ending
 pub mod Failing
 pub mod Going
 pub mod Holding

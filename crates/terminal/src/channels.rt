@@ -1,24 +1,25 @@
 // The channels of a terminal, and what becomes of them as a plan is carried out.
-ghost use Rattle.std.specs.Prelude.{◌≡◌, ◌≤◌, ◌==◌, ◌∷◌, length, IsTrue, IfOk, IfErr, OnOk, OnErr, false, None, Ok, unwrap_or, option_copied};
+ghost use Rattle.std.specs.Prelude.{◌≡◌, ◌≤◌, ◌==◌, length, IfOk, IfErr, OnOk, OnErr, false, None, Ok, unwrap_or, option_copied};
 ghost use Rattle.script.specs.declared.statement.Statement.TheVariants.{Blank};
 ghost use Rattle.std.specs.Option.{option_map_or};
 ghost use Rattle.scql_model.specs.Machine.{Machine};
 ghost use Rattle.scql_model.specs.Lines.{longest_line};
 ghost use Rattle.script.specs.Commands.{CanAlwaysBeSent, CanBeSent};
 ghost use Rattle.script.specs.Line.{statement_of};
-ghost use Rattle.card_link.specs.Link.{AfterOutput, IsOneOf, LeavesOpen};
+ghost use Rattle.card_link.specs.Link.{AfterOutput};
 ghost use Rattle.planner.specs.Held as held;
 ghost use Rattle.planner.specs.Meaning.{meaning};
 ghost use Rattle.planner.specs.Readings.{IsSelect};
 ghost use Rattle.planner.specs.Running.{shown};
 ghost use Rattle.planner.specs.StatementLines.{read_effect};
-ghost use Rattle.terminal.specs.Going.{FailsSo, IsInRun, HasRun};
+ghost use Rattle.terminal.specs.Ending.{EndsLine, EndsQuietLine, LineLeaves, QuietLeaves};
+ghost use Rattle.terminal.specs.Going.{PlanRuns};
 ghost use Rattle.terminal.specs.Holding as holding;
-ghost use Rattle.terminal.specs.Holding.{IsStarted, Knows, terminal_at};
+ghost use Rattle.terminal.specs.Holding.{IsStarted, Knows, MayRun};
 ghost use Rattle.terminal.specs.Line as line_specs;
-ghost use Rattle.terminal.specs.Line.{ClosesSo, EndsBy, EndsSo, IsMoment, refusal_in, rows_in};
-ghost use Rattle.terminal.specs.Quiet.{EndsQuietly, EndsQuietlyBy, closing_in};
-ghost use Rattle.terminal.specs.Failing.{Causes, Works};
+ghost use Rattle.terminal.specs.Line.{ClosesSo, refusal_in, rows_in};
+ghost use Rattle.terminal.specs.Quiet.{closing_in};
+ghost use Rattle.terminal.specs.Failing.{RunLeaves};
 
 use crate::failure::Failure;
 use crate::following::{Room, carry_out, give};
@@ -76,16 +77,10 @@ impl Channels {
 
     /// Carries out the plan of a statement.
     pub(crate) fn run<L: Desk>(&mut self, link: &mut L, plan: &mut Plan, room: &mut Room) -> LineEnd
-        requires live { IsTrue (L.is_live link.old) }
-        requires sendable { CanAlwaysBeSent plan.old.statement }
-        requires started { IsStarted self.old plan.old }
-        ensures ends { (m : Machine) → L.is_at link.old m → Knows self.old.transaction m
-            → EndsSo L.is_at L.given m (read_effect (terminal_at m self.old.channel) (Ok plan.old.statement)) (rows_in (terminal_at m self.old.channel) (Ok plan.old.statement))
-            (refusal_in (terminal_at m self.old.channel) (Ok plan.old.statement)) self.new result link.old link.new }
-        ensures ends_by { EndsBy L.is_live L.faults L.sink_faults result link.old link.new }
-        ensures goes_on { L.goes_on link.old link.new }
-        ensures moments { (m : Machine) → L.is_at link.old m → Knows self.old.transaction m
-            → LeavesOpen (IsMoment (L.mark link.old) m.committed (read_effect (terminal_at m self.old.channel) (Ok plan.old.statement)).commits) (L.chip link.old) (L.chip link.new) }
+        requires { MayRun L.is_live self.old plan.old link.old }
+        ensures ended { EndsLine L.is_at L.given L.mark L.chip (λ state. read_effect state (Ok plan.old.statement)) (λ state. rows_in state (Ok plan.old.statement)) (λ state. refusal_in state (Ok plan.old.statement))
+            self.old self.new result link.old link.new }
+        ensures leaves { LineLeaves L.is_live L.faults L.sink_faults L.goes_on result link.old link.new }
     {
         match self.carry(link, plan, room) {
             Ok(closing) => close(link, &closing_text(closing), refusal_of(closing)),
@@ -101,21 +96,13 @@ impl Channels {
         plan: &mut Plan,
         room: &mut Room,
     ) -> Result<Closing, Failure>
-        requires live { IsTrue (L.is_live desk.old) }
-        requires sendable { CanAlwaysBeSent plan.old.statement }
-        requires started { IsStarted self.old plan.old }
+        requires { MayRun L.is_live self.old plan.old desk.old }
         ensures sent { CanBeSent self.old.channel plan.old.statement }
         ensures holds { IfOk result (λ closing. self.new ≡ holding.holding_after plan.old.statement closing self.old) }
         ensures stays { OnErr result (self.new ≡ self.old) }
-        ensures over { (m : Machine) → L.is_at desk.old m → Knows self.old.transaction m
-            → IfOk result (λ closing. HasRun L.is_at L.given L.mark m (shown (meaning m self.old.channel plan.old.statement)) closing desk.old desk.new) }
-        ensures moments { (m : Machine) → L.is_at desk.old m → Knows self.old.transaction m
-            → LeavesOpen (IsInRun (L.mark desk.old) m (shown (meaning m self.old.channel plan.old.statement))) (L.chip desk.old) (L.chip desk.new) }
-        ensures fails { (m : Machine) → L.is_at desk.old m → Knows self.old.transaction m
-            → IfErr result (λ failure. FailsSo L.is_at L.given m (IsSelect plan.old.statement) (shown (meaning m self.old.channel plan.old.statement)) failure desk.old desk.new) }
-        ensures causes { IfErr result (λ failure. Causes L.is_live L.faults L.sink_faults failure desk.old desk.new) }
-        ensures works { OnOk result (Works L.is_live L.faults L.sink_faults desk.old desk.new) }
-        ensures goes_on { L.goes_on desk.old desk.new }
+        ensures runs { (m : Machine) → L.is_at desk.old m → Knows self.old.transaction m
+            → PlanRuns L.is_at L.given L.mark L.chip m (IsSelect plan.old.statement) (shown (meaning m self.old.channel plan.old.statement)) result desk.old desk.new }
+        ensures leaves { RunLeaves L.is_live L.faults L.sink_faults L.goes_on result desk.old desk.new }
     {
         let channel = channel_after(plan.statement(), self.channel);
         let transaction = transaction_after(plan.statement(), self.channel, self.transaction);
@@ -135,17 +122,9 @@ impl Channels {
         plan: &mut Plan,
         room: &mut Room,
     ) -> QuietEnd
-        requires live { IsTrue (L.is_live link.old) }
-        requires sendable { CanAlwaysBeSent plan.old.statement }
-        requires started { IsStarted self.old plan.old }
-        ensures ends { (m : Machine) → L.is_at link.old m → Knows self.old.transaction m
-            → EndsQuietly L.is_at (read_effect (terminal_at m self.old.channel) (Ok plan.old.statement)) (closing_in (terminal_at m self.old.channel) (Ok plan.old.statement)) self.new result link.new }
-        ensures ends_by { EndsQuietlyBy L.is_live L.faults result link.old link.new }
-        ensures keeps { L.keeps link.old link.new }
-        ensures goes_on { L.goes_on link.old link.new }
-        ensures mark { L.mark link.new ≡ L.mark link.old }
-        ensures moments { (m : Machine) → L.is_at link.old m → Knows self.old.transaction m
-            → LeavesOpen (IsOneOf (L.mark link.old) (m.committed ∷ (read_effect (terminal_at m self.old.channel) (Ok plan.old.statement)).commits)) (L.chip link.old) (L.chip link.new) }
+        requires { MayRun L.is_live self.old plan.old link.old }
+        ensures ended { EndsQuietLine L.is_at L.mark L.chip (λ state. read_effect state (Ok plan.old.statement)) (λ state. closing_in state (Ok plan.old.statement)) self.old self.new result link.old link.new }
+        ensures leaves { QuietLeaves L.is_live L.faults L.mark L.keeps L.goes_on result link.old link.new }
     {
         let channel = channel_after(plan.statement(), self.channel);
         let transaction = transaction_after(plan.statement(), self.channel, self.transaction);

@@ -1,15 +1,16 @@
 // A terminal, and what it does with a line.
-ghost use Rattle.std.specs.Prelude.{◌≡◌, ◌≤◌, [], ◌∷◌, length, IsTrue, None, Some, Ok};
+ghost use Rattle.std.specs.Prelude.{◌≡◌, ◌≤◌, [], length, IsTrue, None, Some, Ok};
 ghost use Rattle.scql_model.specs.Machine.{Machine};
 ghost use Rattle.scql_model.specs.Lines.{line_effect, longest_line};
 ghost use Rattle.scql_model.specs.Step.{step};
 ghost use Rattle.script.specs.Line.{statement_of};
-ghost use Rattle.card_link.specs.Link.{IsOneOf, LeavesOpen};
+ghost use Rattle.card_link.specs.Link.{LeavesOpen};
 ghost use Rattle.planner.specs.Held.{held_after_octets};
 ghost use Rattle.planner.specs.StatementLines.{statement_lines};
-ghost use Rattle.terminal.specs.Holding.{Knows, terminal_at};
-ghost use Rattle.terminal.specs.Line.{EndsBy, EndsSo, IsMoment, refusal_in, rows_in};
-ghost use Rattle.terminal.specs.Quiet.{EndsQuietly, EndsQuietlyBy, closing_in};
+ghost use Rattle.terminal.specs.Ending.{EndsLine, EndsQuietLine, LineLeaves, QuietLeaves};
+ghost use Rattle.terminal.specs.Holding.{Knows};
+ghost use Rattle.terminal.specs.Line.{IsMoment, refusal_in, rows_in};
+ghost use Rattle.terminal.specs.Quiet.{closing_in};
 
 use crate::channels::{Channels, close};
 use crate::following::Room;
@@ -53,13 +54,9 @@ impl Terminal {
     pub fn line<L: Desk>(&mut self, link: &mut L, line: &[u8]) -> LineEnd
         requires live { IsTrue (L.is_live link.old) }
         requires short { length line.now ≤ longest_line }
-        ensures ends { (m : Machine) → L.is_at link.old m → Knows self.old.transaction m
-            → EndsSo L.is_at L.given m (line_effect statement_lines (terminal_at m self.old.channel) line.now) (rows_in (terminal_at m self.old.channel) (statement_of line.now))
-            (refusal_in (terminal_at m self.old.channel) (statement_of line.now)) self.new result link.old link.new }
-        ensures ends_by { EndsBy L.is_live L.faults L.sink_faults result link.old link.new }
-        ensures goes_on { L.goes_on link.old link.new }
-        ensures moments { (m : Machine) → L.is_at link.old m → Knows self.old.transaction m
-            → LeavesOpen (IsMoment (L.mark link.old) m.committed (line_effect statement_lines (terminal_at m self.old.channel) line.now).commits) (L.chip link.old) (L.chip link.new) }
+        ensures ended { EndsLine L.is_at L.given L.mark L.chip (λ state. line_effect statement_lines state line.now) (λ state. rows_in state (statement_of line.now)) (λ state. refusal_in state (statement_of line.now))
+            self.old self.new result link.old link.new }
+        ensures leaves { LineLeaves L.is_live L.faults L.sink_faults L.goes_on result link.old link.new }
     {
         match self.channels.read(line, &mut self.plan) {
             Ok(()) => self.channels.run(link, &mut self.plan, &mut self.room),
@@ -69,10 +66,9 @@ impl Terminal {
 
     /// Says of a line that is longer than a line may be that it is refused.
     pub fn refuse_long_line<L: Desk>(&mut self, link: &mut L) -> LineEnd
-        ensures ends { (m : Machine) → L.is_at link.old m → Knows self.old.transaction m
-            → EndsSo L.is_at L.given m (statement_lines.effect (terminal_at m self.old.channel) None) [] (Some Refusal.TooLong) self.new result link.old link.new }
-        ensures ends_by { EndsBy L.is_live L.faults L.sink_faults result link.old link.new }
-        ensures goes_on { L.goes_on link.old link.new }
+        ensures ended { EndsLine L.is_at L.given L.mark L.chip (λ state. statement_lines.effect state None) (λ _. []) (λ _. Some Refusal.TooLong) self.old self.new result link.old link.new }
+        ensures leaves { LineLeaves L.is_live L.faults L.sink_faults L.goes_on result link.old link.new }
+        // A power loss leaves the database as it was, also where the terminal doesn't know which channel has the open transaction.
         ensures moments { (m : Machine) → L.is_at link.old m → LeavesOpen (IsMoment (L.mark link.old) m.committed []) (L.chip link.old) (L.chip link.new) }
     {
         close(link, b"error line too long\n", Some(Refusal::TooLong))
@@ -82,14 +78,8 @@ impl Terminal {
     pub fn quiet<L: CardLink>(&mut self, link: &mut L, line: &[u8]) -> QuietEnd
         requires live { IsTrue (L.is_live link.old) }
         requires short { length line.now ≤ longest_line }
-        ensures ends { (m : Machine) → L.is_at link.old m → Knows self.old.transaction m
-            → EndsQuietly L.is_at (line_effect statement_lines (terminal_at m self.old.channel) line.now) (closing_in (terminal_at m self.old.channel) (statement_of line.now)) self.new result link.new }
-        ensures ends_by { EndsQuietlyBy L.is_live L.faults result link.old link.new }
-        ensures keeps { L.keeps link.old link.new }
-        ensures goes_on { L.goes_on link.old link.new }
-        ensures mark { L.mark link.new ≡ L.mark link.old }
-        ensures moments { (m : Machine) → L.is_at link.old m → Knows self.old.transaction m
-            → LeavesOpen (IsOneOf (L.mark link.old) (m.committed ∷ (line_effect statement_lines (terminal_at m self.old.channel) line.now).commits)) (L.chip link.old) (L.chip link.new) }
+        ensures ended { EndsQuietLine L.is_at L.mark L.chip (λ state. line_effect statement_lines state line.now) (λ state. closing_in state (statement_of line.now)) self.old self.new result link.old link.new }
+        ensures leaves { QuietLeaves L.is_live L.faults L.mark L.keeps L.goes_on result link.old link.new }
     {
         match self.channels.read(line, &mut self.plan) {
             Ok(()) => self

@@ -1,17 +1,12 @@
 // From view to base, down to a table.
-ghost use Rattle.std.specs.Prelude.{◌≡◌, ◌≤◌, ◌<◌, ◌+◌, ◌*◌, ◌∷◌, [], suc, true, Some, IfOk, IfSome, length};
+ghost use Rattle.std.specs.Prelude.{◌≡◌, ◌≤◌, ◌<◌, ◌+◌, ◌∷◌, [], suc, true, Some, IfOk, length};
 ghost use Rattle.std.specs.List.{list_all};
-ghost use Rattle.eeprom.specs.Chip.{Becomes, RisesAtMost};
-ghost use Rattle.eeprom.specs.Fault.{each_error};
-ghost use Rattle.eeprom.specs.Frame.{Reads};
-ghost use Rattle.eeprom.specs.StoreOf.{cell_size};
 ghost use Rattle.record_store.specs.Held.{IsOver};
 ghost use Rattle.scql_model.specs.Database.{Database};
 ghost use Rattle.scql_model.specs.Resolving as model;
 ghost use Rattle.scql_model.specs.Resolving.{AreKnown, resolved_below};
-ghost use Rattle.record_table.specs.Listed.{slots_of};
-ghost use Rattle.record_table.specs.Reading.{NeverFalls};
 ghost use Rattle.record_table.specs.Making.{IsHeld};
+ghost use Rattle.record_table.specs.Reading.{ReadsDatabase};
 ghost use Rattle.views.specs.Below.{cells_below};
 ghost use Rattle.views.specs.Resolved.{Reaches};
 
@@ -38,10 +33,7 @@ pub(crate) fn descend<B: Eeprom>(
     ensures reached { (db : Database) (r : model.Resolved) → IsHeld store.now side (B.chip bench.old) db → resolved_below (suc most) db.objects base ≡ Some r
         → list_all (AreKnown r.all) r.filters ≡ true → IfOk result (λ there. (there ≡ true) × Reaches resolved.new r) }
     ensures few { IfOk result (λ there. there ≡ true → length resolved.new.filters.items ≤ most) }
-    ensures octets_read { (db : Database) → IsHeld store.now side (B.chip bench.old) db
-        → IfOk result (λ _. Becomes (RisesAtMost (cell_size * cells_below (suc most) db.objects base)) (B.octets_read bench.old) (B.octets_read bench.new)) }
-    ensures rises { IfOk result (λ _. NeverFalls (slots_of store.now side (B.chip bench.old)) (B.octets_read bench.old) (B.octets_read bench.new)) }
-    ensures frame { Reads each_error B.chip B.faults bench.old bench.new result }
+    ensures reads { ReadsDatabase B.chip B.faults B.octets_read store.now side (λ db. cells_below (suc most) db.objects base) bench.old bench.new result }
 {
     let mut place = None;
     find_stamp_into(store, bench, side, base, &mut place)?;

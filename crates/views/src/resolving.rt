@@ -1,11 +1,7 @@
 // A table or a view, down to its table.
-ghost use Rattle.std.specs.Prelude.{◌≡◌, ◌≤◌, ◌<◌, ◌*◌, true, Some, IfOk, IfSome, IsSome, length, position};
+ghost use Rattle.std.specs.Prelude.{◌≡◌, ◌<◌, true, Some, IfOk, IfSome, IsSome, position};
 ghost use Rattle.std.specs.List.{list_all};
 ghost use Rattle.std.specs.Str.{bytes_eq};
-ghost use Rattle.eeprom.specs.Chip.{Becomes, RisesAtMost};
-ghost use Rattle.eeprom.specs.Fault.{each_error};
-ghost use Rattle.eeprom.specs.Frame.{Reads};
-ghost use Rattle.eeprom.specs.StoreOf.{cell_size};
 ghost use Rattle.record_store.specs.Held.{IsOver};
 ghost use Rattle.scql_base.specs.declared.name_list.TheConstants.NameList.{MOST};
 ghost use Rattle.scql_model.specs.Database.{Database, are_among, object_stamped};
@@ -13,9 +9,8 @@ ghost use Rattle.scql_model.specs.Defining.{is_table_or_view};
 ghost use Rattle.scql_model.specs.Objects.{columns_of};
 ghost use Rattle.scql_model.specs.Resolving as model;
 ghost use Rattle.scql_model.specs.Resolving.{AreKnown, resolved_of};
-ghost use Rattle.record_table.specs.Listed.{slots_of};
-ghost use Rattle.record_table.specs.Reading.{NeverFalls};
 ghost use Rattle.record_table.specs.Making.{IsHeld};
+ghost use Rattle.record_table.specs.Reading.{ReadsDatabase};
 ghost use Rattle.views.specs.Below.{cells_under};
 ghost use Rattle.views.specs.Resolved.{ArePlaces, Reaches, Resolves, StandsFor};
 
@@ -71,26 +66,6 @@ impl Default for Resolved {
     }
 }
 
-/// Finds the table on which a table or a view rests, and how its rows come from those of the table.
-pub fn resolve<B: Eeprom>(
-    store: &Store,
-    bench: &mut B,
-    side: Side,
-    object: &Object,
-) -> Result<Resolved, EepromFault>
-    requires over { IsOver store.now (B.chip bench.old) }
-    ensures resolved { (db : Database) → IsHeld store.now side (B.chip bench.old) db
-        → object_stamped db.objects object.now.stamp ≡ Some object.now → is_table_or_view object.now.kind ≡ true → IfOk result (Resolves db.objects object.now.stamp) }
-    ensures octets_read { (db : Database) → IsHeld store.now side (B.chip bench.old) db
-        → IfOk result (λ _. Becomes (RisesAtMost (cell_size * cells_under db.objects object.now.kind)) (B.octets_read bench.old) (B.octets_read bench.new)) }
-    ensures rises { IfOk result (λ _. NeverFalls (slots_of store.now side (B.chip bench.old)) (B.octets_read bench.old) (B.octets_read bench.new)) }
-    ensures frame { Reads each_error B.chip B.faults bench.old bench.new result }
-{
-    let mut resolved = Resolved::default();
-    resolve_into(store, bench, side, object, &mut resolved)?;
-    Ok(resolved)
-}
-
 /// Finds the table on which a table or a view rests, and how its rows come from those of the table, in a place.
 pub fn resolve_into<B: Eeprom>(
     store: &Store,
@@ -102,10 +77,7 @@ pub fn resolve_into<B: Eeprom>(
     requires over { IsOver store.now (B.chip bench.old) }
     ensures resolved { (db : Database) → IsHeld store.now side (B.chip bench.old) db
         → object_stamped db.objects object.now.stamp ≡ Some object.now → is_table_or_view object.now.kind ≡ true → IfOk result (λ _. Resolves db.objects object.now.stamp resolved.new) }
-    ensures octets_read { (db : Database) → IsHeld store.now side (B.chip bench.old) db
-        → IfOk result (λ _. Becomes (RisesAtMost (cell_size * cells_under db.objects object.now.kind)) (B.octets_read bench.old) (B.octets_read bench.new)) }
-    ensures rises { IfOk result (λ _. NeverFalls (slots_of store.now side (B.chip bench.old)) (B.octets_read bench.old) (B.octets_read bench.new)) }
-    ensures frame { Reads each_error B.chip B.faults bench.old bench.new result }
+    ensures reads { ReadsDatabase B.chip B.faults B.octets_read store.now side (λ db. cells_under db.objects object.now.kind) bench.old bench.new result }
 {
     if rest(store, bench, side, object, resolved)? && show(&object.kind, resolved) {
         return Ok(());
@@ -125,10 +97,7 @@ fn rest<B: Eeprom>(
     requires over { IsOver store.now (B.chip bench.old) }
     ensures reached { (db : Database) (r : model.Resolved) → IsHeld store.now side (B.chip bench.old) db → object_stamped db.objects object.now.stamp ≡ Some object.now → resolved_of db.objects object.now.stamp ≡ Some r
         → list_all (AreKnown r.all) r.filters ≡ true → IfOk result (λ there. (there ≡ true) × Reaches resolved.new r) }
-    ensures octets_read { (db : Database) → IsHeld store.now side (B.chip bench.old) db
-        → IfOk result (λ _. Becomes (RisesAtMost (cell_size * cells_under db.objects object.now.kind)) (B.octets_read bench.old) (B.octets_read bench.new)) }
-    ensures rises { IfOk result (λ _. NeverFalls (slots_of store.now side (B.chip bench.old)) (B.octets_read bench.old) (B.octets_read bench.new)) }
-    ensures frame { Reads each_error B.chip B.faults bench.old bench.new result }
+    ensures reads { ReadsDatabase B.chip B.faults B.octets_read store.now side (λ db. cells_under db.objects object.now.kind) bench.old bench.new result }
 {
     match &object.kind {
         ObjectKind::Table { columns } => {

@@ -6,7 +6,6 @@ ghost use Rattle.eeprom.specs.StoreOf.{image_size};
 ghost use Rattle.scql_base.specs.declared.operation.Operation.TheVariants as asks;
 ghost use Rattle.scql_model.specs.Bound.{octets_changed, or_nothing};
 ghost use Rattle.scql_model.specs.Machine as machine;
-ghost use Rattle.scql_model.specs.Operations.{kind_of};
 ghost use Rattle.scql_model.specs.Sessions.{left_by};
 ghost use Rattle.scql_model.specs.Step as stepping;
 ghost use Rattle.scql_model.specs.WellFormed.{HasForm, FitsCard};

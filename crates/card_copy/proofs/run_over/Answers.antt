@@ -37,5 +37,5 @@ pub run_copy-requires : goal.run_copy-requires
 run_copy-requires c = (
   lit< tt,
   both-live _ c.new-rack.result.readers c.insert.new.self.readers c.insert-2.new.self.readers c.insert.result c.insert-2.result c.new-rack.ensures.readers
-      c.insert.ensures.held c.insert.ensures.live c.insert.ensures.others c.insert-2.ensures.held c.insert-2.ensures.live c.insert-2.ensures.others,
+      c.insert.ensures.held c.insert.ensures.live c.insert.ensures.leaves.others c.insert-2.ensures.held c.insert-2.ensures.live c.insert-2.ensures.leaves.others,
 )

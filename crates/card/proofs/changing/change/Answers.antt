@@ -24,8 +24,8 @@ use Rattle.db_read.specs.Scan.{IsRightFor}
 use Rattle.row_table.specs.Tables.{Stand}
 use Rattle.card.specs.Acting.{acting}
 use Rattle.card.specs.Changing.{Changes, MayChange, new_of}
-use Rattle.row_index.specs.Index.{Index, Indexes, is_above}
-use Rattle.card.proofs.IndexedStore.{HoldsSome-changed, Indexes-held, last-held, rest-concluded}
+use Rattle.row_index.specs.Index.{Index, Indexes}
+use Rattle.card.proofs.IndexedStore.{HoldsSome-changed, Indexes-held, rest-concluded}
 use Rattle.record_table.proofs.AtRest.{held-begun, held-before, opens-rest, committed-begun, behind-changed}
 use Rattle.card.proofs.ChangedStore.{rest-rolled_back, Changes-failed, Changes-refused, Changes-half_committed, Changes-committed}
 use Rattle.card.proofs.CatalogKept.{catalog-concluded, catalog-kept}
@@ -166,12 +166,6 @@ returns-in-Err-Fault-clause-changes g c = λ db rest of.
     Changes-failed db (edits_of db (acting db c.args.user) c.args.cursor.now c.args.operation.now) old (opens-rest c.args.tables.now.store old db c.requires.stand.over rest) _ c.make.new.tables.store (g.B.Eeprom.chip c.make.new.bench) tt
     (kept g (goal.at.returns-in-Err-Fault-clause-changes g c).After-make)
 
-pub make-requires-clause-last : goal.make-requires-clause-last
-make-requires-clause-last g c = λ db held.
-    let begun : IsHeld c.args.tables.now.store Committed (g.B.Eeprom.chip c.args.bench.now) db = held-before c.args.tables.now.store c.begin.new.self.store (g.B.Eeprom.chip c.args.bench.now) (g.B.Eeprom.chip c.actor_known.new.bench) db held
-    c.in_ok-actor.ensures.frame.same c.begin.ensures.store c.begin.ensures.starts in
-    subst (λ (index : Index). is_above db.next index.committed ≡ true) (sym c.begin.ensures.index) (last-held c.args.tables.now.index c.args.tables.now.store (g.B.Eeprom.chip c.args.bench.now) db c.requires.stand.index begun)
-
 pub returns-in_ok-commit-in-Ok-clause-holds : goal.returns-in_ok-commit-in-Ok-clause-holds
 returns-in_ok-commit-in-Ok-clause-holds g c =
     HoldsSome-changed c.commit.new.self.store c.args.tables.now.store Committed (g.B.Eeprom.chip c.args.bench.now) (g.B.Eeprom.chip c.commit.new.bench) c.requires.holds
@@ -188,11 +182,11 @@ returns-in-Err-Refused-clause-holds g c =
     let ends = through g (goal.at.returns-in-Err-Refused-clause-changes g c).After-make db rest in
     rest-concluded db _ _ _ _ (refused-through g c db ends.0 rest ends.1).step)
 
-pub make-requires-clause-stand : goal.make-requires-clause-stand
-make-requires-clause-stand g c = c.begin.ensures.stand _ (rw (sym c.in_ok-actor.ensures.frame.same) at c.requires.stand)
+pub make-requires-clause-open : goal.make-requires-clause-open
+make-requires-clause-open g c = record { stand = c.begin.ensures.stand _ (rw (sym c.in_ok-actor.ensures.frame.same) at c.requires.stand); begun = search rules }
 
-pub commit-requires-clause-stand : goal.commit-requires-clause-stand
-commit-requires-clause-stand g c = stood g (goal.at.commit-requires-clause-stand g c).After-make (rw c.in-Ok.is (λ wrong. cc))
+pub commit-requires : goal.commit-requires
+commit-requires g c = record { «open» = record { stand = stood g (goal.at.commit-requires g c).After-make (rw c.in-Ok.is (λ wrong. cc)); begun = search rules } }
 
 pub returns-in-Err-Refused-clause-stand : goal.returns-in-Err-Refused-clause-stand
 returns-in-Err-Refused-clause-stand g c = c.rollback.ensures.stand _ (stood g (goal.at.returns-in-Err-Refused-clause-stand g c).After-make (rw (c.in-Err-Refused.is, c.in-Err-Refused.field-0-is) (λ wrong. cc)))

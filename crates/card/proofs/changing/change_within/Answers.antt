@@ -28,7 +28,6 @@ use Rattle.card.proofs.Ended.{ends-as}
 use Rattle.card.proofs.CatalogKept.{catalog-kept, catalog-made, same-catalog}
 use Rattle.card.proofs.ChangingOperations.{IsActorOf-acting}
 use Rattle.card.proofs.IndexedStore.{HoldsSome-changed, Indexes-held}
-use Rattle.card.proofs.Sides.{stamps-held}
 use Rattle.card.proofs.changing.change_within.Goals.{After-make}
 use Rattle.card.proofs.changing.change_within.Goals as goal
 
@@ -68,7 +67,7 @@ followed : (g : _) (c : After-make g) → ¬ IsErrOf c.make.result Fault → Ind
 followed g c whole =
     let goes_on = c.make.ensures.ended.goes_on whole in
     Indexes-held c.make.new.tables.index c.make.new.tables.store c.args.tables.now.store Working (g.B.Eeprom.chip c.args.bench.now) (g.B.Eeprom.chip c.make.new.bench) c.requires.works
-    (goes_on.told ∙ ap (λ (chip : Chip). is_some chip.image) c.in_ok-actor.ensures.frame.same) (c.make.ensures.ended.index_cells ∙ (c.requires.stand.index.cells ∙ sym goes_on.cells)) (λ db held.
+    (goes_on.told ∙ ap (λ (chip : Chip). is_some chip.image) c.in_ok-actor.ensures.frame.same) (c.make.ensures.ended.index_cells ∙ (c.requires.open.stand.index.cells ∙ sym goes_on.cells)) (λ db held.
     c.make.ensures.ended.index db (held-made g c db held) (may-made g c db held) whole)
 
 -- so the tables stand
@@ -76,7 +75,7 @@ stood : (g : _) (c : After-make g) → ¬ IsErrOf c.make.result Fault → Stand 
 stood g c whole = record {
   over = (c.make.ensures.ended.goes_on whole).over;
   index = followed g c whole;
-  together = c.make.ensures.ended.index_begun ∙ (c.requires.stand.together ∙ sym (c.make.ensures.ended.goes_on whole).begun);
+  together = c.make.ensures.ended.index_begun ∙ (c.requires.open.stand.together ∙ sym (c.make.ensures.ended.goes_on whole).begun);
 }
 
 -- what is so of an operation that was done, and of one that was refused
@@ -111,24 +110,6 @@ returns-in-Err-clause-works g c = IfOk-stop_answer c.in-Err.stop c.answer.result
     ((c.in-Err.ensures.ended.goes_on (λ wrong. cc)).told ∙ ap (λ (chip : Chip). is_some chip.image) c.in_ok-actor.ensures.frame.same) (λ db held.
     let refused = of-refused db _ c.make.result word c.args.tables.now.store c.make.new.tables.store (g.B.Eeprom.chip c.actor_known.new.bench) (g.B.Eeprom.chip c.make.new.bench) (c.in-Err.is ∙ ap Err is) (through g (goal.at.returns-in-Err-clause-works g c).After-make db held).1 in
     (db, subst (λ (store : Held). IsHeld store Working (g.B.Eeprom.chip c.make.new.bench) db) (sym refused.1) (subst (λ (chip : Chip). IsHeld c.args.tables.now.store Working chip db) (sym (refused.2 ∙ c.in_ok-actor.ensures.frame.same)) held))))
-
-pub returns-in-Ok-clause-stamps : goal.returns-in-Ok-clause-stamps
-returns-in-Ok-clause-stamps g c = λ db next held then.
-    let ends = through g (goal.at.returns-in-Ok-clause-stamps g c).After-make db held in
-    let made = of-ok db _ c.make.result _ c.args.tables.now.store c.make.new.tables.store (g.B.Eeprom.chip c.actor_known.new.bench) (g.B.Eeprom.chip c.make.new.bench) c.in-Ok.is ends.1 in
-    let later = (Follows-edits_of db (acting db c.args.user) ends.0 c.args.operation.now made.0 made.1).next in
-    let chip = g.B.Eeprom.chip c.make.new.bench in
-    let same = stamps-held c.make.new.tables.store c.make.new.tables.store Working Working chip chip _ next refl made.2.held then in
-    omega (arith, later, same)
-
-pub returns-in-Err-clause-stamps : goal.returns-in-Err-clause-stamps
-returns-in-Err-clause-stamps g c = λ db next held. IfOk-stop_answer c.in-Err.stop c.answer.result _ c.answer.ensures (λ word is then.
-    let ends = through g (goal.at.returns-in-Err-clause-stamps g c).After-make db held in
-    let refused = of-refused db _ c.make.result word c.args.tables.now.store c.make.new.tables.store (g.B.Eeprom.chip c.actor_known.new.bench) (g.B.Eeprom.chip c.make.new.bench) (c.in-Err.is ∙ ap Err is) ends.1 in
-    let old = g.B.Eeprom.chip c.args.bench.now in
-    let back = subst (λ (chip : Chip). IsHeld c.args.tables.now.store Working chip next) (refused.2 ∙ c.in_ok-actor.ensures.frame.same) (subst (λ (store : Held). IsHeld store Working (g.B.Eeprom.chip c.make.new.bench) next) refused.1 then) in
-    let same = stamps-held c.args.tables.now.store c.args.tables.now.store Working Working old old db next refl held back in
-    omega (arith, same))
 
 pub returns-in-Ok-clause-stand : goal.returns-in-Ok-clause-stand
 returns-in-Ok-clause-stand g c = stood g (goal.at.returns-in-Ok-clause-stand g c).After-make (rw c.in-Ok.is (λ wrong. cc))

@@ -20,17 +20,17 @@ create_view-requires-clause-short g c = rw c.in-CreateView.is at c.requires.fits
 
 pub returns-in-CreateTable-clause-ended : goal.returns-in-CreateTable-clause-ended
 unfolding edits_of
-returns-in-CreateTable-clause-ended g c = λ cursor. rw c.in-CreateTable.is (Ended-after (rw c.copy.ensures at c.create_table.ensures) refl refl (λ db held may. ((may.acts, may.form), refl)))
+returns-in-CreateTable-clause-ended g c = λ cursor. rw c.in-CreateTable.is (Ended-after (rw c.copy.ensures at c.create_table.ensures.ended) refl refl (λ db held may. ((may.acts, may.form), refl)))
 
 pub returns-in-CreateView-clause-ended : goal.returns-in-CreateView-clause-ended
 unfolding edits_of
 returns-in-CreateView-clause-ended g c = λ cursor.
-    rw c.in-CreateView.is (Ended-after (rw (c.copy-in-CreateView.ensures, c.copy-in-CreateView-2.ensures) at c.create_view.ensures) refl refl (λ db held may. ((may.acts, may.form), refl)))
+    rw c.in-CreateView.is (Ended-after (rw (c.copy-in-CreateView.ensures, c.copy-in-CreateView-2.ensures) at c.create_view.ensures.ended) refl refl (λ db held may. ((may.acts, may.form), refl)))
 
 pub returns-in-CreateDictionary-clause-ended : goal.returns-in-CreateDictionary-clause-ended
 unfolding edits_of
 returns-in-CreateDictionary-clause-ended g c = λ cursor.
-    rw c.in-CreateDictionary.is (Ended-after (rw c.copy-in-CreateDictionary.ensures at c.create_dictionary.ensures) refl refl (λ db held may. ((may.acts, may.form), refl)))
+    rw c.in-CreateDictionary.is (Ended-after (rw c.copy-in-CreateDictionary.ensures at c.create_dictionary.ensures.ended) refl refl (λ db held may. ((may.acts, may.form), refl)))
 
 pub returns-in-DropTable-clause-ended : goal.returns-in-DropTable-clause-ended
 unfolding edits_of
@@ -97,7 +97,7 @@ no-edits db actor cursor (DeleteUser name) without table view dictionary drop dr
 no-edits db actor cursor operation without table view dictionary drop drop_view grant revoke row user gone = refl
 
 pub returns-in_default-clause-ended : goal.returns-in_default-clause-ended
-returns-in_default-clause-ended g c = λ cursor. Ended-before c.requires.stand refl (search rules) (λ db held may.
+returns-in_default-clause-ended g c = λ cursor. Ended-before c.requires.open.stand refl (search rules) (λ db held may.
     let none = no-edits db c.args.actor cursor c.args.operation.now c.requires.no_cursor c.in_default.not-CreateTable c.in_default.not-CreateView c.in_default.not-CreateDictionary c.in_default.not-DropTable
     c.in_default.not-DropView c.in_default.not-Grant c.in_default.not-Revoke c.in_default.not-Insert c.in_default.not-CreateUser c.in_default.not-DeleteUser in
     rw (none, c.refused.ensures) (refl, refl, refl))

@@ -21,7 +21,7 @@ use Rattle.scql_model.specs.Opens.{Opens}
 use Rattle.card.proofs.GatheredSlots.{Gathers, GathersSoFar, gathered-next, gathered-none, none-next, none-stored}
 use Rattle.card.proofs.OpenedDatabase.{gathered-all, opens-finished, none-tested_told, opens-kept, reads-card, refused-kept}
 use Rattle.card.proofs.PooledSizes.{fits-slot, size-next}
-use Rattle.card.proofs.PlacedRows.{ArePlaces-gathered, holds-opened, indexed, most-read, read-next, stand-next, stand-none}
+use Rattle.card.proofs.PlacedRows.{holds-opened, indexed, most-read, read-next}
 use Rattle.card.proofs.opening.open_records.Goals.{After-finish-store, In-Some}
 use Rattle.card.proofs.opening.open_records.Goals as goal
 
@@ -68,7 +68,6 @@ loop-slot-preserved g c = record {
   };
   gathers = gathered-next c.loop-slot.opening c.in_ok-opening-2.opening (g.B.Eeprom.chip c.new.new.bench).image c.deref.result.now c.loop-slot.slot c.loop-slot.gathered.counter c.add_slot.new.self.counter c.loop-slot.gathered.records.items c.add_slot.new.self.records.items
       (rw (c.loop-slot.invariant.same, sym c.deref.ensures.0) at c.in_ok-opening-2.ensures.slots) c.in_ok-opening-2.ensures.rows (rw c.row_limit.ensures at c.in_ok-add_slot.ensures.admitted) c.in_ok-add_slot.ensures.counters c.in_ok-add_slot.ensures.records c.loop-slot.invariant.gathers;
-  stand = stand-next c.loop-slot.slot (slot_with c.deref.result.now) c.loop-slot.gathered.records.items c.add_slot.new.self.records.items c.in_ok-add_slot.ensures.records c.loop-slot.invariant.stand;
   few = omega (arith, c.in_ok-add_slot.ensures.few, c.loop-slot.invariant.few);
   capacity = c.in_ok-add_slot.ensures.cells ∙ c.loop-slot.invariant.capacity;
   size = size-next c.deref.result.now c.loop-slot.gathered.records.size c.add_slot.new.self.records.size c.loop-slot.opening.weight c.in_ok-opening-2.opening.weight c.in_ok-add_slot.ensures.size (rw (sym c.deref.ensures.0) at c.in_ok-opening-2.ensures.weight) c.loop-slot.invariant.size;
@@ -122,11 +121,6 @@ pub index_of-index-requires-clause-room : goal.index_of-index-requires-clause-ro
 index_of-index-requires-clause-room g c =
     omega (arith, ap (length {A = KeptRecord}) c.in-Some.ensures.records, length-in_order stamp_of c.loop-slot.gathered.records.items, c.loop-slot.invariant.few, c.loop-slot.auto.slot-end, c.in_ok-room.ensures.places.1)
 
-pub index_of-index-requires-clause-kept : goal.index_of-index-requires-clause-kept
-index_of-index-requires-clause-kept g c =
-    ArePlaces-gathered c.in_ok-room.room.index.cells c.loop-slot.slot c.loop-slot.gathered.records.items c.in-Some.records.items c.loop-slot.invariant.stand c.in-Some.ensures.passed.2.apart (c.in-Some.ensures.records)
-    c.loop-slot.invariant.few (omega (arith, ap (λ (index : Index). index.cells) c.in_ok-room.ensures.index, c.loop-slot.auto.slot-end))
-
 -- the same of the EEPROM as it is once all slots were claimed
 now : (g : _) (c : In-Some g) (P : List ℕ → Type 0) → IfSome (g.B.Eeprom.chip c.new.new.bench).image P → IfSome (g.B.Eeprom.chip c.loop-slot.bench).image P
 now g c P holds = subst (λ (chip : Chip). IfSome chip.image P) (sym c.loop-slot.invariant.same) holds
@@ -141,8 +135,11 @@ pub returns-clause-index : goal.returns-clause-index
 returns-clause-index g c =
     let at = goal.at.returns-clause-index g c in
     let all = all_claimed g at.In-Some in
-    indexed c.index_of-index.result c.finish-store.result (g.B.Eeprom.chip c.loop-slot.bench) c.in_ok-room.room.index.cells c.loop-slot.slot c.in-Some.ensures.passed.0 c.loop-slot.gathered.records.items c.in-Some.records.items c.index_of-index.ensures
-    (ap (λ (index : Index). index.cells) c.in_ok-room.ensures.index ∙ (c.cells-cells.ensures.number ∙ (sym c.loop-slot.invariant.opening.cells_are ∙ all))) c.finish-store.ensures.idle (sym (c.finish-store.ensures.cells ∙ all)) (opened g at.After-finish-store)
+    let cells = ap (λ (index : Index). index.cells) c.in_ok-room.ensures.index in
+    indexed c.index_of-index.result c.finish-store.result (g.B.Eeprom.chip c.loop-slot.bench) c.in_ok-room.room.index.cells c.loop-slot.slot c.in-Some.ensures.passed.0 c.loop-slot.gathered.records.items c.in-Some.records.items
+    c.index_of-index.ensures.cells c.index_of-index.ensures.both (cells ∙ (c.cells-cells.ensures.number ∙ (sym c.loop-slot.invariant.opening.cells_are ∙ all))) c.finish-store.ensures.idle (sym (c.finish-store.ensures.cells ∙ all))
+    (c.index_of-index.ensures.filled (g.B.Eeprom.chip c.loop-slot.bench)
+    (finished-over c.loop-slot.opening c.finish-store.result (g.B.Eeprom.chip c.loop-slot.bench) c.finish-store.ensures.stands c.finish-store.ensures.cells (over g at.After-finish-store))) (opened g at.After-finish-store)
     (now g at.In-Some _ (whole g at.In-Some)) c.in-Some.ensures.passed.2.apart (c.in-Some.ensures.records)
 
 pub returns-in_default-clause-most_read : goal.returns-in_default-clause-most_read
@@ -224,7 +221,6 @@ loop-slot-init g c =
     record {
       opening = search rules;
       gathers = gathered-none c.in_ok-opening.opening (g.B.Eeprom.chip c.new.new.bench).image c.in_ok-for_cells.field-0.items (search rules) none;
-      stand = stand-none c.in_ok-for_cells.field-0.items none;
       few = omega (arith, ap (length {A = KeptRecord}) none);
       capacity = ap (λ (pool : Pool). pool.cells) start;
       size = omega (arith, ap (λ (pool : Pool). pool.size) start);

@@ -1,4 +1,4 @@
-use Rattle.std.proofs.Common.{Err, ℕ, List, None, ap, subst, sym}
+use Rattle.std.proofs.Common.{Err, ℕ, List, None, ap, refl, subst, sym}
 use Rattle.scql_model.specs.Opens.{Opens}
 use Rattle.scql_model.specs.Database.{Database}
 use Rattle.scql_model.specs.Machine.{start}
@@ -22,7 +22,7 @@ returns-in-Ok-open-clause-done c =
     let opened : HeldCard = record { card = c.in-Ok-open.card; bench = c.open.new.bench; terminal = None } in
     boxed-so c.boxed.result c.new-in-Ok-open.result opened (λ held. (db : Database) → Opens c.args.image.items db → IsCardAt held (start db)) c.new-in-Ok-open.ensures c.boxed.ensures.held (λ db opens. record {
       ready = c.in-Ok-open.ensures.ready;
-      at = c.in-Ok-open.ensures.starts db (subst (λ (image : List ℕ). Opens image db) (sym c.in-Ok.ensures.image) opens);
+      at = (c.in-Ok-open.ensures.opened db (_, refl, subst (λ (image : List ℕ). Opens image db) (sym c.in-Ok.ensures.image) opens)).starts;
     })
 
 pub returns-in-Ok-open-clause-cuts : goal.returns-in-Ok-open-clause-cuts

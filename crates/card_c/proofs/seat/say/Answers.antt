@@ -14,7 +14,7 @@ pub returns-then-line-gt-LONGEST_LINE-clause-ends : goal.returns-then-line-gt-LO
 returns-then-line-gt-LONGEST_LINE-clause-ends c m at knows =
     let state = terminal_at m c.args.terminal.now.channel in
     subst (λ (does : Effect TerminalState). EndsLine m does c.refuse_long_line.new.self c.refuse_long_line.result c.args.desk.now c.refuse_long_line.new.link) (sym (long-line state c.args.line.now c.if-line-gt-LONGEST_LINE.true))
-    (ends-line m _ [] (Some TooLong) _ _ _ _ (c.refuse_long_line.ensures.ends m at knows) c.refuse_long_line.ensures.ends_by)
+    (ends-line m _ [] (Some TooLong) _ _ _ _ (c.refuse_long_line.ensures.ended m at knows).ends c.refuse_long_line.ensures.leaves.ends_by)
 
 pub returns-then-line-gt-LONGEST_LINE-clause-moments : goal.returns-then-line-gt-LONGEST_LINE-clause-moments
 returns-then-line-gt-LONGEST_LINE-clause-moments c m at knows =

@@ -4,7 +4,7 @@ use Rattle.eeprom.specs.Chip.{Chip, Still, Throughout}
 use Rattle.scql_model.specs.Database.{Database}
 use Rattle.scql_model.specs.Migrating.{migrate_text}
 use Rattle.card.specs.Behind.{KeepsBehind, own_cells}
-use Rattle.card_run.specs.Beginning.{IsOpenTo}
+use Rattle.card.specs.Opened.{IsOpenTo}
 use Rattle.line_run.specs.CutOff.{IsCutShort}
 use Rattle.card_run.specs.Migrating.{KeepsOthers, LeavesLongRows, IsInMigration, IsMigratedFrom}
 use Rattle.eeprom.specs.Output.{Prints}

@@ -3,7 +3,7 @@ use Rattle.std.proofs.Common.{refl}
 use Rattle.card.specs.Behind.{KeepsBehind, own_cells}
 use Rattle.card_run.specs.Behind.{run_cells}
 use Rattle.card_run.specs.Beginning.{LeavesUntilOpen}
-use Rattle.card_run.proofs.Finishing.{is_at, open_to, not_to_none, lacks_none, until_open}
+use Rattle.card_run.proofs.Finishing.{open_to, not_to_none, lacks_none, until_open}
 use Rattle.card.specs.GivenMoments.{behind-then}
 use Rattle.card_run.proofs.Behind.{cells-opened}
 use Rattle.card_run.proofs.opening.open_card.Goals as goal
@@ -31,7 +31,7 @@ returns-in-Err-NotACard-clause-stopped g c = λ db begins.
 
 pub returns-in-Ok-open-clause-starts : goal.returns-in-Ok-open-clause-starts
 returns-in-Ok-open-clause-starts g c = λ db begins.
-    is_at c.in-Ok-open.card (g.B.Eeprom.chip c.prepare.new.bench) (g.B.Eeprom.chip c.open.new.bench) db (c.in-Ok.ensures.begins db begins) c.in-Ok-open.ensures.starts
+    (c.in-Ok-open.ensures.opened db (c.in-Ok.ensures.begins db begins)).starts
 
 pub returns-in-Ok-open-clause-begins : goal.returns-in-Ok-open-clause-begins
 returns-in-Ok-open-clause-begins g c = λ told.

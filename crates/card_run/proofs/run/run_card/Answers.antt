@@ -12,7 +12,8 @@ use Rattle.card_run.specs.declared.words.Form.{Form}
 use Rattle.card_run.specs.declared.words.Form.TheVariants.{Term, Check, Load, Migrate}
 use Rattle.card_run.specs.Behind.{run_cells}
 use Rattle.program.specs.declared.status.Status.{Status}
-use Rattle.card_run.specs.Beginning.{IsOpenTo, BeginsWith, Begins, LacksCard, LeavesUntilOpen, FindsNoCard, WantsMemory}
+use Rattle.card_run.specs.Beginning.{BeginsWith, Begins, LacksCard, LeavesUntilOpen, FindsNoCard, WantsMemory}
+use Rattle.card.specs.Opened.{IsOpenTo}
 use Rattle.card_run.specs.Checking.{Says}
 use Rattle.program.specs.Ends.{AllFaults, EndsBy}
 use Rattle.card_run.specs.Ends.{may_end}

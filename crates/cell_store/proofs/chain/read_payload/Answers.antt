@@ -15,12 +15,12 @@ loop-step-init g c = record {
 pub loop-step-preserved : goal.loop-step-preserved
 loop-step-preserved g c =
     let inv = c.loop-step.invariant in
-    let more = c.in_ok-cell.ensures.appends in
+    let more = c.in_ok-cell.ensures.cell.appends in
     record {
       size = rw (more.2) (omega (arith, length-append c.loop-step.payload.items more.0, more.1, inv.size));
       walked = along-more c.args.cells c.args.first c.loop-step.cell c.args.payload.now.items c.loop-step.payload.items c.read_cell.new.payload.items c.loop-step._step c.in_ok-cell.cell (g.B.Eeprom.chip c.args.bench.now).image
-          c.requires.many c.if-cell-cells.false (rw inv.same at c.in_ok-cell.ensures.link) (rw inv.same at c.in_ok-cell.ensures.payload) inv.walked;
-      read = reads-more c.loop-step._step (g.B.Eeprom.octets_read c.args.bench.now) (g.B.Eeprom.octets_read c.loop-step.bench) (g.B.Eeprom.octets_read c.read_cell.new.bench) inv.read c.read_cell.ensures.octets_read;
+          c.requires.fits.many c.if-cell-cells.false (rw inv.same at c.in_ok-cell.ensures.cell.link) (rw inv.same at c.in_ok-cell.ensures.cell.payload) inv.walked;
+      read = reads-more c.loop-step._step (g.B.Eeprom.octets_read c.args.bench.now) (g.B.Eeprom.octets_read c.loop-step.bench) (g.B.Eeprom.octets_read c.read_cell.new.bench) inv.read c.read_cell.ensures.reads.octets_read;
       same = search rules;
       faults = search rules;
     }

@@ -1,4 +1,4 @@
-use Rattle.std.proofs.Common.{ap, arith, [], OnOk}
+use Rattle.std.proofs.Common.{ap, arith, rules, [], OnOk}
 use Rattle.eeprom.specs.Chip.{Chip}
 use Rattle.eeprom.specs.StoreOf.{longest_chain}
 use Rattle.cell_store.specs.Walk.{CopiesRecord}
@@ -17,15 +17,16 @@ short g c = record {
   copied = rw c.as_slice.ensures.value at c.copy_record.ensures.record;
 }
 
-pub returns-then-next-cells-clause-record : goal.returns-then-next-cells-clause-record
-returns-then-next-cells-clause-record g c =
-    copied-record c.args.cells c.args.first (g.B.Eeprom.chip c.args.bench.now).still.size c.copy_record.new.out.items (g.B.Eeprom.chip c.args.bench.now).image (g.B.Eeprom.octets_read c.args.bench.now) (g.B.Eeprom.octets_read c.read_payload.new.bench)
-    c.requires.room (g.met.B.Eeprom.sized c.args.bench.now) (short g (goal.at.returns-then-next-cells-clause-record g c).After-copy_record)
-
-pub returns-then-next-cells-clause-octets_read : goal.returns-then-next-cells-clause-octets_read
-returns-then-next-cells-clause-octets_read g c =
-    copied-reads c.args.cells c.args.first (g.B.Eeprom.chip c.args.bench.now).still.size c.copy_record.new.out.items (g.B.Eeprom.chip c.args.bench.now).image (g.B.Eeprom.octets_read c.args.bench.now) (g.B.Eeprom.octets_read c.read_payload.new.bench)
-    c.requires.room (g.met.B.Eeprom.sized c.args.bench.now) (short g (goal.at.returns-then-next-cells-clause-octets_read g c).After-copy_record)
+pub returns-then-next-cells : goal.returns-then-next-cells
+returns-then-next-cells g c =
+    let short = short g (goal.at.returns-then-next-cells g c).After-copy_record in
+    record {
+      «record» = copied-record c.args.cells c.args.first (g.B.Eeprom.chip c.args.bench.now).still.size c.copy_record.new.out.items (g.B.Eeprom.chip c.args.bench.now).image (g.B.Eeprom.octets_read c.args.bench.now)
+          (g.B.Eeprom.octets_read c.read_payload.new.bench) c.requires.fits.room (g.met.B.Eeprom.sized c.args.bench.now) short;
+      octets_read = copied-reads c.args.cells c.args.first (g.B.Eeprom.chip c.args.bench.now).still.size c.copy_record.new.out.items (g.B.Eeprom.chip c.args.bench.now).image (g.B.Eeprom.octets_read c.args.bench.now)
+          (g.B.Eeprom.octets_read c.read_payload.new.bench) c.requires.fits.room (g.met.B.Eeprom.sized c.args.bench.now) short;
+      frame = search rules;
+    }
 
 -- the chain has several
 longer : (g : _) (c : After-read_longer g) → OnOk c.read_longer.result (CopiesRecord c.args.cells c.args.first longest_chain [] c.read_longer.new.out.items
@@ -35,12 +36,13 @@ longer g c =
     (g.B.Eeprom.octets_read c.args.bench.now) (g.B.Eeprom.octets_read c.read_payload.new.bench) (g.B.Eeprom.octets_read c.read_longer.new.bench)
     c.if-next-cells.false (ap (λ (chip : Chip). chip.image) c.in_ok-next.ensures.frame.same) (rw c.new-piece.ensures at c.in_ok-next.ensures.along) (rw c.as_slice-2.ensures.value at c.read_longer.ensures.copies)
 
-pub returns-clause-record : goal.returns-clause-record
-returns-clause-record g c =
-    then-record c.read_longer.result c.args.cells c.args.first (g.B.Eeprom.chip c.args.bench.now).still.size c.read_longer.new.out.items (g.B.Eeprom.chip c.args.bench.now).image (g.B.Eeprom.octets_read c.args.bench.now) (g.B.Eeprom.octets_read c.read_longer.new.bench)
-    c.requires.room (g.met.B.Eeprom.sized c.args.bench.now) (longer g (goal.at.returns-clause-record g c).After-read_longer)
-
-pub returns-clause-octets_read : goal.returns-clause-octets_read
-returns-clause-octets_read g c =
-    then-reads c.read_longer.result c.args.cells c.args.first (g.B.Eeprom.chip c.args.bench.now).still.size c.read_longer.new.out.items (g.B.Eeprom.chip c.args.bench.now).image (g.B.Eeprom.octets_read c.args.bench.now) (g.B.Eeprom.octets_read c.read_longer.new.bench)
-    c.requires.room (g.met.B.Eeprom.sized c.args.bench.now) (longer g (goal.at.returns-clause-octets_read g c).After-read_longer)
+pub returns : goal.returns
+returns g c =
+    let longer = longer g (goal.at.returns g c).After-read_longer in
+    record {
+      «record» = then-record c.read_longer.result c.args.cells c.args.first (g.B.Eeprom.chip c.args.bench.now).still.size c.read_longer.new.out.items (g.B.Eeprom.chip c.args.bench.now).image
+          (g.B.Eeprom.octets_read c.args.bench.now) (g.B.Eeprom.octets_read c.read_longer.new.bench) c.requires.fits.room (g.met.B.Eeprom.sized c.args.bench.now) longer;
+      octets_read = then-reads c.read_longer.result c.args.cells c.args.first (g.B.Eeprom.chip c.args.bench.now).still.size c.read_longer.new.out.items (g.B.Eeprom.chip c.args.bench.now).image
+          (g.B.Eeprom.octets_read c.args.bench.now) (g.B.Eeprom.octets_read c.read_longer.new.bench) c.requires.fits.room (g.met.B.Eeprom.sized c.args.bench.now) longer;
+      frame = search rules;
+    }

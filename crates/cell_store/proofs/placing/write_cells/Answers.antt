@@ -10,8 +10,8 @@ use Rattle.cell_store.proofs.placing.write_cells.Goals as goal
 
 pub loop-left-init : goal.loop-left-init
 loop-left-init g c = record {
-  marks = c.requires.marks;
-  links = c.requires.links;
+  marks = c.requires.covers.used_count;
+  links = c.requires.covers.links_count;
   within = omega arith;
   free = c.requires.free;
   first = inl refl;
@@ -32,7 +32,7 @@ moments : (g : _) (c : After-write g) → KeepsMarked c.args.marks.now c.args.ce
 moments g c =
     keeps-run c.args.marks.now c.loop-left.marks c.args.cells c.find_run-run.result.cell c.find_run-run.result.count c.as_slice.result.now (g.B.Eeprom.chip c.args.bench.now) (g.B.Eeprom.chip c.loop-left.bench) (g.B.Eeprom.chip c.write.new.self)
     c.args.payload.now c.loop-left.links c.loop-left.left c.args.count c.loop-left.first (inside g c) c.find_run-run.ensures.free c.loop-left.invariant.stays
-    (rw c.as_slice.ensures.value c.fill_run.ensures.size) c.requires.room (g.met.B.Eeprom.sized c.args.bench.now) (g.met.B.Eeprom.clocked c.loop-left.bench)
+    (rw c.as_slice.ensures.value c.fill_run.ensures.size) c.requires.fits.room (g.met.B.Eeprom.sized c.args.bench.now) (g.met.B.Eeprom.clocked c.loop-left.bench)
     c.loop-left.invariant.placed c.loop-left.invariant.moments (rw c.cell_place.ensures at c.write.ensures.writes)
 
 pub returns-in-Err-clause-moments : goal.returns-in-Err-clause-moments
@@ -40,7 +40,7 @@ returns-in-Err-clause-moments g c = moments g (goal.at.returns-in-Err-clause-mom
 
 pub returns-in-Err-clause-undone : goal.returns-in-Err-clause-undone
 returns-in-Err-clause-undone g c =
-    undone c.args.cells c.args.marks.now c.loop-left.marks c.unmark_chain.new.marks c.loop-left.left c.args.count c.loop-left.first c.args.links.now c.loop-left.links c.requires.marks c.loop-left.invariant.links c.requires.short
+    undone c.args.cells c.args.marks.now c.loop-left.marks c.unmark_chain.new.marks c.loop-left.left c.args.count c.loop-left.first c.args.links.now c.loop-left.links c.requires.covers.used_count c.loop-left.invariant.links c.requires.short
     c.loop-left.invariant.laid (rw c.find_run-run.ensures.same at c.unmark_chain.ensures.unmarked)
 
 pub loop-left-preserved : goal.loop-left-preserved
@@ -64,12 +64,12 @@ loop-left-preserved g c =
       placed =
           let so_far = subst (λ (k : ℕ). Becomes (IsPlaced c.args.cells c.args.marks.now c.loop-left.marks c.args.payload.now k c.args.count c.loop-left.first c.loop-left.links) old.image mid.image) pieces c.loop-left.invariant.placed in
           let next = becomes-run c.args.marks.now c.loop-left.marks c.args.cells run.cell run.count c.as_slice.result.now old.image mid.image new.image old.still.size c.args.payload.now c.loop-left.links left c.args.count
-          c.loop-left.first c.requires.many inside c.find_run-run.ensures.free c.loop-left.invariant.stays c.requires.room (g.met.B.Eeprom.sized c.args.bench.now) (omega (arith, c.loop-left.invariant.within, pieces)) c.requires.payload
+          c.loop-left.first c.requires.fits.many inside c.find_run-run.ensures.free c.loop-left.invariant.stays c.requires.fits.room (g.met.B.Eeprom.sized c.args.bench.now) (omega (arith, c.loop-left.invariant.within, pieces)) c.requires.payload
           c.loop-left.invariant.marks c.loop-left.invariant.links (c.as_slice.ensures.value ∙ c.fill_run.ensures.octets) so_far (rw c.cell_place.ensures at c.in_default.ensures.written) in
           subst (λ (first : ℕ). Becomes (IsPlaced c.args.cells c.args.marks.now (run_marked c.loop-left.marks run.cell run.count) c.args.payload.now left c.args.count first
           (run_linked c.loop-left.links run.cell run.count c.loop-left.first)) old.image new.image) (first-some run.cell run.count c.loop-left.first c.find_run-run.ensures.some) next;
       laid =
-          let next = laid-run c.args.cells c.args.marks.now c.loop-left.marks left c.args.count c.loop-left.first run.cell run.count c.args.links.now c.loop-left.links inside c.find_run-run.ensures.free c.requires.marks
+          let next = laid-run c.args.cells c.args.marks.now c.loop-left.marks left c.args.count c.loop-left.first run.cell run.count c.args.links.now c.loop-left.links inside c.find_run-run.ensures.free c.requires.covers.used_count
           c.loop-left.invariant.marks c.loop-left.invariant.links
           (subst (λ (k : ℕ). IsLaid c.args.cells c.args.marks.now c.loop-left.marks k c.args.count c.loop-left.first c.args.links.now c.loop-left.links) pieces c.loop-left.invariant.laid) in
           subst (λ (first : ℕ). IsLaid c.args.cells c.args.marks.now (run_marked c.loop-left.marks run.cell run.count) left c.args.count first c.args.links.now (run_linked c.loop-left.links run.cell run.count c.loop-left.first))

@@ -14,7 +14,7 @@ use Rattle.db_access.proofs.UserDeleted.{KeepsRows-user_deleted, Makes-user_dele
 use Rattle.db_access.proofs.deleting.delete_user.Goals as goal
 
 pub returns-in_err-user-clause-ended : goal.returns-in_err-user-clause-ended
-returns-in_err-user-clause-ended g c = Ended-before c.requires.stand c.in_err-user.ensures.frame.same (search rules) (λ db held any.
+returns-in_err-user-clause-ended g c = Ended-before c.requires.open.stand c.in_err-user.ensures.frame.same (search rules) (λ db held any.
     Ends-unfound (λ (user : Found User). removing_user db user.value) (user_deleted db c.args.actor c.args.name) db (user_deleted db c.args.actor c.args.name) c.from_residual.result c.in_err-user.field-0.0 c.args.tables.now.store _ _
     c.from_residual.ensures.1 (c.in_err-user.ensures.found db held) (λ word is. is) c.in_err-user.ensures.frame.same)
 
@@ -24,14 +24,14 @@ returns-clause-ended g c =
     let chip = g.B.Eeprom.chip c.args.bench.now in
     let u = c.in_ok-user.user.value in
     let slot = c.in_ok-user.user.slot in
-    let stands = c.requires.stand.over.stands in
+    let stands = c.requires.open.stand.over.stands in
     let found = c.in_ok-user.ensures.frame.same in
     let grants = c.in_ok-remove_each.ensures in
     let removed = rw (grants.frame.same, found) at grants.removed in
     let stays = committed-stays (IsEmptied slot) old c.remove.new.store chip chip refl (λ image told. (image, told, c.remove.ensures.removed image (subst (λ o. IfSome o (StandsFor old)) told stands))) in
     let committed = (rw (grants.frame.same, found) at grants.committed) ∙ stays in
     let emptied = emptied-told old c.remove.new.store chip slot stands c.remove.ensures.removed in
-    Ended-in_memory c.requires.stand (grants.frame.same ∙ found) (search rules) refl (λ db held any.
+    Ended-in_memory c.requires.open.stand (grants.frame.same ∙ found) (search rules) refl (λ db held any.
     let is = c.in_ok-user.ensures.found db held in (
       removing_user db u,
       is,

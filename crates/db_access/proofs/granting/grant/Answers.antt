@@ -19,7 +19,7 @@ use Rattle.row_table.proofs.Endings.{Ended-after, Ended-before}
 use Rattle.db_access.proofs.granting.grant.Goals as goal
 
 pub returns-in_err-pair : goal.returns-in_err-pair
-returns-in_err-pair g c = Ended-before c.requires.stand c.in_err-pair.ensures.frame.same (search rules) (λ db held form.
+returns-in_err-pair g c = Ended-before c.requires.open.stand c.in_err-pair.ensures.frame.same (search rules) (λ db held form.
     Ends-unfound (λ (p : Pair). (p.object, p.grantee)) (pair_named db c.args.actor c.args.object c.args.grantee) db (privileges_granted db c.args.actor c.args.privileges c.args.object c.args.grantee) c.from_residual.result
     c.in_err-pair.field-0.0 c.args.tables.now.store _ _ c.from_residual.ensures.1 (c.in_err-pair.ensures.pair db held) (grants-none db c.args.actor c.args.privileges c.args.object c.args.grantee) c.in_err-pair.ensures.frame.same)
 
@@ -54,7 +54,7 @@ returns-in-Some g c = Ended-after c.change_in_place.ensures (c.in_ok-held.ensure
     (valid-granted db c.args.actor c.args.privileges c.args.object c.args.grantee (changing (of_grant more) ∷ []) held.valid form.0 is, is))
 
 pub returns-in_err-counter : goal.returns-in_err-counter
-returns-in_err-counter g c = Ended-before c.requires.stand (c.in_err-counter.ensures.frame.same ∙ (c.in_ok-held.ensures.frame.same ∙ c.in_ok-pair.ensures.frame.same)) (search rules) (λ db held form.
+returns-in_err-counter g c = Ended-before c.requires.open.stand (c.in_err-counter.ensures.frame.same ∙ (c.in_ok-held.ensures.frame.same ∙ c.in_ok-pair.ensures.frame.same)) (search rules) (λ db held form.
     let pair = c.in_ok-pair.pair in
     let chip = g.B.Eeprom.chip c.args.bench.now in
     let same = c.in_ok-held.ensures.frame.same ∙ c.in_ok-pair.ensures.frame.same in
@@ -66,7 +66,7 @@ returns-in_err-counter g c = Ended-before c.requires.stand (c.in_err-counter.ens
     (c.in_err-counter.ensures.none db edits (subst (λ chip. IsHeld c.args.tables.now.store Working chip db) (sym same) held) refl)))
 
 pub returns : goal.returns
-returns g c = Ended-after c.make.ensures (c.in_ok-counter.ensures.frame.same ∙ (c.in_ok-held.ensures.frame.same ∙ c.in_ok-pair.ensures.frame.same)) (c.in_ok-counter.ensures.frame.counts.1 ∙ (c.in_ok-held.ensures.frame.counts.1 ∙ c.in_ok-pair.ensures.frame.counts.1)) (λ db held form.
+returns g c = Ended-after c.make.ensures.ended (c.in_ok-counter.ensures.frame.same ∙ (c.in_ok-held.ensures.frame.same ∙ c.in_ok-pair.ensures.frame.same)) (c.in_ok-counter.ensures.frame.counts.1 ∙ (c.in_ok-held.ensures.frame.counts.1 ∙ c.in_ok-pair.ensures.frame.counts.1)) (λ db held form.
     let pair = c.in_ok-pair.pair in
     let chip = g.B.Eeprom.chip c.args.bench.now in
     let same = c.in_ok-held.ensures.frame.same ∙ c.in_ok-pair.ensures.frame.same in

@@ -8,20 +8,23 @@ use Rattle.row_table.proofs.Endings.{Ended-after, Ended-before}
 use Rattle.db_define.proofs.ObjectMade.{creates, creates-not, of-anew, valid-dictionary}
 use Rattle.db_define.proofs.dictionary.create_dictionary.Goals as goal
 
-pub returns-then-not-makes_objects : goal.returns-then-not-makes_objects
-returns-then-not-makes_objects g c = Ended-before c.requires.stand refl (search rules) (λ db held may.
+pub returns-then-not-makes_objects-clause-ended : goal.returns-then-not-makes_objects-clause-ended
+returns-then-not-makes_objects-clause-ended g c = Ended-before c.requires.open.stand refl (search rules) (λ db held may.
     rw c.refused.ensures (creates-not db c.args.actor c.args.name (Dictionary c.args.subject) (sym c.makes_objects.ensures ∙ c.if-not-makes_objects.true), refl, refl))
 
-pub returns-in_err-counter : goal.returns-in_err-counter
-returns-in_err-counter g c = Ended-before c.requires.stand c.in_err-counter.ensures.frame.same (search rules) (λ db held may.
+pub returns-in_err-counter-clause-ended : goal.returns-in_err-counter-clause-ended
+returns-in_err-counter-clause-ended g c = Ended-before c.requires.open.stand c.in_err-counter.ensures.frame.same (search rules) (λ db held may.
     let is = creates db c.args.actor c.args.name (Dictionary c.args.subject) (sym c.makes_objects.ensures ∙ c.if-not-makes_objects.false) in
     rw (sym is) (Ends-stopped (Unit {0}) db _ c.from_residual.result c.in_err-counter.field-0.0 _ _ _ _ c.from_residual.ensures.1
     (c.in_err-counter.ensures.refused db (new_object db c.args.actor c.args.name (Dictionary c.args.subject)) held refl)))
 
-pub returns : goal.returns
-returns g c = Ended-after c.make.ensures c.in_ok-counter.ensures.frame.same c.in_ok-counter.ensures.frame.counts.1 (λ db held may.
+pub returns-clause-ended : goal.returns-clause-ended
+returns-clause-ended g c = Ended-after c.make.ensures.ended c.in_ok-counter.ensures.frame.same c.in_ok-counter.ensures.frame.counts.1 (λ db held may.
     let asked = new_object db c.args.actor c.args.name (Dictionary c.args.subject) in
     let next = ap (λ counter. counter.value) c.counter.view_is ∙ c.in_ok-counter.ensures.next db held in
     let same = c.new_dictionary-dictionary.ensures.dictionary ∙ ap (λ stamp. record { stamp = stamp; name = c.args.name; owner = actor_stamp c.args.actor; kind = Dictionary c.args.subject }) next in
     of-anew db (object_created db c.args.actor c.args.name (Dictionary c.args.subject)) asked c.new_dictionary-dictionary.result (creates db c.args.actor c.args.name (Dictionary c.args.subject) (sym c.makes_objects.ensures ∙ c.if-not-makes_objects.false))
     (c.in_ok-counter.ensures.free db held) refl same (λ edits is. valid-dictionary db c.args.actor c.args.name c.args.subject edits held.valid may.0 may.1 is))
+
+pub returns-clause-rows : goal.returns-clause-rows
+returns-clause-rows g c = rw c.in_ok-counter.ensures.frame.same at c.make.ensures.rows

@@ -1,7 +1,6 @@
 -- The table goes with the grants on it, and then its rows, which the index follows.
-use Rattle.std.proofs.Common.{rules, refl, sym, ap, ◌∙◌}
+use Rattle.std.proofs.Common.{rules, refl, sym, ◌∙◌}
 use Rattle.record_table.proofs.MadeLeft.{of-told}
-use Rattle.row_index.specs.Index.{Index}
 use Rattle.row_table.specs.Tables.{Stand}
 use Rattle.row_table.specs.declared.tables.Tables.{Tables}
 use Rattle.row_table.proofs.Endings.{EndedBy-in_memory}
@@ -25,8 +24,8 @@ returns g c =
     let committed = rw (gone.frame.same, found.frame.same) at gone.committed in
     let stand : Stand mid chip = record {
       over = rw (gone.frame.same, found.frame.same) at gone.over;
-      index = Indexes-granted old.index Table c.args.actor c.args.name table old.store mid.store chip c.requires.stand.over.stands c.requires.stand.index found.found left gone.cells committed;
-      together = c.requires.stand.together ∙ sym gone.begun;
+      index = Indexes-granted old.index Table c.args.actor c.args.name table old.store mid.store chip c.requires.open.stand.over.stands c.requires.open.stand.index found.found left gone.cells committed;
+      together = c.requires.open.stand.together ∙ sym gone.begun;
     } in
     let goes_on = rows.goes_on chip stand in
     EndedBy-in_memory (gone.frame.same ∙ found.frame.same) (search rules) (λ db held any.
@@ -40,7 +39,7 @@ returns g c =
     (rows.committed chip stand ∙ committed)
     (record {
       index = λ db held any. rows.index chip stand;
-      cells = ap (λ (index : Index). index.cells) rows.places;
-      committed = ap (λ (index : Index). index.committed) rows.places;
-      begun = ap (λ (index : Index). index.begun) rows.places ∙ sym (c.requires.stand.together ∙ c.requires.begun);
+      cells = rows.changes.cells;
+      committed = rows.changes.committed;
+      begun = rows.changes.begun ∙ sym (c.requires.open.stand.together ∙ c.requires.open.begun);
     })

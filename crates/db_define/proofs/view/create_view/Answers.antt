@@ -12,19 +12,22 @@ use Rattle.db_define.proofs.ObjectMade.{of-anew}
 use Rattle.db_define.proofs.ViewMade.{valid-view}
 use Rattle.db_define.proofs.view.create_view.Goals as goal
 
-pub returns-in_err-counter : goal.returns-in_err-counter
-returns-in_err-counter g c = Ended-before c.requires.stand (c.in_err-counter.ensures.frame.same ∙ c.in_ok-base.ensures.frame.same) (search rules) (λ db held may.
+pub returns-in_err-counter-clause-ended : goal.returns-in_err-counter-clause-ended
+returns-in_err-counter-clause-ended g c = Ended-before c.requires.open.stand (c.in_err-counter.ensures.frame.same ∙ c.in_ok-base.ensures.frame.same) (search rules) (λ db held may.
     let kind = View c.in_ok-base.base.stamp (wanted_of c.in_ok-base.base.columns c.args.columns.now) c.args.conditions.now in
     let is = c.in_ok-base.ensures.found db c.args.name held in
     let there = subst (λ chip. IsHeld c.args.tables.now.store Working chip db) (sym c.in_ok-base.ensures.frame.same) held in
     rw (sym is) (Ends-stopped (Unit {0}) db _ c.from_residual-in_err-counter.result c.in_err-counter.field-0.0 _ _ _ _ c.from_residual-in_err-counter.ensures.1
     (rw c.in_ok-base.ensures.frame.same at (c.in_err-counter.ensures.refused db (new_object db c.args.actor c.args.name kind) there refl))))
 
-pub returns : goal.returns
-returns g c = Ended-after c.make.ensures (c.in_ok-counter.ensures.frame.same ∙ c.in_ok-base.ensures.frame.same) (c.in_ok-counter.ensures.frame.counts.1 ∙ c.in_ok-base.ensures.frame.counts.1) (λ db held may.
+pub returns-clause-ended : goal.returns-clause-ended
+returns-clause-ended g c = Ended-after c.make.ensures.ended (c.in_ok-counter.ensures.frame.same ∙ c.in_ok-base.ensures.frame.same) (c.in_ok-counter.ensures.frame.counts.1 ∙ c.in_ok-base.ensures.frame.counts.1) (λ db held may.
     let kind = View c.in_ok-base.base.stamp (wanted_of c.in_ok-base.base.columns c.args.columns.now) c.args.conditions.now in
     let there = subst (λ chip. IsHeld c.args.tables.now.store Working chip db) (sym c.in_ok-base.ensures.frame.same) held in
     let next = ap (λ counter. counter.value) c.counter.view_is ∙ c.in_ok-counter.ensures.next db there in
     let same = c.new_view-view.ensures.view ∙ ap (λ stamp. record { stamp = stamp; name = c.args.name; owner = actor_stamp c.args.actor; kind = kind }) next in
     of-anew db (view_created db c.args.actor c.args.name c.args.base c.args.columns.now c.args.conditions.now) (new_object db c.args.actor c.args.name kind) c.new_view-view.result (c.in_ok-base.ensures.found db c.args.name held)
     (c.in_ok-counter.ensures.free db there) refl same (λ edits is. valid-view db c.args.actor c.args.name c.args.base c.args.columns.now c.args.conditions.now edits held.valid may.0 may.1 c.requires.short is))
+
+pub returns-clause-rows : goal.returns-clause-rows
+returns-clause-rows g c = rw (c.in_ok-counter.ensures.frame.same, c.in_ok-base.ensures.frame.same) at c.make.ensures.rows

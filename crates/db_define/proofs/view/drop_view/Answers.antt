@@ -18,11 +18,11 @@ returns g c =
     let gone = c.in_ok-remove_object.ensures in
     let left = rw (gone.frame.same, found.frame.same) at gone.removed in
     let committed = rw (gone.frame.same, found.frame.same) at gone.committed in
-    Ended-in_memory c.requires.stand (gone.frame.same ∙ found.frame.same) (search rules) refl (λ db held any.
+    Ended-in_memory c.requires.open.stand (gone.frame.same ∙ found.frame.same) (search rules) refl (λ db held any.
     let there = of-told old chip held.slots (IsToDrop View old chip c.args.actor c.args.name view) held.told found.found in (
       removing_object db there.object,
       there.drops db held,
       Makes-view_dropped db c.args.actor c.args.name view old new chip held there left gone.cells gone.rows committed (rw found.frame.same at gone.entries) (rw found.frame.same at gone.only),
     ))
     (record { begun = gone.begun; cells = gone.cells; rows = gone.rows; told = refl; over = rw (gone.frame.same, found.frame.same) at gone.over })
-    (KeepsRows-granted View c.args.actor c.args.name view old new chip c.requires.stand.over.stands found.found left) committed
+    (KeepsRows-granted View c.args.actor c.args.name view old new chip c.requires.open.stand.over.stands found.found left) committed

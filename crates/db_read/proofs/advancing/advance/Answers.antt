@@ -30,7 +30,7 @@ still : (g : _) (c : After-go g) (db : Database) → IsHeld c.args.reader.now.st
     → IsHeld c.if-not-has_found.reader.store.now c.if-not-has_found.reader.side (g.B.Eeprom.chip c.if-not-has_found.reader.bench.now) db
 still g c db held =
     elim c.if-not-has_found.branch [
-      | then-not-has_found+in_default-choose w ↦ rw (w.reader-is, w.choose.ensures.goes_on.store, w.choose.ensures.goes_on.side, w.choose.ensures.frame.same) held
+      | then-not-has_found+in_default-choose w ↦ rw (w.reader-is, w.choose.ensures.reads.goes_on.store, w.choose.ensures.reads.goes_on.side, w.choose.ensures.reads.frame.same) held
       | else-not-has_found w ↦ rw w.reader-is held
     ]
 

@@ -31,7 +31,7 @@ resolves : (g : _) (c : After-place_all g) (db : Database) → IsHeld c.args.rea
 resolves g c db held =
     let reader = c.args.reader.now in
     let chip = g.B.Eeprom.chip reader.bench.now in
-    c.in_ok-resolve.ensures.rests db (rw (c.in_ok-find_selected.ensures.goes_on.store, c.in_ok-find_selected.ensures.goes_on.side, c.in_ok-find_selected.ensures.frame.same) held)
+    c.in_ok-resolve.ensures.rests db (rw (c.in_ok-find_selected.ensures.reads.goes_on.store, c.in_ok-find_selected.ensures.reads.goes_on.side, c.in_ok-find_selected.ensures.reads.frame.same) held)
     (stamp-found reader.store.now reader.side chip db c.args.actor c.args.cursor.now c.in-Some.object held (selects g (goal.at.After-place_all g c).After-resolve db held))
 
 pub returns-clause-right : goal.returns-clause-right
@@ -73,7 +73,7 @@ returns-clause-octets_read g c = λ db held cursor.
     let chip = g.B.Eeprom.chip reader.bench.now in
     let on = c.args.cursor.now.object in
     let there = at-object reader.store.now reader.side chip db c.args.actor c.args.cursor.now c.in-Some.object held cursor (selects g (goal.at.returns-clause-octets_read g c).After-resolve db held) in
-    let way = c.in_ok-resolve.ensures.octets_read db (rw (c.in_ok-find_selected.ensures.goes_on.store, c.in_ok-find_selected.ensures.goes_on.side, c.in_ok-find_selected.ensures.frame.same) held) in
+    let way = c.in_ok-resolve.ensures.octets_read db (rw (c.in_ok-find_selected.ensures.reads.goes_on.store, c.in_ok-find_selected.ensures.reads.goes_on.side, c.in_ok-find_selected.ensures.reads.frame.same) held) in
     way-chosen reader.store.now reader.side chip db held (cells_selected db c.args.actor on) (way_cells db on) _ _ _ (c.in_ok-find_selected.ensures.octets_read db held) c.in_ok-find_selected.ensures.rises
     (subst (λ (o : Option Object). ReadsAtMost (option_map_or (λ (x : Object). cells_under db.objects x.kind) o 0) (g.B.Eeprom.octets_read c.find_selected.new.reader.bench.now) (g.B.Eeprom.octets_read c.resolve.new.reader.bench.now)) (sym there) way)
-    (rw (c.in_ok-find_selected.ensures.goes_on.store, c.in_ok-find_selected.ensures.goes_on.side, c.in_ok-find_selected.ensures.frame.same) at c.in_ok-resolve.ensures.rises)
+    (rw (c.in_ok-find_selected.ensures.reads.goes_on.store, c.in_ok-find_selected.ensures.reads.goes_on.side, c.in_ok-find_selected.ensures.reads.frame.same) at c.in_ok-resolve.ensures.rises)

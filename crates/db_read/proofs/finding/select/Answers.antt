@@ -34,15 +34,15 @@ pub returns-then-not-see-clause-octets_read : goal.returns-then-not-see-clause-o
 returns-then-not-see-clause-octets_read g c = λ db held.
     let reader = c.args.reader.now in
     rw c.in-Some.is (where-refused not_found _ c.refused-then-not-see.result c.refused-then-not-see.ensures
-    (rights-read reader.store.now reader.side (g.B.Eeprom.chip reader.bench.now) db held c.args.actor c.in-Some.object _ _ c.in_ok-rights.ensures.octets_read))
+    (rights-read reader.store.now reader.side (g.B.Eeprom.chip reader.bench.now) db held c.args.actor c.in-Some.object _ _ c.in_ok-rights.ensures.reads.octets_read))
 
 pub returns-then-not-have-clause-octets_read : goal.returns-then-not-have-clause-octets_read
 returns-then-not-have-clause-octets_read g c = λ db held.
     let reader = c.args.reader.now in
     rw c.in-Some.is (where-refused security_not_satisfied _ c.refused-then-not-have.result c.refused-then-not-have.ensures
-    (rights-read reader.store.now reader.side (g.B.Eeprom.chip reader.bench.now) db held c.args.actor c.in-Some.object _ _ c.in_ok-rights.ensures.octets_read))
+    (rights-read reader.store.now reader.side (g.B.Eeprom.chip reader.bench.now) db held c.args.actor c.in-Some.object _ _ c.in_ok-rights.ensures.reads.octets_read))
 
 pub returns-clause-octets_read : goal.returns-clause-octets_read
 returns-clause-octets_read g c = λ db held.
     let reader = c.args.reader.now in
-    rw c.in-Some.is (rights-read reader.store.now reader.side (g.B.Eeprom.chip reader.bench.now) db held c.args.actor c.in-Some.object _ _ c.in_ok-rights.ensures.octets_read)
+    rw c.in-Some.is (rights-read reader.store.now reader.side (g.B.Eeprom.chip reader.bench.now) db held c.args.actor c.in-Some.object _ _ c.in_ok-rights.ensures.reads.octets_read)

@@ -23,9 +23,9 @@ loop-room-preserved g c =
     let low : c.args.stamp ≤ c.loop-room.passed = c.loop-room.invariant.low in
     let behind : c.loop-room.passed < c.row_behind.new.room.row.stamp = c.in_ok-row_behind.ensures.behind c.if-branch.true in
     record {
-      same = c.in_ok-row_behind.ensures.frame.same ∙ c.loop-room.invariant.same;
-      faults = c.in_ok-row_behind.ensures.frame.counts.1 ∙ c.loop-room.invariant.faults;
-      goes_on = on-further _ _ _ c.loop-room.invariant.goes_on c.in_ok-row_behind.ensures.goes_on;
+      same = c.in_ok-row_behind.ensures.reads.frame.same ∙ c.loop-room.invariant.same;
+      faults = c.in_ok-row_behind.ensures.reads.frame.counts.1 ∙ c.loop-room.invariant.faults;
+      goes_on = on-further _ _ _ c.loop-room.invariant.goes_on c.in_ok-row_behind.ensures.reads.goes_on;
       low = rw c.stamp-passed.ensures (omega arith);
       left = rw c.stamp-passed.ensures (left-next c.args.chosen.now c.args.stamp c.loop-room.passed slots c.row_behind.new.room.row c.loop-room.invariant.left (rw (c.loop-room.invariant.goes_on.store, c.loop-room.invariant.goes_on.side, c.loop-room.invariant.same, c.if-branch.true) at c.in_ok-row_behind.ensures.next) (sym c.shows.ensures ∙ c.if-shows.false));
       read = rw c.stamp-passed.ensures (reads-passed c.args.chosen.now c.args.stamp slots c.row_behind.new.room.row _ _ _ (reads-next c.args.chosen.now c.args.stamp c.loop-room.passed slots c.row_behind.new.room.row _ _ _ _ low behind c.loop-room.invariant.read (rw (c.loop-room.invariant.goes_on.store, c.loop-room.invariant.goes_on.side, c.loop-room.invariant.same, c.if-branch.true) at c.in_ok-row_behind.ensures.octets_read)));

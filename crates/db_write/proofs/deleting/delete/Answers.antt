@@ -15,18 +15,18 @@ use Rattle.row_table.proofs.Endings.{EndedBy-before, EndedBy-in_memory}
 use Rattle.db_read.specs.Scan.{Found, IsRight}
 use Rattle.db_write.proofs.FoundThrough.{right-for}
 use Rattle.db_write.proofs.ReachedThrough.{Ends-before, IsThrough-found, IsThrough-given, opened-some}
-use Rattle.db_write.proofs.RowDeleted.{Follows-removed, deletes, deletes-closed, deletes-none, deletes-stopped, valid-deleted}
+use Rattle.db_write.proofs.RowDeleted.{Follows-removed, Stand-removed, deletes, deletes-closed, deletes-none, deletes-stopped, valid-deleted}
 use Rattle.db_write.proofs.deleting.delete.Goals as goal
 
 pub returns-in_default-clause-ended : goal.returns-in_default-clause-ended
-returns-in_default-clause-ended g c = EndedBy-before c.requires.stand refl (search rules) (λ db held any. (
+returns-in_default-clause-ended g c = EndedBy-before c.requires.open.stand refl (search rules) (λ db held any. (
   Err conditions_not_satisfied,
   IsThrough-given db (row_deleted db c.args.actor) c.args.cursor.now _ (deletes-closed db c.args.actor c.args.cursor.now c.in_default.ensures),
   rw c.refused.ensures (refl, refl, refl),
 ))
 
 pub returns-in_err-find_written-clause-ended : goal.returns-in_err-find_written-clause-ended
-returns-in_err-find_written-clause-ended g c = EndedBy-before c.requires.stand c.in_err-find_written.ensures.frame.same (search rules) (λ db held any. (
+returns-in_err-find_written-clause-ended g c = EndedBy-before c.requires.open.stand c.in_err-find_written.ensures.frame.same (search rules) (λ db held any. (
   row_deleted db c.args.actor c.args.cursor.now,
   IsThrough-given db (row_deleted db c.args.actor) c.args.cursor.now _ refl,
   Ends-before db _ c.from_residual.result c.in_err-find_written.field-0.0 c.args.tables.now.store _ _ c.from_residual.ensures.1
@@ -34,14 +34,14 @@ returns-in_err-find_written-clause-ended g c = EndedBy-before c.requires.stand c
 ))
 
 pub returns-in_err-slot-clause-ended : goal.returns-in_err-slot-clause-ended
-returns-in_err-slot-clause-ended g c = EndedBy-before c.requires.stand (c.in_err-slot.ensures.frame.same ∙ c.in_ok-find_written.ensures.frame.same) (search rules) (λ db held any. (
+returns-in_err-slot-clause-ended g c = EndedBy-before c.requires.open.stand (c.in_err-slot.ensures.frame.same ∙ c.in_ok-find_written.ensures.frame.same) (search rules) (λ db held any. (
   row_deleted db c.args.actor c.args.cursor.now,
   IsThrough-given db (row_deleted db c.args.actor) c.args.cursor.now _ refl,
   Ends-before db _ c.from_residual-in_err-slot.result Fault c.args.tables.now.store _ _ c.from_residual-in_err-slot.ensures.1 tt (c.in_err-slot.ensures.frame.same ∙ c.in_ok-find_written.ensures.frame.same),
 ))
 
 pub returns-in_default-2-clause-ended : goal.returns-in_default-2-clause-ended
-returns-in_default-2-clause-ended g c = EndedBy-before c.requires.stand (c.in_ok-slot.ensures.frame.same ∙ c.in_ok-find_written.ensures.frame.same) (search rules) (λ db held any.
+returns-in_default-2-clause-ended g c = EndedBy-before c.requires.open.stand (c.in_ok-slot.ensures.frame.same ∙ c.in_ok-find_written.ensures.frame.same) (search rules) (λ db held any.
     let second = subst (λ chip. IsHeld c.args.tables.now.store Working chip db) (sym c.in_ok-find_written.ensures.frame.same) held in
     let found = c.in_ok-find_written.ensures.written db held in (
       Err record_not_found,
@@ -64,9 +64,9 @@ returns-clause-ended g c =
     let at = subst (λ chip. IfSome (slots_of c.args.tables.now.store Working chip) (λ slots. Some row ≡ at_slot row_kind c.in-Some-2.slot slots)) first (rw c.in-Some-2.is at c.in_ok-slot.ensures.at).at in (
       removing (of_row row) ∷ [],
       own,
-      removes.makes chip db row c.requires.stand held at (valid-deleted db c.args.actor c.args.cursor.now _ held.valid own),
+      removes.makes chip db row c.requires.open.stand held at (valid-deleted db c.args.actor c.args.cursor.now _ held.valid own),
     ))
-    (removes.goes_on chip c.requires.stand) (removes.committed chip c.requires.stand) (Follows-removed c.requires.stand c.requires.begun removes)
+    (removes.goes_on chip c.requires.open.stand) (removes.committed chip c.requires.open.stand) (Follows-removed c.requires.open.stand c.requires.open.begun removes)
 
 -- what was found is right for the cursor
 pub find_written-requires-clause-right : goal.find_written-requires-clause-right
@@ -76,3 +76,15 @@ find_written-requires-clause-right g c = λ db held.
 
 pub find_row-requires-clause-chosen : goal.find_row-requires-clause-chosen
 find_row-requires-clause-chosen g c = λ db held. (c.in_ok-find_written.ensures.written db (rw c.in_ok-find_written.ensures.frame.same at held)).chosen
+
+pub returns-in_err-find_written-clause-stand : goal.returns-in_err-find_written-clause-stand
+returns-in_err-find_written-clause-stand g c = rw c.in_err-find_written.ensures.frame.same c.requires.open.stand
+
+pub returns-in_err-slot-clause-stand : goal.returns-in_err-slot-clause-stand
+returns-in_err-slot-clause-stand g c = rw (c.in_err-slot.ensures.frame.same, c.in_ok-find_written.ensures.frame.same) c.requires.open.stand
+
+pub returns-in_default-2-clause-stand : goal.returns-in_default-2-clause-stand
+returns-in_default-2-clause-stand g c = rw (c.in_ok-slot.ensures.frame.same, c.in_ok-find_written.ensures.frame.same) c.requires.open.stand
+
+pub returns-clause-stand : goal.returns-clause-stand
+returns-clause-stand g c = Stand-removed c.requires.open.stand c.requires.open.begun c.remove_row.ensures (c.in_ok-slot.ensures.frame.same ∙ c.in_ok-find_written.ensures.frame.same)

@@ -10,7 +10,7 @@ use Rattle.db_write.proofs.RowInserted.{valid-inserted}
 use Rattle.db_write.proofs.inserting.insert.Goals as goal
 
 pub returns-in_err-table : goal.returns-in_err-table
-returns-in_err-table g c = Ended-before c.requires.stand c.in_err-table.ensures.frame.same (search rules) (λ db held may.
+returns-in_err-table g c = Ended-before c.requires.open.stand c.in_err-table.ensures.frame.same (search rules) (λ db held may.
     Ends-before db _ c.from_residual.result c.in_err-table.field-0.0 c.args.tables.now.store _ _ c.from_residual.ensures.1 (c.in_err-table.ensures.found db held) c.in_err-table.ensures.frame.same)
 
 pub returns : goal.returns

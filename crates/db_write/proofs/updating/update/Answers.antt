@@ -8,7 +8,7 @@ use Rattle.db_write.proofs.RowUpdated.{valid-updated}
 use Rattle.db_write.proofs.updating.update.Goals as goal
 
 pub returns-in_err-slot-clause-ended : goal.returns-in_err-slot-clause-ended
-returns-in_err-slot-clause-ended g c = EndedBy-before c.requires.stand c.in_err-slot.ensures.frame.same (search rules) (λ db held form.
+returns-in_err-slot-clause-ended g c = EndedBy-before c.requires.open.stand c.in_err-slot.ensures.frame.same (search rules) (λ db held form.
     let updated = c.in_err-slot.ensures.updated db held in (
       updated.0,
       updated.1,
@@ -16,7 +16,7 @@ returns-in_err-slot-clause-ended g c = EndedBy-before c.requires.stand c.in_err-
     ))
 
 pub returns-clause-ended : goal.returns-clause-ended
-returns-clause-ended g c = EndedBy-after c.change_row.ensures c.in_ok-slot.ensures.frame.same c.in_ok-slot.ensures.frame.counts.1 (λ db held form.
+returns-clause-ended g c = EndedBy-after c.change_row.ensures.ended c.in_ok-slot.ensures.frame.same c.in_ok-slot.ensures.frame.counts.1 (λ db held form.
     let updated = c.in_ok-slot.ensures.updated db held in (
       (c.in_ok-slot.ensures.fits db held, valid-updated db c.args.actor c.args.cursor.now c.args.changes.now updated.0 _ held.valid form updated.1 updated.2),
       λ outcome is. subst (IsThrough db (λ cursor. row_updated db c.args.actor cursor c.args.changes.now) c.args.cursor.now) (updated.2 ∙ sym is) updated.1,

@@ -1,5 +1,5 @@
 -- The nearest of all grants is that of one so far and those of the slots that are left.
-use Rattle.std.proofs.Common.{◌≡◌, ◌+◌, List, Option, Some, None, refl, sym, ◌∙◌, subst, filter, arith}
+use Rattle.std.proofs.Common.{rules, ◌≡◌, ◌+◌, List, Option, Some, None, refl, sym, ◌∙◌, subst, filter, arith}
 use Rattle.std.specs.Prelude.{IfSome}
 use Rattle.eeprom.specs.Chip.{Chip}
 use Rattle.eeprom.specs.Slots.{nearest_from}
@@ -9,6 +9,7 @@ use Rattle.catalog_codec.specs.Catalog.{grant_kind}
 use Rattle.catalog_codec.specs.CatalogLaws.{IsKind-grant}
 use Rattle.record_table.specs.Listed.{at_slot, in_slots, slots_of}
 use Rattle.record_table.specs.Making.{IsHeld}
+use Rattle.record_table.proofs.ReadingCosts.{falls-both, falls-none}
 use Rattle.record_table.proofs.Scan.{AreEmptyFrom, AreOthers, empty-told, others-told, left-behind, left-empty, left-others}
 use Rattle.dictionaries.specs.Told.{tells_of_grant}
 use Rattle.dictionaries.proofs.Nearest.{nearest-held, reads-end, reads-next, reads-over, reads-start}
@@ -28,6 +29,7 @@ loop-slot-init g c =
           left-others grant_kind (λ (slots : Slots). nearest_from grant_kind.key c.args.stamp None (filter p (in_slots grant_kind slots))) (λ (rest : List Grant). nearest_from grant_kind.key c.args.stamp None (filter p rest)) (Some held.slots) 0 c.next_slot-slot.result IsKind-grant (omega arith)
           (subst (λ (o : Option Slots). IfSome o (AreOthers grant_kind 0 c.next_slot-slot.result)) held.told (others-told grant_kind c.args.store.now c.args.side 0 c.next_slot-slot.result (g.B.Eeprom.chip c.args.bench.now).image c.requires.over.stands c.next_slot-slot.ensures.others)) refl;
       read = reads-over slots 0 c.next_slot-slot.result _ _ (omega arith) (reads-start slots (g.B.Eeprom.octets_read c.args.bench.now));
+      rises = falls-none slots (g.B.Eeprom.octets_read c.args.bench.now);
     }
 
 pub loop-slot-preserved : goal.loop-slot-preserved
@@ -36,8 +38,8 @@ loop-slot-preserved g c =
     let key = grant_kind.key in
     let more = c.next_slot-slot-in-loop-slot in
     record {
-      same = c.in_ok-nearest.ensures.frame.same ∙ (c.in_ok-grant.ensures.frame.same ∙ c.loop-slot.invariant.same);
-      faults = c.in_ok-nearest.ensures.frame.counts.1 ∙ (c.in_ok-grant.ensures.frame.counts.1 ∙ c.loop-slot.invariant.faults);
+      same = c.in_ok-nearest.ensures.reads.frame.same ∙ (c.in_ok-grant.ensures.reads.frame.same ∙ c.loop-slot.invariant.same);
+      faults = c.in_ok-nearest.ensures.reads.frame.counts.1 ∙ (c.in_ok-grant.ensures.reads.frame.counts.1 ∙ c.loop-slot.invariant.faults);
       bound = c.loop-slot.invariant.bound;
       empty = c.loop-slot.invariant.empty;
       here = more.ensures.most (omega (arith, c.loop-slot-test.true, c.loop-slot.invariant.bound));
@@ -48,9 +50,11 @@ loop-slot-preserved g c =
           (left-behind grant_kind (λ (slots : Slots). nearest_from key c.args.stamp None (filter p (in_slots grant_kind slots))) (λ (rest : List Grant). nearest_from key c.args.stamp c.loop-slot.nearest (filter p rest))
           (λ (rest : List Grant). nearest_from key c.args.stamp c.in_ok-nearest.nearest (filter p rest)) (Some held.slots) c.loop-slot.slot c.in_ok-grant.grant
           (subst (λ (o : Option Slots). IfSome o (λ slots. c.in_ok-grant.grant ≡ at_slot grant_kind c.loop-slot.slot slots)) held.told (rw c.loop-slot.invariant.same at c.in_ok-grant.ensures.value))
-          (c.in_ok-nearest.ensures.nearest db (subst (λ (chip : Chip). IsHeld c.args.store.now c.args.side chip db) (sym (c.in_ok-grant.ensures.frame.same ∙ c.loop-slot.invariant.same)) held)) (c.loop-slot.invariant.nearest db held));
-      read = reads-over slots (c.loop-slot.slot + 1) more.result _ _ more.ensures.onward (reads-next slots c.loop-slot.slot _ _ _ _ c.loop-slot.invariant.read (rw c.loop-slot.invariant.same at c.in_ok-grant.ensures.octets_read)
-          (rw (c.in_ok-grant.ensures.frame.same, c.loop-slot.invariant.same) at c.in_ok-nearest.ensures.octets_read));
+          (c.in_ok-nearest.ensures.nearest db (subst (λ (chip : Chip). IsHeld c.args.store.now c.args.side chip db) (sym (c.in_ok-grant.ensures.reads.frame.same ∙ c.loop-slot.invariant.same)) held)) (c.loop-slot.invariant.nearest db held));
+      read = reads-over slots (c.loop-slot.slot + 1) more.result _ _ more.ensures.onward (reads-next slots c.loop-slot.slot _ _ _ _ c.loop-slot.invariant.read (rw c.loop-slot.invariant.same at c.in_ok-grant.ensures.reads.octets_read)
+          (rw (c.in_ok-grant.ensures.reads.frame.same, c.loop-slot.invariant.same) at c.in_ok-nearest.ensures.reads.octets_read));
+      rises = falls-both slots _ _ _ (falls-both slots _ _ _ c.loop-slot.invariant.rises (rw c.loop-slot.invariant.same at c.in_ok-grant.ensures.reads.rises))
+          (rw (c.in_ok-grant.ensures.reads.frame.same, c.loop-slot.invariant.same) at c.in_ok-nearest.ensures.reads.rises);
     }
 
 pub returns-clause-next : goal.returns-clause-next
@@ -61,6 +65,9 @@ returns-clause-next g c = λ db held.
     (left-empty grant_kind (λ (slots : Slots). nearest_from key c.args.stamp None (filter p (in_slots grant_kind slots))) (λ (rest : List Grant). nearest_from key c.args.stamp c.loop-slot.nearest (filter p rest)) (Some held.slots) c.slots_in_use-end.result c.loop-slot.slot
     c.loop-slot-test.false (subst (λ (o : Option Slots). IfSome o (AreEmptyFrom c.slots_in_use-end.result)) held.told c.loop-slot.invariant.empty) (c.loop-slot.invariant.nearest db held))
 
-pub returns-clause-octets_read : goal.returns-clause-octets_read
-returns-clause-octets_read g c =
-    reads-end (slots_of c.args.store.now c.args.side (g.B.Eeprom.chip c.args.bench.now)) c.loop-slot.slot c.args.store.now.chains.cells _ _ c.loop-slot.invariant.here c.loop-slot.invariant.read
+pub returns-clause-reads : goal.returns-clause-reads
+returns-clause-reads g c = record {
+  octets_read = reads-end (slots_of c.args.store.now c.args.side (g.B.Eeprom.chip c.args.bench.now)) c.loop-slot.slot c.args.store.now.chains.cells _ _ c.loop-slot.invariant.here c.loop-slot.invariant.read;
+  rises = search rules;
+  frame = search rules;
+}

@@ -3,14 +3,13 @@ use Rattle.std.proofs.Common.{Some, ap, ◌∙◌}
 use Rattle.dictionaries.specs.Told.{name_or_none}
 use Rattle.record_store.specs.declared.tags.Tag.TheVariants.{Stamp}
 use Rattle.catalog_codec.specs.Catalog.{object_kind}
-use Rattle.record_table.specs.Listed.{slots_of}
-use Rattle.record_table.proofs.TaggedSearches.{reads-fewer}
 use Rattle.dictionaries.proofs.ToldRows.{object-named}
 use Rattle.dictionaries.proofs.names.object_name.Goals as goal
+use Rattle.record_table.proofs.TaggedSearches.{tagged-fewer}
+use Rattle.record_table.proofs.ReadingCosts.{FindsStampInto-reads, ReadsSide-told}
 
 pub returns-clause-name : goal.returns-clause-name
 returns-clause-name g c = λ db held. ap name_or_none c.name_of_object.ensures ∙ object-named c.args.store.now c.args.side (g.B.Eeprom.chip c.args.bench.now) db c.args.stamp c.find_stamp_into.new.place held c.in_ok-find_stamp_into.ensures.found
 
-pub returns-clause-octets_read : goal.returns-clause-octets_read
-returns-clause-octets_read g c =
-    reads-fewer object_kind (Some (Stamp c.args.stamp)) (slots_of c.args.store.now c.args.side (g.B.Eeprom.chip c.args.bench.now)) _ _ c.in_ok-find_stamp_into.ensures.octets_read
+pub returns-clause-reads : goal.returns-clause-reads
+returns-clause-reads g c = ReadsSide-told (FindsStampInto-reads c.in_ok-find_stamp_into.ensures) (tagged-fewer object_kind (Some (Stamp c.args.stamp)))

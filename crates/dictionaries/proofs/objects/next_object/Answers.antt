@@ -6,9 +6,10 @@ use Rattle.scql_base.specs.declared.records.Object.{Object}
 use Rattle.scql_base.specs.declared.words.Subject.TheVariants.{Objects}
 use Rattle.scql_model.specs.Dictionaries.{columns_told, kind_letter, object_told, rows_told, tells_of, user_name}
 use Rattle.catalog_codec.specs.Catalog.{object_kind, user_kind}
-use Rattle.record_table.specs.Listed.{cells_marked, slots_of}
-use Rattle.dictionaries.specs.Told.{base_named, most_cells_read}
-use Rattle.dictionaries.proofs.ToldRows.{IsNext-written, held-list, reads-both, reads-fewer, told-next}
+use Rattle.record_table.specs.Listed.{cells_marked}
+use Rattle.record_table.proofs.ReadingCosts.{FindsNext-reads, ReadsSide-told, ReadsSide-then, ReadsSide-both}
+use Rattle.dictionaries.specs.Told.{base_named}
+use Rattle.dictionaries.proofs.ToldRows.{IsNext-written, held-list, told-next}
 use Rattle.dictionaries.proofs.objects.next_object.Goals as goal
 
 pub returns-in_default-clause-next : goal.returns-in_default-clause-next
@@ -17,15 +18,11 @@ returns-in_default-clause-next g c = λ db held.
     (held-list object_kind db.objects (λ objects. None ≡ find (is_after object_kind.key c.args.stamp) (filter (λ (o : Object). tells_of c.args.owner o.owner) objects)) c.args.store.now c.args.side (g.B.Eeprom.chip c.args.bench.now) db held
     held.holds.objects held.valid.objects.rises (rw c.in_default.is at c.in_ok-found.ensures.next))
 
-pub returns-in_default-clause-octets_read : goal.returns-in_default-clause-octets_read
-returns-in_default-clause-octets_read g c =
-    reads-fewer (slots_of c.args.store.now c.args.side (g.B.Eeprom.chip c.args.bench.now)) (cells_marked object_kind) (λ slots. most_cells_read c.args.store.now.chains.cells Objects slots) _ _ (λ slots. omega arith) c.in_ok-found.ensures.octets_read
-
 pub returns-clause-next : goal.returns-clause-next
 returns-clause-next g c = λ db held.
     let o = c.in-Some.found.value in
     let named = c.in_ok-name.ensures.name db (rw (sym c.in_ok-found.ensures.frame.same) at held) in
-    let based = c.in_ok-base.ensures.name db (rw (sym (c.in_ok-name.ensures.frame.same ∙ c.in_ok-found.ensures.frame.same)) at held) in
+    let based = c.in_ok-base.ensures.name db (rw (sym (c.in_ok-name.ensures.reads.frame.same ∙ c.in_ok-found.ensures.frame.same)) at held) in
     IsNext-written (rows_told db c.args.owner Objects) c.args.stamp o.stamp (object_told db o).values c.object_row.result
     (told-next object_kind.key (object_told db) (λ (o : Object). tells_of c.args.owner o.owner) db.objects c.args.stamp (Some o) (λ o. refl)
     (held-list object_kind db.objects (λ objects. Some o ≡ find (is_after object_kind.key c.args.stamp) (filter (λ (o : Object). tells_of c.args.owner o.owner) objects)) c.args.store.now c.args.side (g.B.Eeprom.chip c.args.bench.now) db held
@@ -33,10 +30,9 @@ returns-clause-next g c = λ db held.
     (c.object_row.ensures ∙ (ap (λ (owner : List ℕ). o.name ∷ (kind_letter o.kind ∷ []) ∷ owner ∷ base_named o.kind c.in_ok-base.base ∷ columns_told o.kind ∷ []) named
     ∙ ap (λ (base : List ℕ). o.name ∷ (kind_letter o.kind ∷ []) ∷ user_name db o.owner ∷ base ∷ columns_told o.kind ∷ []) based))
 
-pub returns-clause-octets_read : goal.returns-clause-octets_read
-returns-clause-octets_read g c =
-    let slots = slots_of c.args.store.now c.args.side (g.B.Eeprom.chip c.args.bench.now) in
-    reads-both slots (λ slots. cells_marked object_kind slots + cells_marked user_kind slots) (cells_marked object_kind) (λ slots. most_cells_read c.args.store.now.chains.cells Objects slots) _ _ _ (λ slots. omega arith)
-    (reads-both slots (cells_marked object_kind) (cells_marked user_kind) (λ slots. cells_marked object_kind slots + cells_marked user_kind slots) _ _ _ (λ slots. omega arith)
-    c.in_ok-found.ensures.octets_read (rw c.in_ok-found.ensures.frame.same at c.in_ok-name.ensures.octets_read))
-    (rw (c.in_ok-name.ensures.frame.same, c.in_ok-found.ensures.frame.same) at c.in_ok-base.ensures.octets_read)
+pub returns-in_default-clause-reads : goal.returns-in_default-clause-reads
+returns-in_default-clause-reads g c = ReadsSide-told (FindsNext-reads c.in_ok-found.ensures) (λ slots. omega arith)
+
+pub returns-clause-reads : goal.returns-clause-reads
+returns-clause-reads g c =
+    ReadsSide-both (ReadsSide-then {all = λ slots. cells_marked object_kind slots + cells_marked user_kind slots} (FindsNext-reads c.in_ok-found.ensures) c.in_ok-name.ensures.reads (λ slots. omega arith)) c.in_ok-base.ensures.reads (λ slots. omega arith)

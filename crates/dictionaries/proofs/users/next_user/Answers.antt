@@ -7,20 +7,15 @@ use Rattle.scql_base.specs.declared.words.Subject.TheVariants.{Users}
 use Rattle.scql_model.specs.Records.{profile_code}
 use Rattle.scql_model.specs.Dictionaries.{rows_told, tells_of, user_told}
 use Rattle.catalog_codec.specs.Catalog.{user_kind}
-use Rattle.record_table.specs.Listed.{cells_marked, slots_of}
-use Rattle.dictionaries.specs.Told.{most_cells_read}
-use Rattle.dictionaries.proofs.ToldRows.{IsNext-written, held-list, reads-both, reads-fewer, told-next}
+use Rattle.dictionaries.proofs.ToldRows.{IsNext-written, held-list, told-next}
 use Rattle.dictionaries.proofs.users.next_user.Goals as goal
+use Rattle.record_table.proofs.ReadingCosts.{FindsNext-reads, ReadsSide-told, ReadsSide-both}
 
 pub returns-in_default-clause-next : goal.returns-in_default-clause-next
 returns-in_default-clause-next g c = λ db held.
     told-next user_kind.key (user_told db) (λ (u : User). tells_of c.args.owner u.owner) db.users c.args.stamp None (λ u. refl)
     (held-list user_kind db.users (λ users. None ≡ find (is_after user_kind.key c.args.stamp) (filter (λ (u : User). tells_of c.args.owner u.owner) users)) c.args.store.now c.args.side (g.B.Eeprom.chip c.args.bench.now) db held
     held.holds.users held.valid.users.rises (rw c.in_default.is at c.in_ok-found.ensures.next))
-
-pub returns-in_default-clause-octets_read : goal.returns-in_default-clause-octets_read
-returns-in_default-clause-octets_read g c =
-    reads-fewer (slots_of c.args.store.now c.args.side (g.B.Eeprom.chip c.args.bench.now)) (cells_marked user_kind) (λ slots. most_cells_read c.args.store.now.chains.cells Users slots) _ _ (λ slots. omega arith) c.in_ok-found.ensures.octets_read
 
 pub returns-clause-next : goal.returns-clause-next
 returns-clause-next g c = λ db held.
@@ -31,7 +26,8 @@ returns-clause-next g c = λ db held.
     held.holds.users held.valid.users.rises (rw c.in-Some.is at c.in_ok-found.ensures.next)))
     (c.user_row.ensures ∙ ap (λ (owner : List ℕ). u.name ∷ (profile_code u.profile ∷ []) ∷ owner ∷ []) (c.in_ok-name.ensures.name db (rw (sym c.in_ok-found.ensures.frame.same) at held)))
 
-pub returns-clause-octets_read : goal.returns-clause-octets_read
-returns-clause-octets_read g c =
-    reads-both (slots_of c.args.store.now c.args.side (g.B.Eeprom.chip c.args.bench.now)) (cells_marked user_kind) (cells_marked user_kind) (λ slots. most_cells_read c.args.store.now.chains.cells Users slots) _ _ _ (λ slots. omega arith)
-    c.in_ok-found.ensures.octets_read (rw c.in_ok-found.ensures.frame.same at c.in_ok-name.ensures.octets_read)
+pub returns-in_default-clause-reads : goal.returns-in_default-clause-reads
+returns-in_default-clause-reads g c = ReadsSide-told (FindsNext-reads c.in_ok-found.ensures) (λ slots. omega arith)
+
+pub returns-clause-reads : goal.returns-clause-reads
+returns-clause-reads g c = ReadsSide-both (FindsNext-reads c.in_ok-found.ensures) c.in_ok-name.ensures.reads (λ slots. omega arith)

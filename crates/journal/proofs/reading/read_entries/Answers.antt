@@ -16,7 +16,7 @@ loop-left-preserved g c =
       entries = read-on (g.B.Eeprom.chip c.args.bench.now).image (journal_place c.args.cells + 2) few entries more c.loop-left.invariant.entries
           (subst (λ (chip : Chip). IfSome chip.image (λ image. more ≡ entries ++ entries_at image (journal_place c.args.cells + 2 + 4 * length entries) few)) c.loop-left.invariant.same c.in_ok-read_more.ensures.entries)
           count;
-      same = c.read_more.ensures.frame.same ∙ c.loop-left.invariant.same;
+      same = c.read_more.ensures.reads.frame.same ∙ c.loop-left.invariant.same;
       read = search rules;
       faults = search rules;
     }

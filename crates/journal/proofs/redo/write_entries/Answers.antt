@@ -2,7 +2,6 @@ use Rattle.std.proofs.Common.{◌≡◌, ◌+◌, ◌*◌, length, ap, ◌∙◌
 use Rattle.std.proofs.lemmas.Result.{on_ok_weaker}
 use Rattle.eeprom.specs.Chip.{LeavesOf}
 use Rattle.journal.specs.Redo.{IsRewritten}
-use Rattle.journal.specs.Run.{place_of}
 use Rattle.journal.proofs.Running.{entry-within, entry-named, octets-more, rewritten-leaves, rewritten-leaves-run, room-still, run-done, run-pushed, written-more}
 use Rattle.journal.proofs.redo.write_entries.Goals.{After-go_to}
 use Rattle.journal.proofs.redo.write_entries.Goals as goal
@@ -11,15 +10,17 @@ moments : (g : _) (c : After-go_to g) → LeavesOf (IsRewritten c.args.cells c.a
 moments g c =
     rewritten-leaves c.args.cells c.args.entries.now (g.B.Eeprom.chip c.args.bench.now) (g.B.Eeprom.chip c.loop-entry.bench) (g.B.Eeprom.chip c.go_to.new.bench) c.loop-entry.invariant.still c.loop-entry.invariant.moments
     (rewritten-leaves-run c.args.cells c.args.entries.now c.loop-entry.run (g.B.Eeprom.chip c.loop-entry.bench) (g.B.Eeprom.chip c.go_to.new.bench) c.loop-entry.invariant.run
-    (c.go_to.ensures.moments (place_of c.loop-entry.run) (place_of c.loop-entry.run + length c.loop-entry.run.octets) (omega arith) (omega arith)))
+    c.go_to.ensures.rewrites.moments)
 
-pub returns-in_err-go_to-clause-entries : goal.returns-in_err-go_to-clause-entries
-returns-in_err-go_to-clause-entries g c = record {
-  written = search rules;
+pub returns-in_err-go_to : goal.returns-in_err-go_to
+returns-in_err-go_to g c = record {
+  done = search rules;
   told = search rules;
-  still = c.go_to.ensures.still ∙ c.loop-entry.invariant.still;
-  moments = moments g (goal.at.returns-in_err-go_to-clause-entries g c).After-go_to;
+  still = c.go_to.ensures.rewrites.still ∙ c.loop-entry.invariant.still;
+  moments = moments g (goal.at.returns-in_err-go_to g c).After-go_to;
   octets_written = search rules;
+  octets_read = search rules;
+  cause = search rules;
 }
 
 pub loop-entry-preserved : goal.loop-entry-preserved
@@ -29,33 +30,35 @@ loop-entry-preserved g c =
     let i = c.loop-entry.entry-index in
     let inside = c.loop-entry-test.true in
     let pushed : length c.push.new.self.octets ≡ length c.go_to.new.self.octets + 2 = ap (λ xs. length xs) c.push.ensures.pushed ∙ length-append c.go_to.new.self.octets _ in
-    let within = entry-within n entries i _ inside c.requires.entries in
+    let within = entry-within n entries i _ inside c.requires.entries.range in
     let named = entry-named entries i _ inside in
     let run = c.in_ok-go_to.ensures.run n entries (omega (arith, within)) c.loop-entry.invariant.run in
     let next = c.in_ok-go_to.ensures.next in
-    let still : (g.B.Eeprom.chip c.go_to.new.bench).still ≡ (g.B.Eeprom.chip c.args.bench.now).still = c.go_to.ensures.still ∙ c.loop-entry.invariant.still in
+    let still : (g.B.Eeprom.chip c.go_to.new.bench).still ≡ (g.B.Eeprom.chip c.args.bench.now).still = c.go_to.ensures.rewrites.still ∙ c.loop-entry.invariant.still in
     record {
       run = run-pushed n entries c.go_to.new.self c.push.new.self _ _ run next within named c.push.ensures.pushed c.push.ensures.index;
       written = written-more n entries i _ c.loop-entry.run c.go_to.new.self c.push.new.self (g.B.Eeprom.chip c.args.bench.now) (g.B.Eeprom.chip c.loop-entry.bench) (g.B.Eeprom.chip c.go_to.new.bench)
-          inside c.requires.entries (g.met.B.Eeprom.sized c.go_to.new.bench) (room-still n (g.B.Eeprom.chip c.args.bench.now) (g.B.Eeprom.chip c.go_to.new.bench) still c.requires.room)
-          run next c.push.ensures.pushed c.push.ensures.index c.loop-entry.invariant.written c.in_ok-go_to.ensures.promised;
-      told = c.in_ok-go_to.ensures.told ∙ c.loop-entry.invariant.told;
+          inside c.requires.entries.range (g.met.B.Eeprom.sized c.go_to.new.bench) (room-still n (g.B.Eeprom.chip c.args.bench.now) (g.B.Eeprom.chip c.go_to.new.bench) still c.requires.fits.room)
+          run next c.push.ensures.pushed c.push.ensures.index c.loop-entry.invariant.written c.in_ok-go_to.ensures.rewrites.done;
+      told = c.in_ok-go_to.ensures.rewrites.told ∙ c.loop-entry.invariant.told;
       still = still;
       moments = moments g (goal.at.loop-entry-preserved g c).After-go_to;
       octets = octets-more (g.B.Eeprom.chip c.args.bench.now).written (g.B.Eeprom.chip c.loop-entry.bench).written (g.B.Eeprom.chip c.go_to.new.bench).written _ _ _ 2 (2 * i) (2 * (i + 1))
-          pushed (omega arith) c.loop-entry.invariant.octets c.in_ok-go_to.ensures.octets_written;
-      read = c.go_to.ensures.octets_read ∙ c.loop-entry.invariant.read;
-      faults = c.in_ok-go_to.ensures.cause.1 ∙ c.loop-entry.invariant.faults;
+          pushed (omega arith) c.loop-entry.invariant.octets c.in_ok-go_to.ensures.rewrites.octets_written;
+      read = c.go_to.ensures.rewrites.octets_read ∙ c.loop-entry.invariant.read;
+      faults = c.in_ok-go_to.ensures.rewrites.cause.1 ∙ c.loop-entry.invariant.faults;
     }
 
-pub returns-clause-entries : goal.returns-clause-entries
-returns-clause-entries g c = record {
-  written = on_ok_weaker c.write.result (λ last. run-done c.args.cells c.loop-entry.entry-index c.args.entries.now c.loop-entry.run (g.B.Eeprom.chip c.args.bench.now).image (g.B.Eeprom.chip c.loop-entry.bench).image (g.B.Eeprom.chip c.write.new.bench).image c.loop-entry-test.false c.loop-entry.invariant.written last) c.write.ensures.written;
+pub returns : goal.returns
+returns g c = record {
+  done = on_ok_weaker c.write.result (λ last. run-done c.args.cells c.loop-entry.entry-index c.args.entries.now c.loop-entry.run (g.B.Eeprom.chip c.args.bench.now).image (g.B.Eeprom.chip c.loop-entry.bench).image (g.B.Eeprom.chip c.write.new.bench).image c.loop-entry-test.false c.loop-entry.invariant.written last) c.write.ensures.done;
   told = search rules;
   still = c.write.ensures.still ∙ c.loop-entry.invariant.still;
   moments =
       rewritten-leaves c.args.cells c.args.entries.now (g.B.Eeprom.chip c.args.bench.now) (g.B.Eeprom.chip c.loop-entry.bench) (g.B.Eeprom.chip c.write.new.bench) c.loop-entry.invariant.still c.loop-entry.invariant.moments
       (rewritten-leaves-run c.args.cells c.args.entries.now c.loop-entry.run (g.B.Eeprom.chip c.loop-entry.bench) (g.B.Eeprom.chip c.write.new.bench) c.loop-entry.invariant.run
-      (c.write.ensures.moments (place_of c.loop-entry.run) (place_of c.loop-entry.run + length c.loop-entry.run.octets) (omega arith) (omega arith)));
+      c.write.ensures.moments);
   octets_written = search rules;
+  octets_read = search rules;
+  cause = search rules;
 }

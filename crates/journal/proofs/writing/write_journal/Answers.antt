@@ -2,8 +2,8 @@ use Rattle.std.proofs.Common.{◌≡◌, ◌+◌, length, ap, ◌∙◌, rules, 
 use Rattle.std.proofs.lemmas.Result.{on_ok_weaker}
 use Rattle.eeprom.specs.Chip.{LeavesOf}
 use Rattle.eeprom.specs.StoreOf.{front_size, journal_place}
-use Rattle.journal.specs.Run.{SameOutside}
-use Rattle.journal.proofs.Begun.{begun-more, journal-written, outside-leaves}
+use Rattle.journal.specs.Run.{SameOutside, end_of, place_of}
+use Rattle.journal.proofs.Begun.{begun-more, journal-written, outside-leaves, outside-wider}
 use Rattle.journal.proofs.Running.{octets-more}
 use Rattle.journal.proofs.writing.write_journal.Goals.{After-go_to}
 use Rattle.journal.proofs.writing.write_journal.Goals as goal
@@ -11,15 +11,18 @@ use Rattle.journal.proofs.writing.write_journal.Goals as goal
 moments : (g : _) (c : After-go_to g) → LeavesOf (SameOutside (journal_place c.args.cells) (front_size c.args.cells)) (g.B.Eeprom.chip c.args.bench.now) (g.B.Eeprom.chip c.go_to.new.bench)
 moments g c =
     outside-leaves (journal_place c.args.cells) (front_size c.args.cells) (g.B.Eeprom.chip c.args.bench.now) (g.B.Eeprom.chip c.loop-entry.bench) (g.B.Eeprom.chip c.go_to.new.bench) c.loop-entry.invariant.still c.loop-entry.invariant.moments
-    (c.go_to.ensures.moments (journal_place c.args.cells) (front_size c.args.cells) (omega (arith, c.loop-entry.invariant.behind)) (omega (arith, c.loop-entry.invariant.next, c.loop-entry.invariant.place, c.loop-entry-test.true, c.requires.few)))
+    (outside-wider (place_of c.loop-entry.run) (end_of c.loop-entry.run) (journal_place c.args.cells) (front_size c.args.cells) (g.B.Eeprom.chip c.loop-entry.bench) (g.B.Eeprom.chip c.go_to.new.bench)
+    (omega (arith, c.loop-entry.invariant.behind)) (omega (arith, c.loop-entry.invariant.next, c.loop-entry.invariant.place, c.loop-entry-test.true, c.requires.entries.few)) c.go_to.ensures.rewrites.moments)
 
-pub returns-in_err-go_to-clause-journal : goal.returns-in_err-go_to-clause-journal
-returns-in_err-go_to-clause-journal g c = record {
-  written = search rules;
+pub returns-in_err-go_to : goal.returns-in_err-go_to
+returns-in_err-go_to g c = record {
+  done = search rules;
   told = search rules;
-  still = c.go_to.ensures.still ∙ c.loop-entry.invariant.still;
-  moments = moments g (goal.at.returns-in_err-go_to-clause-journal g c).After-go_to;
+  still = c.go_to.ensures.rewrites.still ∙ c.loop-entry.invariant.still;
+  moments = moments g (goal.at.returns-in_err-go_to g c).After-go_to;
   octets_written = search rules;
+  octets_read = search rules;
+  cause = search rules;
 }
 
 pub loop-entry-preserved : goal.loop-entry-preserved
@@ -41,25 +44,28 @@ loop-entry-preserved g c =
       bound = omega arith;
       written = begun-more c.args.cells (length c.args.entries.now) i c.loop-entry.index _ c.args.entries.now c.loop-entry.run mid c.push-in-loop-entry.new.self c.push-in-loop-entry-2.new.self
           (g.B.Eeprom.chip c.args.bench.now).image (g.B.Eeprom.chip c.loop-entry.bench).image (g.B.Eeprom.chip c.go_to.new.bench).image c.loop-entry-test.true place
-          c.loop-entry.invariant.written c.in_ok-go_to.ensures.promised next slot c.push-in-loop-entry.ensures.index first c.push-in-loop-entry-2.ensures.index;
-      told = c.in_ok-go_to.ensures.told ∙ c.loop-entry.invariant.told;
-      still = c.go_to.ensures.still ∙ c.loop-entry.invariant.still;
+          c.loop-entry.invariant.written c.in_ok-go_to.ensures.rewrites.done next slot c.push-in-loop-entry.ensures.index first c.push-in-loop-entry-2.ensures.index;
+      told = c.in_ok-go_to.ensures.rewrites.told ∙ c.loop-entry.invariant.told;
+      still = c.go_to.ensures.rewrites.still ∙ c.loop-entry.invariant.still;
       moments = moments g (goal.at.loop-entry-preserved g c).After-go_to;
       octets = octets-more (g.B.Eeprom.chip c.args.bench.now).written (g.B.Eeprom.chip c.loop-entry.bench).written (g.B.Eeprom.chip c.go_to.new.bench).written _ _ _ 4 (2 + 4 * i) (2 + 4 * (i + 1))
-          pushed (omega arith) c.loop-entry.invariant.octets c.in_ok-go_to.ensures.octets_written;
-      read = c.go_to.ensures.octets_read ∙ c.loop-entry.invariant.read;
-      faults = c.in_ok-go_to.ensures.cause.1 ∙ c.loop-entry.invariant.faults;
+          pushed (omega arith) c.loop-entry.invariant.octets c.in_ok-go_to.ensures.rewrites.octets_written;
+      read = c.go_to.ensures.rewrites.octets_read ∙ c.loop-entry.invariant.read;
+      faults = c.in_ok-go_to.ensures.rewrites.cause.1 ∙ c.loop-entry.invariant.faults;
     }
 
-pub returns-clause-journal : goal.returns-clause-journal
-returns-clause-journal g c = record {
-  written = on_ok_weaker c.write.result (λ last.
+pub returns : goal.returns
+returns g c = record {
+  done = on_ok_weaker c.write.result (λ last.
       journal-written c.args.cells c.loop-entry.entry-index c.args.entries.now c.loop-entry.run (g.B.Eeprom.chip c.args.bench.now) (g.B.Eeprom.chip c.loop-entry.bench) (g.B.Eeprom.chip c.write.new.bench)
-      c.requires.room (g.met.B.Eeprom.sized c.args.bench.now) c.requires.few c.requires.entries c.loop-entry-test.false c.loop-entry.invariant.written last) c.write.ensures.written;
+      c.requires.fits.room (g.met.B.Eeprom.sized c.args.bench.now) c.requires.entries.few c.requires.entries.range c.loop-entry-test.false c.loop-entry.invariant.written last) c.write.ensures.done;
   told = search rules;
   still = c.write.ensures.still ∙ c.loop-entry.invariant.still;
   moments =
       outside-leaves (journal_place c.args.cells) (front_size c.args.cells) (g.B.Eeprom.chip c.args.bench.now) (g.B.Eeprom.chip c.loop-entry.bench) (g.B.Eeprom.chip c.write.new.bench) c.loop-entry.invariant.still c.loop-entry.invariant.moments
-      (c.write.ensures.moments (journal_place c.args.cells) (front_size c.args.cells) (omega (arith, c.loop-entry.invariant.behind)) (omega (arith, c.loop-entry.invariant.next, c.loop-entry.invariant.place, c.requires.few, c.loop-entry.invariant.bound)));
+      (outside-wider (place_of c.loop-entry.run) (end_of c.loop-entry.run) (journal_place c.args.cells) (front_size c.args.cells) (g.B.Eeprom.chip c.loop-entry.bench) (g.B.Eeprom.chip c.write.new.bench)
+      (omega (arith, c.loop-entry.invariant.behind)) (omega (arith, c.loop-entry.invariant.next, c.loop-entry.invariant.place, c.requires.entries.few, c.loop-entry.invariant.bound)) c.write.ensures.moments);
   octets_written = search rules;
+  octets_read = search rules;
+  cause = search rules;
 }

@@ -1,5 +1,5 @@
 -- What all grants of a tag give is what those so far gave and those that are left give, slot by slot.
-use Rattle.std.proofs.Common.{◌≡◌, ◌+◌, ◌^◌, ℕ, List, Option, Some, refl, sym, ◌∙◌, arith}
+use Rattle.std.proofs.Common.{rules, ◌≡◌, ◌+◌, ◌^◌, ℕ, List, Option, Some, refl, sym, ◌∙◌, arith}
 use Rattle.std.specs.List.{list_any, cons_option}
 use Rattle.eeprom.specs.StoreOf.{Slots}
 use Rattle.record_store.specs.declared.tags.Tag.{Tag}
@@ -51,8 +51,8 @@ loop-slot-preserved g c =
       | in_default w ↦ λ i rest. rw (w.in_default.is, w.bits-is) refl
     ] in
     record {
-      same = c.in_ok-grant.ensures.frame.same ∙ c.loop-slot.invariant.same;
-      faults = c.in_ok-grant.ensures.frame.counts.1 ∙ c.loop-slot.invariant.faults;
+      same = c.in_ok-grant.ensures.reads.frame.same ∙ c.loop-slot.invariant.same;
+      faults = c.in_ok-grant.ensures.reads.frame.counts.1 ∙ c.loop-slot.invariant.faults;
       bound = c.loop-slot.invariant.bound;
       empty = c.loop-slot.invariant.empty;
       left = λ i.
@@ -61,9 +61,9 @@ loop-slot-preserved g c =
           (left-behind grant_kind (λ slots. list_any (gives i) (in_slots grant_kind slots)) (any_left c.loop-slot.bits (gives i) i) (any_left c.match-branch-2.bits (gives i) i) slots
           c.loop-slot.slot c.in_ok-grant.field-0 here (step i) (c.loop-slot.invariant.left i));
       read = reads-on (tagged_cells grant_kind tag) slots (c.loop-slot.slot + 1) next.result _ _ next.ensures.onward
-          (reads-behind (tagged_cells grant_kind tag) (tagged-none grant_kind tag) slots c.loop-slot.slot (kind_cells grant_kind) _ _ _ c.loop-slot.invariant.here c.loop-slot.invariant.read (rw c.loop-slot.invariant.same at c.in_ok-grant.ensures.octets_read));
+          (reads-behind (tagged_cells grant_kind tag) (tagged-none grant_kind tag) slots c.loop-slot.slot (kind_cells grant_kind) _ _ _ c.loop-slot.invariant.here c.loop-slot.invariant.read (rw c.loop-slot.invariant.same at c.in_ok-grant.ensures.reads.octets_read));
       here = tagged-told grant_kind tag c.args.store.now c.args.side next.result (g.B.Eeprom.chip c.args.bench.now).image c.requires.over.stands next.ensures.here;
-      rises = falls-both slots _ _ _ c.loop-slot.invariant.rises (rw c.loop-slot.invariant.same at c.in_ok-grant.ensures.rises);
+      rises = falls-both slots _ _ _ c.loop-slot.invariant.rises (rw c.loop-slot.invariant.same at c.in_ok-grant.ensures.reads.rises);
     }
 
 pub returns-clause-granted : goal.returns-clause-granted
@@ -72,6 +72,9 @@ returns-clause-granted g c =
     (λ i. left-empty grant_kind (λ slots. list_any (has_pair_bit c.args.object c.args.grantee (2 ^ i)) (in_slots grant_kind slots)) (any_left c.loop-slot.bits (has_pair_bit c.args.object c.args.grantee (2 ^ i)) i)
     (slots_of c.args.store.now c.args.side (g.B.Eeprom.chip c.args.bench.now)) c.slots_in_use-end.result c.loop-slot.slot c.loop-slot-test.false c.loop-slot.invariant.empty (c.loop-slot.invariant.left i))
 
-pub returns-clause-octets_read : goal.returns-clause-octets_read
-returns-clause-octets_read g c =
-    rw (sym c.pair_tag.ensures) (reads-all (tagged_cells grant_kind (Some (Name c.pair_tag.result))) (slots_of c.args.store.now c.args.side (g.B.Eeprom.chip c.args.bench.now)) c.loop-slot.slot _ _ c.loop-slot.invariant.read)
+pub returns-clause-reads : goal.returns-clause-reads
+returns-clause-reads g c = record {
+  octets_read = rw (sym c.pair_tag.ensures) (reads-all (tagged_cells grant_kind (Some (Name c.pair_tag.result))) (slots_of c.args.store.now c.args.side (g.B.Eeprom.chip c.args.bench.now)) c.loop-slot.slot _ _ c.loop-slot.invariant.read);
+  rises = search rules;
+  frame = search rules;
+}

@@ -2,6 +2,8 @@
 use Rattle.std.proofs.Common.{ℕ, List, Option, Err, ap, refl, sym, subst, inl}
 use Rattle.std.specs.Prelude.{IfSome}
 use Rattle.eeprom.specs.Chip.{Still}
+use Rattle.scql_model.specs.Database.{Database}
+use Rattle.scql_model.specs.Opens.{Opens}
 use Rattle.card.specs.Making.{OpensToNone}
 use Rattle.query_run.specs.Statuses.{program_status}
 use Rattle.query_run.specs.UserRuns.{IsWithout, ReadsAll}
@@ -26,3 +28,9 @@ returns-in-Ok-clause-whole g c = λ whole.
 
 pub returns-in-Err-clause-told : goal.returns-in-Err-clause-told
 returns-in-Err-clause-told g c = told-none g.N.Person.lost g.N.Person.shown c.args.notices
+
+-- what was opened is a card's image
+pub returns-in-Ok-clause-no_card : goal.returns-in-Ok-clause-no_card
+returns-in-Ok-clause-no_card g c = λ image told none.
+    let found = subst (λ (o : Option (List ℕ)). IfSome o (λ image. (db : Database) × Opens image db)) told c.in-Ok.ensures.opens in
+    absurd (none found.0 found.1)

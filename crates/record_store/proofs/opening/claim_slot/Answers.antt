@@ -7,7 +7,7 @@ returns-then-first-eq-NO_CELL-clause-takes g c = slot-empty c.args.chains.now c.
 
 pub returns-clause-takes : goal.returns-clause-takes
 returns-clause-takes g c =
-    result-taken c.claim_record.result c.args.chains.now c.claim_record.new.self c.args.first c.claim_record.new.out.items (g.B.Eeprom.chip c.args.bench.now).image c.claim_record.ensures.takes c.claim_record.ensures.«record» c.claim_record.ensures.reads
+    result-taken c.claim_record.result c.args.chains.now c.claim_record.new.self c.args.first c.claim_record.new.out.items (g.B.Eeprom.chip c.args.bench.now).image c.claim_record.ensures.claims.takes c.claim_record.ensures.claims.«record» c.claim_record.ensures.reads
     c.claim_record.ensures.some
 
 pub returns-clause-count : goal.returns-clause-count

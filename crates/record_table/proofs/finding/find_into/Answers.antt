@@ -1,5 +1,5 @@
 -- The answer of all slots is that of those that are left, slot by slot.
-use Rattle.std.proofs.Common.{◌+◌, Option, refl, sym, ◌∙◌, arith}
+use Rattle.std.proofs.Common.{rules, ◌+◌, Option, refl, sym, ◌∙◌, arith}
 use Rattle.std.specs.List.{find}
 use Rattle.eeprom.specs.StoreOf.{Slots}
 use Rattle.record_table.specs.Listed.{in_slots, kind_cells, slots_of}
@@ -27,37 +27,27 @@ loop-slot-init g c =
       rises = falls-none slots (g.B.Eeprom.octets_read c.args.bench.now);
     }
 
-pub returns-then-has_wanted-clause-at : goal.returns-then-has_wanted-clause-at
-returns-then-has_wanted-clause-at g c =
-    here-taken g.R.Record.kind (g.W.Wanted.wants c.args.wanted.now) c.in_ok-read.read _ (slots_of c.args.store.now c.args.side (g.B.Eeprom.chip c.args.bench.now)) c.loop-slot.slot (sym c.has_wanted.ensures ∙ c.if-has_wanted.true)
-    (rw c.loop-slot.invariant.same at c.in_ok-read.ensures.value)
-
-pub returns-then-has_wanted-clause-first : goal.returns-then-has_wanted-clause-first
-returns-then-has_wanted-clause-first g c =
+pub returns-then-has_wanted : goal.returns-then-has_wanted
+returns-then-has_wanted g c =
+    let wants = g.W.Wanted.wants c.args.wanted.now in
     let wanted = sym c.has_wanted.ensures ∙ c.if-has_wanted.true in
     let slots : Option Slots = slots_of c.args.store.now c.args.side (g.B.Eeprom.chip c.args.bench.now) in
-    left-known g.R.Record.kind (λ slots. find (g.W.Wanted.wants c.args.wanted.now) (in_slots g.R.Record.kind slots)) (find (g.W.Wanted.wants c.args.wanted.now)) slots c.loop-slot.slot _ _ (returns-then-has_wanted-clause-at g c)
-    (taken-found (g.W.Wanted.wants c.args.wanted.now) c.in_ok-read.read _ wanted) c.loop-slot.invariant.left
-
-pub returns-then-has_wanted-clause-some : goal.returns-then-has_wanted-clause-some
-returns-then-has_wanted-clause-some g c =
-    some-listed g.R.Record.kind (g.W.Wanted.wants c.args.wanted.now) _ (slots_of c.args.store.now c.args.side (g.B.Eeprom.chip c.args.bench.now)) (returns-then-has_wanted-clause-first g c)
-
-pub returns-then-has_wanted-clause-found : goal.returns-then-has_wanted-clause-found
-returns-then-has_wanted-clause-found g c =
-    found-listed g.R.Record.kind (g.W.Wanted.wants c.args.wanted.now) _ (slots_of c.args.store.now c.args.side (g.B.Eeprom.chip c.args.bench.now)) (returns-then-has_wanted-clause-first g c)
-
-pub returns-then-has_wanted-clause-octets_read : goal.returns-then-has_wanted-clause-octets_read
-returns-then-has_wanted-clause-octets_read g c =
-    let slots : Option Slots = slots_of c.args.store.now c.args.side (g.B.Eeprom.chip c.args.bench.now) in
-    let read = rw c.loop-slot.invariant.same at c.in_ok-read.ensures.octets_read in
     let cells = tagged_cells g.R.Record.kind c.tag-tag.result in
-    rw (sym c.tag-tag.ensures.is) (reads-all cells slots (c.loop-slot.slot + 1) _ _
-    (reads-behind cells (tagged-none g.R.Record.kind c.tag-tag.result) slots c.loop-slot.slot (kind_cells g.R.Record.kind) _ _ _ c.loop-slot.invariant.here c.loop-slot.invariant.read read))
-
-pub returns-then-has_wanted-clause-rises : goal.returns-then-has_wanted-clause-rises
-returns-then-has_wanted-clause-rises g c =
-    falls-both (slots_of c.args.store.now c.args.side (g.B.Eeprom.chip c.args.bench.now)) _ _ _ c.loop-slot.invariant.rises (rw c.loop-slot.invariant.same at c.in_ok-read.ensures.rises)
+    let at = here-taken g.R.Record.kind wants c.in_ok-read.read _ slots c.loop-slot.slot wanted (rw c.loop-slot.invariant.same at c.in_ok-read.ensures.value) in
+    let first = left-known g.R.Record.kind (λ slots. find wants (in_slots g.R.Record.kind slots)) (find wants) slots c.loop-slot.slot _ _ at (taken-found wants c.in_ok-read.read _ wanted) c.loop-slot.invariant.left in
+    let read = rw c.loop-slot.invariant.same at c.in_ok-read.ensures.reads.octets_read in
+    record {
+      there = search rules;
+      at = at;
+      both = search rules;
+      some = some-listed g.R.Record.kind wants _ slots first;
+      first = first;
+      found = found-listed g.R.Record.kind wants _ slots first;
+      octets_read = rw (sym c.tag-tag.ensures.is) (reads-all cells slots (c.loop-slot.slot + 1) _ _
+          (reads-behind cells (tagged-none g.R.Record.kind c.tag-tag.result) slots c.loop-slot.slot (kind_cells g.R.Record.kind) _ _ _ c.loop-slot.invariant.here c.loop-slot.invariant.read read));
+      rises = falls-both slots _ _ _ c.loop-slot.invariant.rises (rw c.loop-slot.invariant.same at c.in_ok-read.ensures.reads.rises);
+      frame = search rules;
+    }
 
 pub loop-slot-preserved : goal.loop-slot-preserved
 loop-slot-preserved g c =
@@ -67,8 +57,8 @@ loop-slot-preserved g c =
     let cells = tagged_cells g.R.Record.kind c.tag-tag.result in
     let fails = passed-place (g.W.Wanted.wants c.args.wanted.now) _ (sym c.has_wanted.ensures ∙ c.if-has_wanted.false) in
     record {
-      same = c.in_ok-read.ensures.frame.same ∙ c.loop-slot.invariant.same;
-      faults = c.in_ok-read.ensures.frame.counts.1 ∙ c.loop-slot.invariant.faults;
+      same = c.in_ok-read.ensures.reads.frame.same ∙ c.loop-slot.invariant.same;
+      faults = c.in_ok-read.ensures.reads.frame.counts.1 ∙ c.loop-slot.invariant.faults;
       bound = c.loop-slot.invariant.bound;
       empty = c.loop-slot.invariant.empty;
       left = left-unwanted g.R.Record.kind (g.W.Wanted.wants c.args.wanted.now) (find (g.W.Wanted.wants c.args.wanted.now)) (find-skips (g.W.Wanted.wants c.args.wanted.now)) (λ slots. find (g.W.Wanted.wants c.args.wanted.now) (in_slots g.R.Record.kind slots)) slots (c.loop-slot.slot + 1) next.result next.ensures.onward
@@ -76,24 +66,24 @@ loop-slot-preserved g c =
           (left-behind g.R.Record.kind (λ slots. find (g.W.Wanted.wants c.args.wanted.now) (in_slots g.R.Record.kind slots)) (find (g.W.Wanted.wants c.args.wanted.now)) (find (g.W.Wanted.wants c.args.wanted.now)) slots
           c.loop-slot.slot _ here (passed_over (g.W.Wanted.wants c.args.wanted.now) _ fails) c.loop-slot.invariant.left);
       read = reads-on cells slots (c.loop-slot.slot + 1) next.result _ _ next.ensures.onward
-          (reads-behind cells (tagged-none g.R.Record.kind c.tag-tag.result) slots c.loop-slot.slot (kind_cells g.R.Record.kind) _ _ _ c.loop-slot.invariant.here c.loop-slot.invariant.read (rw c.loop-slot.invariant.same at c.in_ok-read.ensures.octets_read));
+          (reads-behind cells (tagged-none g.R.Record.kind c.tag-tag.result) slots c.loop-slot.slot (kind_cells g.R.Record.kind) _ _ _ c.loop-slot.invariant.here c.loop-slot.invariant.read (rw c.loop-slot.invariant.same at c.in_ok-read.ensures.reads.octets_read));
       here = tagged-told g.R.Record.kind c.tag-tag.result c.args.store.now c.args.side next.result (g.B.Eeprom.chip c.args.bench.now).image c.requires.over.stands next.ensures.here;
-      rises = falls-both slots _ _ _ c.loop-slot.invariant.rises (rw c.loop-slot.invariant.same at c.in_ok-read.ensures.rises);
+      rises = falls-both slots _ _ _ c.loop-slot.invariant.rises (rw c.loop-slot.invariant.same at c.in_ok-read.ensures.reads.rises);
     }
 
-pub returns-clause-first : goal.returns-clause-first
-returns-clause-first g c =
-    left-empty g.R.Record.kind (λ slots. find (g.W.Wanted.wants c.args.wanted.now) (in_slots g.R.Record.kind slots)) (find (g.W.Wanted.wants c.args.wanted.now))
-    (slots_of c.args.store.now c.args.side (g.B.Eeprom.chip c.args.bench.now)) c.slots_in_use-end.result c.loop-slot.slot c.loop-slot-test.false c.loop-slot.invariant.empty c.loop-slot.invariant.left
-
-pub returns-clause-some : goal.returns-clause-some
-returns-clause-some g c =
-    some-listed g.R.Record.kind (g.W.Wanted.wants c.args.wanted.now) _ (slots_of c.args.store.now c.args.side (g.B.Eeprom.chip c.args.bench.now)) (returns-clause-first g c)
-
-pub returns-clause-found : goal.returns-clause-found
-returns-clause-found g c =
-    found-listed g.R.Record.kind (g.W.Wanted.wants c.args.wanted.now) _ (slots_of c.args.store.now c.args.side (g.B.Eeprom.chip c.args.bench.now)) (returns-clause-first g c)
-
-pub returns-clause-octets_read : goal.returns-clause-octets_read
-returns-clause-octets_read g c =
-    rw (sym c.tag-tag.ensures.is) (reads-all (tagged_cells g.R.Record.kind c.tag-tag.result) (slots_of c.args.store.now c.args.side (g.B.Eeprom.chip c.args.bench.now)) c.loop-slot.slot _ _ c.loop-slot.invariant.read)
+pub returns : goal.returns
+returns g c =
+    let wants = g.W.Wanted.wants c.args.wanted.now in
+    let slots : Option Slots = slots_of c.args.store.now c.args.side (g.B.Eeprom.chip c.args.bench.now) in
+    let first = left-empty g.R.Record.kind (λ slots. find wants (in_slots g.R.Record.kind slots)) (find wants) slots c.slots_in_use-end.result c.loop-slot.slot c.loop-slot-test.false c.loop-slot.invariant.empty c.loop-slot.invariant.left in
+    record {
+      there = search rules;
+      at = search rules;
+      both = search rules;
+      some = some-listed g.R.Record.kind wants _ slots first;
+      first = first;
+      found = found-listed g.R.Record.kind wants _ slots first;
+      octets_read = rw (sym c.tag-tag.ensures.is) (reads-all (tagged_cells g.R.Record.kind c.tag-tag.result) slots c.loop-slot.slot _ _ c.loop-slot.invariant.read);
+      rises = search rules;
+      frame = search rules;
+    }

@@ -5,7 +5,14 @@ use Rattle.record_table.proofs.ListedSearches.{stamped-listed}
 use Rattle.record_table.proofs.Scan.{stronger}
 use Rattle.record_table.proofs.finding.find_stamp_into.Goals as goal
 
-pub returns-clause-found : goal.returns-clause-found
-returns-clause-found g c =
-    stronger c.find_into.result (slots_of c.args.store.now c.args.side (g.B.Eeprom.chip c.args.bench.now)) _ _
-    (λ found slots first rises. first ∙ stamped-listed g.R.Record.kind c.args.stamp slots rises) c.find_into.ensures.first
+pub returns : goal.returns
+returns g c = record {
+  there = c.find_into.ensures.there;
+  at = c.find_into.ensures.at;
+  both = c.find_into.ensures.both;
+  found = stronger c.find_into.result (slots_of c.args.store.now c.args.side (g.B.Eeprom.chip c.args.bench.now)) _ _
+      (λ found slots first rises. first ∙ stamped-listed g.R.Record.kind c.args.stamp slots rises) c.find_into.ensures.first;
+  octets_read = c.find_into.ensures.octets_read;
+  rises = c.find_into.ensures.rises;
+  frame = c.find_into.ensures.frame;
+}

@@ -51,7 +51,7 @@ returns-clause-ends g c = λ db was held there same with.
     let x = c.args.value.now in
     let chip = g.B.Eeprom.chip c.args.bench.now in
     let change = changing (any x) ∷ [] in
-    let end = StepsTo-told (IsChanged kind x c.args.slot) c.args.store.now c.change.new.store chip (g.B.Eeprom.chip c.change.new.bench) held.slots held.told c.in_ok-change.ensures.told c.in_ok-change.ensures.changed in
+    let end = StepsTo-told (IsChanged kind x c.args.slot) c.args.store.now c.change.new.store chip (g.B.Eeprom.chip c.change.new.bench) held.slots held.told c.in_ok-change.ensures.told c.in_ok-change.ensures.put in
     let at = subst (λ o. IfSome o (λ slots. Some was ≡ at_slot kind c.args.slot slots)) held.told there in
     let within = at-told c.args.store.now Working chip held.slots (λ slots. weight_with c.args.slot (kind.form.spell x) slots ≤ c.args.store.now.chains.cells) held.told c.in_ok-change.ensures.within in
     let new = IsEditedTo-changed kind any g.met.R.Record.lawful g.met.R.Editable.edits held.slots end.now c.args.slot was x db held.holds held.valid (sym at) same (omega (arith, within, held.cells)) end.is with in
@@ -81,11 +81,11 @@ pub returns-clause-rows : goal.returns-clause-rows
 returns-clause-rows g c = λ was apart there.
     let kind = g.R.Record.kind in
     KeepsRows-one kind c.args.slot was (IsChanged kind c.args.value.now c.args.slot) _ _ g.met.R.Record.lawful apart there (λ a b is. (Some (kind.form.spell c.args.value.now), is, g.met.R.Record.lawful.begins c.args.value.now))
-    (slots-told (IsChanged kind c.args.value.now c.args.slot) c.args.store.now c.change.new.store (g.B.Eeprom.chip c.args.bench.now) (g.B.Eeprom.chip c.change.new.bench) c.requires.over.stands c.in_ok-change.ensures.changed)
+    (slots-told (IsChanged kind c.args.value.now c.args.slot) c.args.store.now c.change.new.store (g.B.Eeprom.chip c.args.bench.now) (g.B.Eeprom.chip c.change.new.bench) c.requires.over.stands c.in_ok-change.ensures.put)
 
 pub returns-clause-committed : goal.returns-clause-committed
-returns-clause-committed g c = λ no_fault. committed-stays _ c.args.store.now c.change.new.store (g.B.Eeprom.chip c.args.bench.now) (g.B.Eeprom.chip c.change.new.bench) c.in_ok-change.ensures.told c.in_ok-change.ensures.changed
+returns-clause-committed g c = λ no_fault. committed-stays _ c.args.store.now c.change.new.store (g.B.Eeprom.chip c.args.bench.now) (g.B.Eeprom.chip c.change.new.bench) c.in_ok-change.ensures.told c.in_ok-change.ensures.put
 
 pub returns-clause-changed : goal.returns-clause-changed
 returns-clause-changed g c =
-    slots-told (IsChanged g.R.Record.kind c.args.value.now c.args.slot) c.args.store.now c.change.new.store (g.B.Eeprom.chip c.args.bench.now) (g.B.Eeprom.chip c.change.new.bench) c.requires.over.stands c.in_ok-change.ensures.changed
+    slots-told (IsChanged g.R.Record.kind c.args.value.now c.args.slot) c.args.store.now c.change.new.store (g.B.Eeprom.chip c.args.bench.now) (g.B.Eeprom.chip c.change.new.bench) c.requires.over.stands c.in_ok-change.ensures.put

@@ -32,7 +32,7 @@ counted : (g : Over) (c : goal.In_ok-change g) → Becomes (Rewrites (IsChanged 
     (g.B.Eeprom.chip c.change.new.bench).image
 counted g c =
     subst (λ counter. Becomes (Rewrites (IsChanged counter_kind (counter.value + 1) counter.slot) c.add.new.store c.change.new.store) (g.B.Eeprom.chip c.add.new.bench).image (g.B.Eeprom.chip c.change.new.bench).image)
-    c.counter.view_is c.in_ok-change.ensures.changed
+    c.counter.view_is c.in_ok-change.ensures.put
 
 -- in its slot alone
 only_counter : (g : Over) (c : goal.In_ok-change g) → ChangesOnly c.args.counter.now.slot c.add.new.store c.change.new.store
@@ -42,7 +42,7 @@ only_counter g c = subst (λ counter. ChangesOnly counter.slot c.add.new.store c
 both : (g : Over) (c : goal.In_ok-change g)
     → Becomes (Rewrites (Both (IsAdded g.R.Record.kind c.args.value.now c.in_ok-slot.slot) (IsChanged counter_kind (c.args.counter.now.value + 1) c.args.counter.now.slot)) c.args.store.now c.change.new.store)
     (g.B.Eeprom.chip c.args.bench.now).image (g.B.Eeprom.chip c.change.new.bench).image
-both g c = rewrites-both _ _ _ _ _ _ _ _ c.in_ok-slot.ensures.added (counted g c)
+both g c = rewrites-both _ _ _ _ _ _ _ _ c.in_ok-slot.ensures.put (counted g c)
 
 pub returns-in_err-slot-clause-ends : goal.returns-in_err-slot-clause-ends
 returns-in_err-slot-clause-ends g c = λ db held key with.
@@ -63,7 +63,7 @@ never g c full slots here =
     let chip = g.B.Eeprom.chip c.args.bench.now in
     let counter = c.args.counter.now in
     let is = c.in_err-change.was ∙ ap (λ e. Err e) full in
-    let added = StepsTo-told (IsAdded kind x c.in_ok-slot.slot) c.args.store.now c.add.new.store chip (g.B.Eeprom.chip c.add.new.bench) slots here c.in_ok-slot.ensures.told c.in_ok-slot.ensures.added in
+    let added = StepsTo-told (IsAdded kind x c.in_ok-slot.slot) c.args.store.now c.add.new.store chip (g.B.Eeprom.chip c.add.new.bench) slots here c.in_ok-slot.ensures.told c.in_ok-slot.ensures.put in
     let within = at-told c.args.store.now Working chip slots (λ slots. weight_with c.in_ok-slot.slot (kind.form.spell x) slots ≤ c.args.store.now.chains.cells) here c.in_ok-slot.ensures.within in
     let over = at-told c.add.new.store Working (g.B.Eeprom.chip c.add.new.bench) added.now (λ slots. c.add.new.store.chains.cells < weight_with counter.slot (counter_record.spell (counter.value + 1)) slots) added.told
     (subst (λ counter. IfSome (g.B.Eeprom.chip c.add.new.bench).image (λ image. IfSome (contents c.add.new.store Working image) (λ slots. c.add.new.store.chains.cells < weight_with counter.slot (counter_record.spell (counter.value + 1)) slots)))

@@ -1,12 +1,13 @@
 -- The nearest of all slots is the nearest of one so far and those that are left, slot by slot.
-use Rattle.std.proofs.Common.{◌≡◌, ◌+◌, ◌<◌, List, Option, Some, None, refl, sym, ◌∙◌, arith}
+use Rattle.std.proofs.Common.{rules, ◌≡◌, ◌+◌, ◌<◌, List, Option, Some, None, refl, sym, ◌∙◌, arith}
 use Rattle.std.specs.Prelude.{IfSome, option_map, filter}
 use Rattle.std.specs.List.{cons_option}
 use Rattle.eeprom.specs.StoreOf.{Slots}
 use Rattle.eeprom.specs.Slots.{nearest_from}
 use Rattle.record_table.specs.Listed.{in_slots, at_slot, slots_of}
 use Rattle.record_table.proofs.ListedSearches.{next-listed}
-use Rattle.record_table.proofs.Scan.{empty-told, others-told, left-all, left-behind, left-empty, left-others, nearest-passed, nearest-taken, one_of_both, reads-none, reads-behind, reads-on}
+use Rattle.record_table.proofs.ReadingCosts.{falls-both, falls-none}
+use Rattle.record_table.proofs.Scan.{empty-told, others-told, left-all, left-behind, left-empty, left-others, nearest-passed, nearest-taken, one_of_both, reads-all, reads-none, reads-behind, reads-on}
 use Rattle.record_table.proofs.next.next_by.Goals as goal
 use Rattle.record_table.proofs.next.next_by.Goals.{in-Some+then-is, in-Some+else-is, in_default}
 
@@ -23,6 +24,7 @@ loop-slot-init g c =
       left = left-others g.R.Record.kind (λ slots. nearest_from g.R.Record.kind.key c.args.stamp None (filter (g.W.Wanted.wants c.args.wanted.now) (in_slots g.R.Record.kind slots))) (λ rest. nearest_from g.R.Record.kind.key c.args.stamp None (filter (g.W.Wanted.wants c.args.wanted.now) rest)) slots 0 c.next_slot-slot.result g.met.R.Record.lawful (omega arith)
           (others-told g.R.Record.kind c.args.store.now c.args.side 0 c.next_slot-slot.result (g.B.Eeprom.chip c.args.bench.now).image c.requires.over.stands c.next_slot-slot.ensures.others) (left-all g.R.Record.kind (λ rest. nearest_from g.R.Record.kind.key c.args.stamp None (filter (g.W.Wanted.wants c.args.wanted.now) rest)) slots);
       read = reads-on g.R.Record.kind slots 0 c.next_slot-slot.result _ _ (omega arith) (reads-none g.R.Record.kind slots (g.B.Eeprom.octets_read c.args.bench.now));
+      rises = falls-none slots (g.B.Eeprom.octets_read c.args.bench.now);
     }
 
 pub loop-slot-preserved : goal.loop-slot-preserved
@@ -40,8 +42,8 @@ loop-slot-preserved g c =
       | in_default w ↦ λ rest. rw (w.in_default.is, w.nearest-is) refl
     ] in
     record {
-      same = c.in_ok-value.ensures.frame.same ∙ c.loop-slot.invariant.same;
-      faults = c.in_ok-value.ensures.frame.counts.1 ∙ c.loop-slot.invariant.faults;
+      same = c.in_ok-value.ensures.reads.frame.same ∙ c.loop-slot.invariant.same;
+      faults = c.in_ok-value.ensures.reads.frame.counts.1 ∙ c.loop-slot.invariant.faults;
       bound = c.loop-slot.invariant.bound;
       empty = c.loop-slot.invariant.empty;
       there = elim c.match-branch-2.branch [
@@ -60,13 +62,21 @@ loop-slot-preserved g c =
           (others-told g.R.Record.kind c.args.store.now c.args.side (c.loop-slot.slot + 1) c.next_slot-slot-in-loop-slot.result (g.B.Eeprom.chip c.args.bench.now).image c.requires.over.stands c.next_slot-slot-in-loop-slot.ensures.others)
           (left-behind g.R.Record.kind (λ slots. nearest_from key c.args.stamp None (filter wants (in_slots g.R.Record.kind slots)))
           (λ rest. nearest_from key c.args.stamp (option_map (λ near. near.value) c.loop-slot.nearest) (filter wants rest)) (λ rest. nearest_from key c.args.stamp (option_map (λ near. near.value) c.match-branch-2.nearest) (filter wants rest)) slots c.loop-slot.slot c.in_ok-value.field-0 here step c.loop-slot.invariant.left);
-      read = reads-on g.R.Record.kind slots (c.loop-slot.slot + 1) c.next_slot-slot-in-loop-slot.result _ _ c.next_slot-slot-in-loop-slot.ensures.onward (reads-behind g.R.Record.kind slots c.loop-slot.slot _ _ _ c.loop-slot.invariant.read (rw c.loop-slot.invariant.same at c.in_ok-value.ensures.octets_read));
+      read = reads-on g.R.Record.kind slots (c.loop-slot.slot + 1) c.next_slot-slot-in-loop-slot.result _ _ c.next_slot-slot-in-loop-slot.ensures.onward (reads-behind g.R.Record.kind slots c.loop-slot.slot _ _ _ c.loop-slot.invariant.read (rw c.loop-slot.invariant.same at c.in_ok-value.ensures.reads.octets_read));
+      rises = falls-both slots _ _ _ c.loop-slot.invariant.rises (rw c.loop-slot.invariant.same at c.in_ok-value.ensures.reads.rises);
     }
 
-pub returns-clause-next : goal.returns-clause-next
-returns-clause-next g c =
+pub returns : goal.returns
+returns g c =
     let slots : Option Slots = slots_of c.args.store.now c.args.side (g.B.Eeprom.chip c.args.bench.now) in
-    next-listed g.R.Record.kind c.args.stamp (g.W.Wanted.wants c.args.wanted.now) _ slots
-    (left-empty g.R.Record.kind (λ slots. nearest_from g.R.Record.kind.key c.args.stamp None (filter (g.W.Wanted.wants c.args.wanted.now) (in_slots g.R.Record.kind slots)))
-    (λ rest. nearest_from g.R.Record.kind.key c.args.stamp (option_map (λ near. near.value) c.loop-slot.nearest) (filter (g.W.Wanted.wants c.args.wanted.now) rest)) slots c.slots_in_use-end.result c.loop-slot.slot
-    c.loop-slot-test.false c.loop-slot.invariant.empty c.loop-slot.invariant.left)
+    record {
+      there = search rules;
+      at = search rules;
+      next = next-listed g.R.Record.kind c.args.stamp (g.W.Wanted.wants c.args.wanted.now) _ slots
+          (left-empty g.R.Record.kind (λ slots. nearest_from g.R.Record.kind.key c.args.stamp None (filter (g.W.Wanted.wants c.args.wanted.now) (in_slots g.R.Record.kind slots)))
+          (λ rest. nearest_from g.R.Record.kind.key c.args.stamp (option_map (λ near. near.value) c.loop-slot.nearest) (filter (g.W.Wanted.wants c.args.wanted.now) rest)) slots c.slots_in_use-end.result c.loop-slot.slot
+          c.loop-slot-test.false c.loop-slot.invariant.empty c.loop-slot.invariant.left);
+      octets_read = reads-all g.R.Record.kind slots c.loop-slot.slot _ _ c.loop-slot.invariant.read;
+      rises = search rules;
+      frame = search rules;
+    }

@@ -3,6 +3,7 @@ use Rattle.std.specs.Prelude.{IfSome, option_map, filter}
 use Rattle.eeprom.specs.Chip.{Becomes}
 use Rattle.eeprom.specs.Slots.{nearest_from}
 use Rattle.record_table.specs.Listed.{in_slots, at_slot, slots_of}
+use Rattle.record_table.specs.Reading.{NeverFalls}
 use Rattle.record_table.proofs.Scan.{AreEmptyFrom, IsOfLeft, ReadsUpTo}
 use Rattle.record_table.proofs.next.next_by.Given as goal
 
@@ -19,6 +20,7 @@ invariant-loop-slot g l = record {
       (λ rest. nearest_from g.R.Record.kind.key l.stamp (option_map (λ near. near.value) l.nearest) (filter (g.W.Wanted.wants l.wanted) rest)) l.slot);
   read : IfSome (slots_of l.store l.side (g.B.Eeprom.chip l.fn.bench))
       (λ slots. Becomes (ReadsUpTo g.R.Record.kind l.slot slots) (g.B.Eeprom.octets_read l.fn.bench) (g.B.Eeprom.octets_read l.bench));
+  rises : NeverFalls (slots_of l.store l.side (g.B.Eeprom.chip l.fn.bench)) (g.B.Eeprom.octets_read l.fn.bench) (g.B.Eeprom.octets_read l.bench);
 }
 
 abbrev pub decreases-loop-slot : goal.decreases-loop-slot

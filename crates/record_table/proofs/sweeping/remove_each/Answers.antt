@@ -1,5 +1,6 @@
 -- Slot by slot, until all that are left are empty.
-use Rattle.std.proofs.Common.{Option, refl, ◌∙◌}
+use Rattle.std.proofs.lemmas.Grind.{common_steps}
+use Rattle.std.proofs.Common.{rules, Option, refl, ◌∙◌, arith}
 use Rattle.eeprom.specs.StoreOf.{Slots}
 use Rattle.record_store.specs.declared.side.Side.TheVariants.{Working}
 use Rattle.record_table.specs.Listed.{slots_of}
@@ -48,7 +49,16 @@ loop-slot-preserved g c =
       entries = entries-more kind wants c.args.store.now c.loop-slot.store c.remove_wanted.new.store chip c.loop-slot.slot slots so_far.swept (rw so_far.same at done.entries) so_far.entries;
     }
 
-pub returns-clause-removed : goal.returns-clause-removed
-returns-clause-removed g c =
-    rw c.loop-slot.invariant.same (swept-all g.R.Record.kind (g.W.Wanted.wants c.args.wanted.now) c.loop-slot.store (g.B.Eeprom.chip c.args.bench.now) c.slots_in_use-slot-end.result c.loop-slot.slot
-    (slots_of c.args.store.now Working (g.B.Eeprom.chip c.args.bench.now)) c.loop-slot-test.false c.loop-slot.invariant.empty c.loop-slot.invariant.swept)
+pub returns : goal.returns
+returns g c = record {
+  removed = rw c.loop-slot.invariant.same (swept-all g.R.Record.kind (g.W.Wanted.wants c.args.wanted.now) c.loop-slot.store (g.B.Eeprom.chip c.args.bench.now) c.slots_in_use-slot-end.result c.loop-slot.slot
+      (slots_of c.args.store.now Working (g.B.Eeprom.chip c.args.bench.now)) c.loop-slot-test.false c.loop-slot.invariant.empty c.loop-slot.invariant.swept);
+  committed = rw c.loop-slot.invariant.same c.loop-slot.invariant.committed;
+  over = c.loop-slot.invariant.over;
+  begun = c.loop-slot.invariant.begun;
+  cells = c.loop-slot.invariant.cells;
+  rows = c.loop-slot.invariant.rows;
+  only = c.loop-slot.invariant.only;
+  entries = first_of (search rules, grind (arith, common_steps));
+  frame = search rules;
+}

@@ -2,7 +2,7 @@ use Rattle.std.proofs.Common.{[], ◌∷◌, inl}
 use Rattle.card_link.specs.Link.{Holds, IsOneOf}
 use Rattle.card_asking.proofs.Moments.{leaves-all, leaves-both}
 use Rattle.table_copy.specs.Filling.{IsCommitted, IsFilled, commits_by}
-use Rattle.table_copy.proofs.Turning.{fill-fills, fill-moment, fill-turns, turns-ended}
+use Rattle.table_copy.proofs.Turning.{fill-fills, fill-moment, fill-turns, reads-stayed, turns-ended}
 use Rattle.table_copy.proofs.copying.fill.Goals as goal
 
 pub returns-in-Ok-clause-turns : goal.returns-in-Ok-clause-turns
@@ -13,7 +13,7 @@ returns-in-Ok-clause-turns g c = λ s d count total together.
 
 pub returns-in-Ok-clause-fills : goal.returns-in-Ok-clause-fills
 returns-in-Ok-clause-fills g c = λ d filling.
-    let f = c.in-Ok.ensures.fills d filling (λ is. absurd cc) in
+    let f = (c.in-Ok.ensures.fills d filling).fills (λ is. absurd cc) in
     rw c.counted.ensures
     (fill-fills g.D.CardLink.is_at d f.db c.in-Ok.rows c.commit.new.dest c.commit.result (c.commit.ensures.commits d f.db f.copies))
 
@@ -21,9 +21,9 @@ pub returns-in-Ok-clause-moments : goal.returns-in-Ok-clause-moments
 returns-in-Ok-clause-moments g c = λ s d count total together.
     let f = c.in-Ok.ensures.turns s d count total together in
     leaves-both g.D.CardLink.chip (IsOneOf (g.D.CardLink.mark c.args.dest.now) (d.committed ∷ commits_by total)) c.args.dest.now c.insert_rows.new.dest c.commit.new.dest
-    (leaves-all g.D.CardLink.chip (Holds (g.D.CardLink.mark c.args.dest.now) d.committed) (IsOneOf (g.D.CardLink.mark c.args.dest.now) (d.committed ∷ commits_by total)) c.args.dest.now c.insert_rows.new.dest (λ n left is. inl is) (c.insert_rows.ensures.moments d (record { db = together.db; copies = together.copies })))
+    (leaves-all g.D.CardLink.chip (Holds (g.D.CardLink.mark c.args.dest.now) d.committed) (IsOneOf (g.D.CardLink.mark c.args.dest.now) (d.committed ∷ commits_by total)) c.args.dest.now c.insert_rows.new.dest (λ n left is. inl is) (c.insert_rows.ensures.fills d (record { db = together.db; copies = together.copies })).moments)
     (leaves-all g.D.CardLink.chip (IsOneOf (g.D.CardLink.mark c.insert_rows.new.dest) (d.committed ∷ f.db ∷ [])) (IsOneOf (g.D.CardLink.mark c.args.dest.now) (d.committed ∷ commits_by total)) c.insert_rows.new.dest c.commit.new.dest
-    (λ n left is. fill-moment (g.D.CardLink.mark c.args.dest.now) (g.D.CardLink.mark c.insert_rows.new.dest) d.committed f.db total n left c.insert_rows.ensures.dest_rest.marked f.made is)
+    (λ n left is. fill-moment (g.D.CardLink.mark c.args.dest.now) (g.D.CardLink.mark c.insert_rows.new.dest) d.committed f.db total n left c.insert_rows.ensures.leaves.dest_rest.marked f.made is)
     (c.commit.ensures.moments d f.db f.copies))
 
 pub returns-in-Err-clause-turns : goal.returns-in-Err-clause-turns
@@ -33,4 +33,10 @@ returns-in-Err-clause-turns g c = λ s d count total together.
 
 pub returns-in-Err-clause-moments : goal.returns-in-Err-clause-moments
 returns-in-Err-clause-moments g c = λ s d count total together.
-    leaves-all g.D.CardLink.chip (Holds (g.D.CardLink.mark c.args.dest.now) d.committed) (IsOneOf (g.D.CardLink.mark c.args.dest.now) (d.committed ∷ commits_by total)) c.args.dest.now c.insert_rows.new.dest (λ n left is. inl is) (c.insert_rows.ensures.moments d (record { db = together.db; copies = together.copies }))
+    leaves-all g.D.CardLink.chip (Holds (g.D.CardLink.mark c.args.dest.now) d.committed) (IsOneOf (g.D.CardLink.mark c.args.dest.now) (d.committed ∷ commits_by total)) c.args.dest.now c.insert_rows.new.dest (λ n left is. inl is) (c.insert_rows.ensures.fills d (record { db = together.db; copies = together.copies })).moments
+
+pub returns-in-Ok-clause-reads : goal.returns-in-Ok-clause-reads
+returns-in-Ok-clause-reads g c = λ s fetching. record {
+  reads = reads-stayed g.S.CardLink.is_at s c.counted.result c.insert_rows.new.source (c.in-Ok.ensures.reads s fetching).reads;
+  still = (c.insert_rows.ensures.reads s fetching).still;
+}

@@ -12,24 +12,26 @@ returns-in-Ok-clause-turns g c = λ s d count passed total together.
     let S = g.S.CardLink.is_at in
     let D = g.D.CardLink.is_at in
     let all = together.gives in
-    let put = c.in-Ok.ensures.puts d together.db together.left together.copies (has-row S s (Rows count) all.last together.left c.args.plan.now c.args.step.now c.args.source.now all.gives) in
-    unless-source_mute (λ r. TurnsSo total r (λ _. Together S D s d count (with_row (has_row c.args.step.now) passed) c.args.table.now total c.advance.new.plan c.advance.new.step c.advance.new.source c.put_row.new.dest)) c.advance.result tt (λ heard.
+    let put = c.in-Ok.ensures.puts d together.db together.left together.copies (has-row S s (Rows count) all.last together.left c.args.fetching.now.plan c.args.fetching.now.step c.args.source.now all.gives) in
+    unless-source_mute (λ r. TurnsSo total r (λ _. Together S D s d count (with_row (has_row c.args.fetching.now.step) passed) c.args.table.now total c.advance.new.fetching.plan c.advance.new.fetching.step c.advance.new.source c.put_row.new.dest)) c.advance.result tt (λ heard.
     let gives = c.advance.ensures.gives s all.last (Rows count) together.left all.gives heard in
-    subst (λ r. TurnsSo total r (λ _. Together S D s d count (with_row (has_row c.args.step.now) passed) c.args.table.now total c.advance.new.plan c.advance.new.step c.advance.new.source c.put_row.new.dest))
-    (sym (c.advance.ensures.goes_on heard ∙ rows-go_on S s all.last count (behind_step c.args.step.now together.left) c.advance.new.plan c.advance.new.step c.advance.new.source gives))
-    (record { left = behind_step c.args.step.now together.left; db = put.0; gives = record { last = all.last; gives = gives }; copies = put.2; leads = sym put.1 ∙ together.leads; counted = row-counted S s all.last count passed together.left c.args.plan.now c.args.step.now c.args.source.now all.gives together.counted }))
+    subst (λ r. TurnsSo total r (λ _. Together S D s d count (with_row (has_row c.args.fetching.now.step) passed) c.args.table.now total c.advance.new.fetching.plan c.advance.new.fetching.step c.advance.new.source c.put_row.new.dest))
+    (sym (c.advance.ensures.goes_on heard ∙ rows-go_on S s all.last count (behind_step c.args.fetching.now.step together.left) c.advance.new.fetching.plan c.advance.new.fetching.step c.advance.new.source gives))
+    (record { left = behind_step c.args.fetching.now.step together.left; db = put.0; gives = record { last = all.last; gives = gives }; copies = put.2; leads = sym put.1 ∙ together.leads; counted = row-counted S s all.last count passed together.left c.args.fetching.now.plan c.args.fetching.now.step c.args.source.now all.gives together.counted }))
 
 pub returns-in-Ok-clause-reads : goal.returns-in-Ok-clause-reads
-returns-in-Ok-clause-reads g c = λ s fetching.
-    fetches-on g.S.CardLink.is_at g.S.CardLink.is_live g.S.CardLink.faults s c.advance.new.plan c.advance.new.step c.advance.result c.args.source.now c.advance.new.source c.advance.ensures.ends
-    (λ heard. record { closing = fetching.closing; last = fetching.last; rows = behind_step c.args.step.now fetching.rows; gives = c.advance.ensures.gives s fetching.last fetching.closing fetching.rows fetching.gives heard })
-
-pub returns-in-Ok-clause-still : goal.returns-in-Ok-clause-still
-returns-in-Ok-clause-still g c = λ s fetching. c.advance.ensures.still s fetching.last fetching.closing fetching.rows fetching.gives
+returns-in-Ok-clause-reads g c = λ s fetching. record {
+  reads = fetches-on g.S.CardLink.is_at g.S.CardLink.is_live g.S.CardLink.faults s c.advance.new.fetching.plan c.advance.new.fetching.step c.advance.result c.args.source.now c.advance.new.source c.advance.ensures.leaves.ends
+      (λ heard. record { closing = fetching.closing; last = fetching.last; rows = behind_step c.args.fetching.now.step fetching.rows; gives = c.advance.ensures.gives s fetching.last fetching.closing fetching.rows fetching.gives heard });
+  still = c.advance.ensures.still s fetching.last fetching.closing fetching.rows fetching.gives;
+}
 
 pub returns-in-Err-clause-turns : goal.returns-in-Err-clause-turns
 returns-in-Err-clause-turns g c = λ s d count passed total together.
     let all = together.gives in
-    turns-refused g.D.CardLink.is_at d c.args.table.now (λ _. Together g.S.CardLink.is_at g.D.CardLink.is_at s d count (with_row (has_row c.args.step.now) passed) c.args.table.now total c.args.plan.now c.args.step.now c.args.source.now c.put_row.new.dest)
-    c.args.step.now together.left together.db c.in-Err.end total c.put_row.new.dest together.leads
-    (c.in-Err.ensures.puts d together.db together.left together.copies (has-row g.S.CardLink.is_at s (Rows count) all.last together.left c.args.plan.now c.args.step.now c.args.source.now all.gives))
+    turns-refused g.D.CardLink.is_at d c.args.table.now (λ _. Together g.S.CardLink.is_at g.D.CardLink.is_at s d count (with_row (has_row c.args.fetching.now.step) passed) c.args.table.now total c.args.fetching.now.plan c.args.fetching.now.step c.args.source.now c.put_row.new.dest)
+    c.args.fetching.now.step together.left together.db c.in-Err.end total c.put_row.new.dest together.leads
+    (c.in-Err.ensures.puts d together.db together.left together.copies (has-row g.S.CardLink.is_at s (Rows count) all.last together.left c.args.fetching.now.plan c.args.fetching.now.step c.args.source.now all.gives))
+
+pub returns-in-Ok-clause-fills : goal.returns-in-Ok-clause-fills
+returns-in-Ok-clause-fills g c = λ d filling. record { fills = λ _. (c.in-Ok.ensures.fills d filling).fills (λ is. absurd cc); moments = (c.put_row.ensures.fills d filling).moments }

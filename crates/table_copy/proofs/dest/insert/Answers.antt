@@ -19,19 +19,18 @@ returns-in-Some-clause-inserts g c = λ d db row copies octets form.
     ((rw same at c.put.ensures.answer) copies.machine copies.at heard) (c.put.ensures.done heard))
 
 pub returns-in-Some-clause-fills : goal.returns-in-Some-clause-fills
-returns-in-Some-clause-fills g c = λ d filling heard.
+returns-in-Some-clause-fills g c = λ d filling.
     let inserts = c.in-Some.ensures.inserts in
     let copies = filling.copies in
-    filling-after g.L.CardLink.is_at d filling.db _ c.put.result c.put.new.dest
-    (inserts-so d filling.db copies.machine copies.copies c.args.table.now inserts.row (rw inserts.is at inserts.sendable) g.L.CardLink.is_at c.put.new.reply c.put.result c.put.new.dest
-    ((rw inserts.is at c.put.ensures.answer) copies.machine copies.at heard) (c.put.ensures.done heard))
-    heard
-
-pub returns-in-Some-clause-moments : goal.returns-in-Some-clause-moments
-returns-in-Some-clause-moments g c = λ d filling.
-    let inserts = c.in-Some.ensures.inserts in
-    let copies = filling.copies in
-    leaves-all g.L.CardLink.chip _ _ c.args.dest.now c.put.new.dest
-    (λ n left is. one-alone (g.L.CardLink.mark c.args.dest.now) copies.machine.committed d.committed _ n left
-    (insert-silent d filling.db copies.machine copies.copies c.args.table.now inserts.row (rw inserts.is at inserts.sendable)) copies.copies.committed is)
-    ((rw inserts.is at c.put.ensures.moments) copies.machine copies.at)
+    record {
+      fills = λ heard.
+          filling-after g.L.CardLink.is_at d filling.db _ c.put.result c.put.new.dest
+          (inserts-so d filling.db copies.machine copies.copies c.args.table.now inserts.row (rw inserts.is at inserts.sendable) g.L.CardLink.is_at c.put.new.reply c.put.result c.put.new.dest
+          ((rw inserts.is at c.put.ensures.answer) copies.machine copies.at heard) (c.put.ensures.done heard))
+          heard;
+      moments =
+          leaves-all g.L.CardLink.chip _ _ c.args.dest.now c.put.new.dest
+          (λ n left is. one-alone (g.L.CardLink.mark c.args.dest.now) copies.machine.committed d.committed _ n left
+          (insert-silent d filling.db copies.machine copies.copies c.args.table.now inserts.row (rw inserts.is at inserts.sendable)) copies.copies.committed is)
+          ((rw inserts.is at c.put.ensures.moments) copies.machine copies.at);
+    }

@@ -7,14 +7,14 @@ ask-requires-clause-sendable g c = rw c.asking.ensures rollback-sent
 
 pub returns-in-Ok-clause-rolls : goal.returns-in-Ok-clause-rolls
 returns-in-Ok-clause-rolls g c = λ d filling _.
-    rolls-so d filling.db filling.copies.machine filling.copies.copies g.L.CardLink.is_at c.ask.new.reply c.ask.new.link ((rw c.asking.ensures at c.in-Ok.ensures.answer) filling.copies.machine filling.copies.at)
+    rolls-so d filling.db filling.copies.machine filling.copies.copies g.L.CardLink.is_at c.ask.new.reply c.ask.new.link ((rw c.asking.ensures at c.in-Ok.ensures.asks) filling.copies.machine filling.copies.at).answered
 
 pub returns-in-Ok-clause-moments : goal.returns-in-Ok-clause-moments
 returns-in-Ok-clause-moments g c = λ d filling.
     leaves-all g.L.CardLink.chip _ _ c.args.dest.now c.ask.new.link (λ n left is. rollback-moment d filling.db filling.copies.machine filling.copies.copies (g.L.CardLink.mark c.args.dest.now) n left is)
-    ((rw c.asking.ensures at c.ask.ensures.moments) filling.copies.machine filling.copies.at)
+    ((rw c.asking.ensures at c.ask.ensures.asks) filling.copies.machine filling.copies.at).moments
 
 pub returns-in-Err-clause-moments : goal.returns-in-Err-clause-moments
 returns-in-Err-clause-moments g c = λ d filling.
     leaves-all g.L.CardLink.chip _ _ c.args.dest.now c.ask.new.link (λ n left is. rollback-moment d filling.db filling.copies.machine filling.copies.copies (g.L.CardLink.mark c.args.dest.now) n left is)
-    ((rw c.asking.ensures at c.ask.ensures.moments) filling.copies.machine filling.copies.at)
+    ((rw c.asking.ensures at c.ask.ensures.asks) filling.copies.machine filling.copies.at).moments

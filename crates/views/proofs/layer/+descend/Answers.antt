@@ -1,5 +1,5 @@
 -- The base of a view is a table, or a view whose base is reached first.
-use Rattle.std.proofs.Common.{◌≡◌, ℕ, suc, ◌-◌, Some, refl, sym, subst, ◌∙◌, arith}
+use Rattle.std.proofs.Common.{rules, ◌≡◌, ℕ, suc, ◌-◌, Some, refl, sym, subst, ◌∙◌, arith}
 use Rattle.std.proofs.lemmas.Bool.{false≢true}
 use Rattle.scql_model.specs.Resolving.{resolved_below}
 use Rattle.record_table.specs.Listed.{slots_of}
@@ -60,14 +60,6 @@ returns-else-not-branch-clause-reached g t c = λ db r held is known.
     let passed = c.pass.ensures.passed passes.under there.1 passes.known in
     (passed.0, passes.reaches c.pass.new.resolved passed.1)
 
-pub returns-then-not-branch-clause-rises : goal.returns-then-not-branch-clause-rises
-returns-then-not-branch-clause-rises g t c =
-    falls-both (slots_of c.args.store.now c.args.side (g.B.Eeprom.chip c.args.bench.now)) _ _ _ c.in_ok-find_stamp_into.ensures.rises (rw c.in_ok-find_stamp_into.ensures.frame.same at c.in_ok-descend-in-View.ensures.rises)
-
-pub returns-else-not-branch-clause-rises : goal.returns-else-not-branch-clause-rises
-returns-else-not-branch-clause-rises g t c =
-    falls-both (slots_of c.args.store.now c.args.side (g.B.Eeprom.chip c.args.bench.now)) _ _ _ c.in_ok-find_stamp_into.ensures.rises (rw c.in_ok-find_stamp_into.ensures.frame.same at c.in_ok-descend-in-View.ensures.rises)
-
 pub returns-in-Dictionary-clause-reached : goal.returns-in-Dictionary-clause-reached
 returns-in-Dictionary-clause-reached g t c = λ db r held is known.
     let place = c.find_stamp_into.new.place in
@@ -76,42 +68,66 @@ returns-in-Dictionary-clause-reached g t c = λ db r held is known.
     let over = below-found db.objects c.args.most c.args.base place o r at c.in-Some.is is in
     absurd (false≢true (dictionary-none (resolved_below c.args.most db.objects) o o.kind c.in-Dictionary.subject r c.in-Dictionary.is over))
 
-pub returns-in_default-clause-octets_read : goal.returns-in_default-clause-octets_read
-returns-in_default-clause-octets_read g t c = λ db held.
-    below-first c.args.most db.objects c.args.base _ _ (object-read c.args.store.now c.args.side (g.B.Eeprom.chip c.args.bench.now) db c.args.base _ _ held c.in_ok-find_stamp_into.ensures.octets_read)
+pub returns-in_default-clause-reads : goal.returns-in_default-clause-reads
+returns-in_default-clause-reads g t c = record {
+  octets_read = λ db held.
+      below-first c.args.most db.objects c.args.base _ _ (object-read c.args.store.now c.args.side (g.B.Eeprom.chip c.args.bench.now) db c.args.base _ _ held c.in_ok-find_stamp_into.ensures.octets_read);
+  rises = c.in_ok-find_stamp_into.ensures.rises;
+  frame = search rules;
+}
 
-pub returns-in-Table-clause-octets_read : goal.returns-in-Table-clause-octets_read
-returns-in-Table-clause-octets_read g t c = λ db held.
-    below-first c.args.most db.objects c.args.base _ _ (object-read c.args.store.now c.args.side (g.B.Eeprom.chip c.args.bench.now) db c.args.base _ _ held c.in_ok-find_stamp_into.ensures.octets_read)
+pub returns-in-Table-clause-reads : goal.returns-in-Table-clause-reads
+returns-in-Table-clause-reads g t c = record {
+  octets_read = λ db held.
+      below-first c.args.most db.objects c.args.base _ _ (object-read c.args.store.now c.args.side (g.B.Eeprom.chip c.args.bench.now) db c.args.base _ _ held c.in_ok-find_stamp_into.ensures.octets_read);
+  rises = c.in_ok-find_stamp_into.ensures.rises;
+  frame = search rules;
+}
 
-pub returns-then-most-eq0-clause-octets_read : goal.returns-then-most-eq0-clause-octets_read
-returns-then-most-eq0-clause-octets_read g t c = λ db held.
-    below-first c.args.most db.objects c.args.base _ _ (object-read c.args.store.now c.args.side (g.B.Eeprom.chip c.args.bench.now) db c.args.base _ _ held c.in_ok-find_stamp_into.ensures.octets_read)
+pub returns-then-most-eq0-clause-reads : goal.returns-then-most-eq0-clause-reads
+returns-then-most-eq0-clause-reads g t c = record {
+  octets_read = λ db held.
+      below-first c.args.most db.objects c.args.base _ _ (object-read c.args.store.now c.args.side (g.B.Eeprom.chip c.args.bench.now) db c.args.base _ _ held c.in_ok-find_stamp_into.ensures.octets_read);
+  rises = c.in_ok-find_stamp_into.ensures.rises;
+  frame = search rules;
+}
 
-pub returns-then-not-branch-clause-octets_read : goal.returns-then-not-branch-clause-octets_read
-returns-then-not-branch-clause-octets_read g t c = λ db held.
-    let place = c.find_stamp_into.new.place in
-    let chip = g.B.Eeprom.chip c.args.bench.now in
-    let at = stamped-held c.args.store.now c.args.side chip db c.args.base place held c.in_ok-find_stamp_into.ensures.found in
-    let some = c.if-most-eq0.false in
-    let one_less : suc (c.args.most - 1) ≡ c.args.most = omega (arith, some) in
-    let under = c.in_ok-descend-in-View.ensures.octets_read db (rw (sym c.in_ok-find_stamp_into.ensures.frame.same) at held) in
-    below-both c.args.most db.objects c.args.base c.in-Some.object c.in-View.base c.in-View.columns c.in-View.conditions _ _ _ (sym at ∙ c.in-Some.is) c.in-View.is
-    (object-read c.args.store.now c.args.side chip db c.args.base _ _ held c.in_ok-find_stamp_into.ensures.octets_read)
-    (subst (λ (n : ℕ). ReadsAtMost (cells_below n db.objects c.in-View.base) (g.B.Eeprom.octets_read c.find_stamp_into.new.bench) (g.B.Eeprom.octets_read c.descend.new.bench)) one_less under)
+pub returns-then-not-branch-clause-reads : goal.returns-then-not-branch-clause-reads
+returns-then-not-branch-clause-reads g t c = record {
+  octets_read = λ db held.
+      let place = c.find_stamp_into.new.place in
+      let chip = g.B.Eeprom.chip c.args.bench.now in
+      let at = stamped-held c.args.store.now c.args.side chip db c.args.base place held c.in_ok-find_stamp_into.ensures.found in
+      let some = c.if-most-eq0.false in
+      let one_less : suc (c.args.most - 1) ≡ c.args.most = omega (arith, some) in
+      let under = c.in_ok-descend-in-View.ensures.reads.octets_read db (rw (sym c.in_ok-find_stamp_into.ensures.frame.same) at held) in
+      below-both c.args.most db.objects c.args.base c.in-Some.object c.in-View.base c.in-View.columns c.in-View.conditions _ _ _ (sym at ∙ c.in-Some.is) c.in-View.is
+      (object-read c.args.store.now c.args.side chip db c.args.base _ _ held c.in_ok-find_stamp_into.ensures.octets_read)
+      (subst (λ (n : ℕ). ReadsAtMost (cells_below n db.objects c.in-View.base) (g.B.Eeprom.octets_read c.find_stamp_into.new.bench) (g.B.Eeprom.octets_read c.descend.new.bench)) one_less under);
+  rises = falls-both (slots_of c.args.store.now c.args.side (g.B.Eeprom.chip c.args.bench.now)) _ _ _ c.in_ok-find_stamp_into.ensures.rises (rw c.in_ok-find_stamp_into.ensures.frame.same at c.in_ok-descend-in-View.ensures.reads.rises);
+  frame = search rules;
+}
 
-pub returns-else-not-branch-clause-octets_read : goal.returns-else-not-branch-clause-octets_read
-returns-else-not-branch-clause-octets_read g t c = λ db held.
-    let place = c.find_stamp_into.new.place in
-    let chip = g.B.Eeprom.chip c.args.bench.now in
-    let at = stamped-held c.args.store.now c.args.side chip db c.args.base place held c.in_ok-find_stamp_into.ensures.found in
-    let some = c.if-most-eq0.false in
-    let one_less : suc (c.args.most - 1) ≡ c.args.most = omega (arith, some) in
-    let under = c.in_ok-descend-in-View.ensures.octets_read db (rw (sym c.in_ok-find_stamp_into.ensures.frame.same) at held) in
-    below-both c.args.most db.objects c.args.base c.in-Some.object c.in-View.base c.in-View.columns c.in-View.conditions _ _ _ (sym at ∙ c.in-Some.is) c.in-View.is
-    (object-read c.args.store.now c.args.side chip db c.args.base _ _ held c.in_ok-find_stamp_into.ensures.octets_read)
-    (subst (λ (n : ℕ). ReadsAtMost (cells_below n db.objects c.in-View.base) (g.B.Eeprom.octets_read c.find_stamp_into.new.bench) (g.B.Eeprom.octets_read c.descend.new.bench)) one_less under)
+pub returns-else-not-branch-clause-reads : goal.returns-else-not-branch-clause-reads
+returns-else-not-branch-clause-reads g t c = record {
+  octets_read = λ db held.
+      let place = c.find_stamp_into.new.place in
+      let chip = g.B.Eeprom.chip c.args.bench.now in
+      let at = stamped-held c.args.store.now c.args.side chip db c.args.base place held c.in_ok-find_stamp_into.ensures.found in
+      let some = c.if-most-eq0.false in
+      let one_less : suc (c.args.most - 1) ≡ c.args.most = omega (arith, some) in
+      let under = c.in_ok-descend-in-View.ensures.reads.octets_read db (rw (sym c.in_ok-find_stamp_into.ensures.frame.same) at held) in
+      below-both c.args.most db.objects c.args.base c.in-Some.object c.in-View.base c.in-View.columns c.in-View.conditions _ _ _ (sym at ∙ c.in-Some.is) c.in-View.is
+      (object-read c.args.store.now c.args.side chip db c.args.base _ _ held c.in_ok-find_stamp_into.ensures.octets_read)
+      (subst (λ (n : ℕ). ReadsAtMost (cells_below n db.objects c.in-View.base) (g.B.Eeprom.octets_read c.find_stamp_into.new.bench) (g.B.Eeprom.octets_read c.descend.new.bench)) one_less under);
+  rises = falls-both (slots_of c.args.store.now c.args.side (g.B.Eeprom.chip c.args.bench.now)) _ _ _ c.in_ok-find_stamp_into.ensures.rises (rw c.in_ok-find_stamp_into.ensures.frame.same at c.in_ok-descend-in-View.ensures.reads.rises);
+  frame = search rules;
+}
 
-pub returns-in-Dictionary-clause-octets_read : goal.returns-in-Dictionary-clause-octets_read
-returns-in-Dictionary-clause-octets_read g t c = λ db held.
-    below-first c.args.most db.objects c.args.base _ _ (object-read c.args.store.now c.args.side (g.B.Eeprom.chip c.args.bench.now) db c.args.base _ _ held c.in_ok-find_stamp_into.ensures.octets_read)
+pub returns-in-Dictionary-clause-reads : goal.returns-in-Dictionary-clause-reads
+returns-in-Dictionary-clause-reads g t c = record {
+  octets_read = λ db held.
+      below-first c.args.most db.objects c.args.base _ _ (object-read c.args.store.now c.args.side (g.B.Eeprom.chip c.args.bench.now) db c.args.base _ _ held c.in_ok-find_stamp_into.ensures.octets_read);
+  rises = c.in_ok-find_stamp_into.ensures.rises;
+  frame = search rules;
+}

@@ -7,6 +7,7 @@ use Rattle.scql_model.specs.Objects.{columns_of}
 use Rattle.scql_model.proofs.KnownNames.{IsKnown-resolved_of, columns-resolved, resolved-valid}
 use Rattle.views.proofs.resolving.resolve_into.Goals.{else-branch-via-then-branch+else-show, else-branch-via-else-branch}
 use Rattle.views.proofs.resolving.resolve_into.Goals as goal
+use Rattle.record_table.proofs.ReadingCosts.{ReadsDatabase-told}
 
 pub returns-then-show-clause-resolved : goal.returns-then-show-clause-resolved
 returns-then-show-clause-resolved g c = λ db held at is.
@@ -28,3 +29,9 @@ returns-clause-resolved g c = λ db held at is.
       | else-branch-via-then-branch+else-show w ↦ absurd (false≢true (sym w.if-show.false ∙ w.show.ensures.there is within))
       | else-branch-via-else-branch w ↦ absurd (false≢true (sym w.if-branch.false ∙ there.0))
     ]
+
+pub returns-then-show-clause-reads : goal.returns-then-show-clause-reads
+returns-then-show-clause-reads g c = ReadsDatabase-told c.in_ok-rest.ensures.reads
+
+pub returns-clause-reads : goal.returns-clause-reads
+returns-clause-reads g c = ReadsDatabase-told c.in_ok-rest.ensures.reads

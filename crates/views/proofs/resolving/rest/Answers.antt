@@ -1,9 +1,10 @@
 -- An object is a table, or a view whose base is reached first.
-use Rattle.std.proofs.Common.{refl, sym, ◌∙◌}
+use Rattle.std.proofs.Common.{rules, refl, sym, ◌∙◌}
 use Rattle.std.proofs.lemmas.Bool.{false≢true}
 use Rattle.scql_model.specs.Resolving.{resolved_below}
 use Rattle.views.proofs.Reached.{dictionary-none, of-object, table-reached, view-passes}
 use Rattle.views.proofs.resolving.rest.Goals as goal
+use Rattle.record_table.proofs.ReadingCosts.{ReadsDatabase-none}
 
 pub returns-in-Table-clause-reached : goal.returns-in-Table-clause-reached
 returns-in-Table-clause-reached g c = λ db r held at is known.
@@ -32,8 +33,22 @@ returns-in-Dictionary-clause-reached g c = λ db r held at is known.
     let o = c.args.object.now in
     absurd (false≢true (dictionary-none (resolved_below 4 db.objects) o o.kind c.in-Dictionary.subject r c.in-Dictionary.is (of-object db.objects o r at is)))
 
-pub returns-then-not-branch-clause-octets_read : goal.returns-then-not-branch-clause-octets_read
-returns-then-not-branch-clause-octets_read g c = λ db held. rw c.in-View.is (c.in_ok-descend-in-View.ensures.octets_read db held)
+pub returns-in-Table-clause-reads : goal.returns-in-Table-clause-reads
+returns-in-Table-clause-reads g c = ReadsDatabase-none
 
-pub returns-else-not-branch-clause-octets_read : goal.returns-else-not-branch-clause-octets_read
-returns-else-not-branch-clause-octets_read g c = λ db held. rw c.in-View.is (c.in_ok-descend-in-View.ensures.octets_read db held)
+pub returns-then-not-branch-clause-reads : goal.returns-then-not-branch-clause-reads
+returns-then-not-branch-clause-reads g c = record {
+  octets_read = λ db held. rw c.in-View.is (c.in_ok-descend-in-View.ensures.reads.octets_read db held);
+  rises = c.in_ok-descend-in-View.ensures.reads.rises;
+  frame = search rules;
+}
+
+pub returns-else-not-branch-clause-reads : goal.returns-else-not-branch-clause-reads
+returns-else-not-branch-clause-reads g c = record {
+  octets_read = λ db held. rw c.in-View.is (c.in_ok-descend-in-View.ensures.reads.octets_read db held);
+  rises = c.in_ok-descend-in-View.ensures.reads.rises;
+  frame = search rules;
+}
+
+pub returns-in-Dictionary-clause-reads : goal.returns-in-Dictionary-clause-reads
+returns-in-Dictionary-clause-reads g c = ReadsDatabase-none

@@ -1,26 +1,41 @@
 -- A card is opened exactly where the image opens to a database, and is then at its start.
-use Rattle.std.proofs.Common.{None, refl, sym, subst}
+use Rattle.std.proofs.Common.{◌≡◌, ℕ, false, List, Option, None, refl, rules, sym, subst}
 use Rattle.std.specs.Prelude.{IfSome}
+use Rattle.eeprom.specs.Chip.{Becomes}
+use Rattle.eeprom.specs.StoreOf.{is_gate_open}
 use Rattle.record_store.proofs.Replaying.{kept-image}
 use Rattle.scql_model.specs.Database.{Database}
 use Rattle.scql_model.specs.Machine.{start}
 use Rattle.scql_model.specs.Opens.{Opens}
 use Rattle.card.specs.Card.{IsAt, IsReady, Kept}
+use Rattle.card.specs.Opening.{ReadsCard}
 use Rattle.card.proofs.Sides.{StandsOver-idle}
 use Rattle.card.proofs.Leaving.{behind-opened}
 use Rattle.card.proofs.Starting.{opened, starts_at, opens-same}
 use Rattle.card.proofs.card.Card.open.Goals as goal
 
-pub returns-clause-starts : goal.returns-clause-starts
-returns-clause-starts g c =
+pub returns-in_err-opened-clause-opened : goal.returns-in_err-opened-clause-opened
+returns-in_err-opened-clause-opened g c = λ db told. record {
+  starts = search rules;
+  octets_read = search rules;
+}
+
+pub returns-clause-opened : goal.returns-clause-opened
+returns-clause-opened g c = λ db told.
     let old = g.B.Eeprom.chip c.args.bench.now in
     let new = g.B.Eeprom.chip c.open_records.new.bench in
     let store = c.in_ok-opened.opened.store in
     let made = opened store c.in_ok-opened.opened.index (record { last = None; scan = None }) c.new.result.sessions in
-    subst (λ (kept : Kept). IfSome old.image (λ image. (db : Database) → Opens image db → IsAt kept new (start db))) (sym c.new.ensures.kept)
-    (kept-image (λ image. (db : Database) → Opens image db → IsAt made new (start db)) (λ image. (db : Database) → Opens image db → IsAt made new (start db)) old new c.in_ok-opened.ensures.frame.store.keeps c.in_ok-opened.ensures.told
-    (λ left was same starts db opens. starts db (opens-same was left (sym same) db opens))
-    (starts_at store c.in_ok-opened.opened.index (record { last = None; scan = None }) c.new.result.sessions new new.image c.new.ensures.starts refl c.in_ok-opened.ensures.stored))
+    let reads = λ (o : Option (List ℕ)). IfSome o (λ image. is_gate_open image ≡ false → Becomes (ReadsCard db) (g.B.Eeprom.octets_read c.args.bench.now) (g.B.Eeprom.octets_read c.open_records.new.bench)) in record {
+      starts = subst (λ (kept : Kept). IsAt kept new (start db)) (sym c.new.ensures.kept)
+          (subst (λ (o : Option (List ℕ)). IfSome o (λ image. (d : Database) → Opens image d → IsAt made new (start d))) told.1
+          (kept-image (λ image. (d : Database) → Opens image d → IsAt made new (start d)) (λ image. (d : Database) → Opens image d → IsAt made new (start d)) old new c.in_ok-opened.ensures.frame.store.keeps c.in_ok-opened.ensures.told
+          (λ left was same starts d opens. starts d (opens-same was left (sym same) d opens))
+          (starts_at store c.in_ok-opened.opened.index (record { last = None; scan = None }) c.new.result.sessions new new.image c.new.ensures.starts refl c.in_ok-opened.ensures.stored)) db told.2);
+      octets_read = subst reads (sym told.1)
+          (subst (λ (o : Option (List ℕ)). IfSome o (λ image. (d : Database) → Opens image d → is_gate_open image ≡ false → Becomes (ReadsCard d) (g.B.Eeprom.octets_read c.args.bench.now) (g.B.Eeprom.octets_read c.open_records.new.bench))) told.1
+          c.in_ok-opened.ensures.octets_read db told.2);
+    }
 
 pub returns-clause-ready : goal.returns-clause-ready
 returns-clause-ready g c =

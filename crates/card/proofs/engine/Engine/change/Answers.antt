@@ -13,7 +13,6 @@ use Rattle.scql_model.specs.Transactions.{for_others}
 use Rattle.record_table.specs.Listed.{slots_of}
 use Rattle.record_table.specs.Making.{GoesOn, IsHeld}
 use Rattle.card.specs.Answering.{settled}
-use Rattle.row_index.specs.Index.{is_above}
 use Rattle.record_table.specs.AtRest.{IsAtRest}
 use Rattle.db_read.specs.Scan as scans
 use Rattle.db_read.specs.Scan.{IsRightFor}
@@ -26,7 +25,7 @@ use Rattle.card.specs.declared.found.Found.{Found}
 use Rattle.card.proofs.FoundAgain.{found-at_once, found-within}
 use Rattle.card.proofs.ReadingCard.{Performs-err, cursor-card}
 use Rattle.card.proofs.SeenSessions.{closed-none, cursor-seen, index-there}
-use Rattle.card.proofs.Sides.{StandsOver-found, StandsOver-idle, StandsOver-settled, StandsOver-within, last-works}
+use Rattle.card.proofs.Sides.{StandsOver-found, StandsOver-idle, StandsOver-settled, StandsOver-within}
 use Rattle.card.proofs.Performing.{HoldsMachine-found, IsAtRest-at}
 use Rattle.card.proofs.Transacting.{Performs-at_once, Performs-in_transaction}
 use Rattle.card.proofs.engine.Engine.change.Goals.{in-None+in_ok-word-in-None, in-Some-transaction+in_ok-word-in-Some-transaction}
@@ -45,11 +44,6 @@ unreachable-requires g c =
     let there = index-there c.self.inside.sessions.value c.from.result c.index-sessions-from.result (omega (arith, c.from.ensures, c.requires.channel, c.self.invariant.0)) (rw c.deref-sessions.ensures at c.index-sessions-from.is) ∙ (c.index-sessions-from.is ∙ c.in_default.is) in
     let closed = rw c.from.ensures at (closed-none c.self.inside.sessions.value c.self.inside.chains.value c.from.result there) in
     false≢true (sym closed ∙ (ap (λ (kept : Kept). opened.is_open kept.sessions c.args.channel) (c.self.view_is ∙ c.known_actor-known.ensures.kept) ∙ c.requires.there))
-
-pub change_within-requires-clause-last : goal.change_within-requires-clause-last
-change_within-requires-clause-last g c = λ db held.
-    let chip = g.B.Eeprom.chip c.args.bench.now in
-    subst (λ (kept : Kept). is_above db.next kept.index.committed ≡ true) (sym (c.self.view_is ∙ c.known_actor-known.ensures.kept)) (last-works c.args.self.now chip db c.requires.ready (subst (λ (kept : Kept). IsHeld kept.store Working chip db) (c.self.view_is ∙ c.known_actor-known.ensures.kept) held))
 
 pub returns-in_err-word-in-None-clause-performs : goal.returns-in_err-word-in-None-clause-performs
 returns-in_err-word-in-None-clause-performs g c = λ m from.
@@ -127,7 +121,7 @@ returns-clause-ready g c =
           rw w.bench-is (subst (λ (kept : Kept). StandsOver kept new) (sym is) (StandsOver-settled w.in_ok-word-in-Some-transaction.word changed c.args.channel new
           (StandsOver-within (record c.args.self.now { found = c.known_actor-known.new.self.found }) w.change_within.new.tables.store w.change_within.new.tables.index old new ready there
           goes_on (subst (λ (kept : Kept). slots_of w.change_within.new.tables.store Committed new ≡ slots_of kept.store Committed old) (c.self.view_is ∙ c.known_actor-known.ensures.kept) ensures.committed)
-          ensures.works (subst (λ (kept : Kept). (db next : Database) → IsHeld kept.store Working old db → IsHeld w.change_within.new.tables.store Working new next → db.next ≤ next.next) (c.self.view_is ∙ c.known_actor-known.ensures.kept) ensures.stamps) (ensures.stand.together ∙ (goes_on.begun ∙ (ready.begun ∙ there))) ensures.stand.index))))
+          ensures.works (ensures.stand.together ∙ (goes_on.begun ∙ (ready.begun ∙ there))) ensures.stand.index))))
     ]
 
 pub returns-clause-behind : goal.returns-clause-behind

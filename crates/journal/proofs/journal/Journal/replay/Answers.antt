@@ -10,13 +10,13 @@ use Rattle.journal.proofs.journal.Journal.replay.Goals as goal
 
 -- what was only read is as it was
 same : (g : _) (c : After-read_journal g) → g.B.Eeprom.chip c.read_journal.new.bench ≡ g.B.Eeprom.chip c.args.bench.now
-same g c = c.read_journal.ensures.frame.same ∙ c.is_open.ensures.frame.same
+same g c = c.read_journal.ensures.reads.frame.same ∙ c.is_open.ensures.reads.frame.same
 
 pub returns-in_err-read_journal-clause-bad_journal : goal.returns-in_err-read_journal-clause-bad_journal
 returns-in_err-read_journal-clause-bad_journal g c is = (
   same g (goal.at.returns-in_err-read_journal-clause-bad_journal g c).After-read_journal,
   bad-directory c.args.cells (g.B.Eeprom.chip c.args.bench.now).image (gate-read (g.B.Eeprom.chip c.args.bench.now).image c.in_ok-is_open.field-0 c.if-not-branch.false c.in_ok-is_open.ensures.gate)
-      (subst (λ (chip : Chip). IfSome chip.image (λ image. is_in_range image c.args.cells ≡ false)) c.is_open.ensures.frame.same (c.in_err-read_journal.ensures.bad_journal (search rules))),
+      (subst (λ (chip : Chip). IfSome chip.image (λ image. is_in_range image c.args.cells ≡ false)) c.is_open.ensures.reads.frame.same (c.in_err-read_journal.ensures.bad_journal (search rules))),
 )
 
 pub redo-requires-clause-over : goal.redo-requires-clause-over
@@ -25,7 +25,7 @@ redo-requires-clause-over g c =
     (subst (λ (entries : List Entry). IfSome (g.B.Eeprom.chip c.args.bench.now).image (IsOpenWith c.args.cells entries)) (sym c.as_slice.ensures.value)
     (open-read c.args.cells c.read_journal.new.entries.items (g.B.Eeprom.chip c.args.bench.now).image
     (gate-read (g.B.Eeprom.chip c.args.bench.now).image c.in_ok-is_open.field-0 c.if-not-branch.false c.in_ok-is_open.ensures.gate)
-    (subst (λ (chip : Chip). IfSome chip.image (HasJournal c.args.cells c.read_journal.new.entries.items)) c.is_open.ensures.frame.same c.in_ok-read_journal.ensures.journal)))
+    (subst (λ (chip : Chip). IfSome chip.image (HasJournal c.args.cells c.read_journal.new.entries.items)) c.is_open.ensures.reads.frame.same c.in_ok-read_journal.ensures.journal)))
 
 pub returns-clause-done : goal.returns-clause-done
 returns-clause-done g c =

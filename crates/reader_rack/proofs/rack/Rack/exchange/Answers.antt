@@ -1,4 +1,4 @@
-use Rattle.std.proofs.Common.{◌≡◌, ℕ, ◌-◌, ◌≤◌, ◌∙◌, arith}
+use Rattle.std.proofs.Common.{◌≡◌, ℕ, ◌-◌, ◌≤◌, ◌∙◌, arith, refl}
 use Rattle.eeprom.specs.Fault.{Rose}
 use Rattle.reader_rack.specs.RackText.{mute, sits}
 use Rattle.reader_rack.proofs.Placed.{answers-set, counts-set, links-set, others-set, rack-holds, rack-set}
@@ -26,5 +26,9 @@ returns-clause-never_falls g c = counts-set (λ (was becomes : ℕ). was ≤ bec
 pub returns-clause-moments : goal.returns-clause-moments
 returns-clause-moments g c = links-set c.args.self.now.readers c.args.reader (c.from.result - 1) c.index-self-from.result c.exchange.new.self _ (omega (arith, c.from.ensures, c.requires.reader.0)) (omega arith) c.exchange.ensures.moments
 
-pub returns-clause-others : goal.returns-clause-others
-returns-clause-others g c = others-set c.args.self.now.readers c.args.reader (c.from.result - 1) c.exchange.new.self (omega (arith, c.from.ensures, c.requires.reader.0))
+pub returns-clause-leaves : goal.returns-clause-leaves
+returns-clause-leaves g c = record {
+  others = others-set c.args.self.now.readers c.args.reader (c.from.result - 1) c.exchange.new.self (omega (arith, c.from.ensures, c.requires.reader.0));
+  current = refl;
+  outlet = refl;
+}

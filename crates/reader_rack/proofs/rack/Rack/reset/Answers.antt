@@ -1,4 +1,4 @@
-use Rattle.std.proofs.Common.{◌≡◌, ℕ, ◌-◌, ◌∙◌, arith}
+use Rattle.std.proofs.Common.{◌≡◌, ℕ, ◌-◌, ◌∙◌, arith, refl}
 use Rattle.reader_rack.specs.RackText.{sits}
 use Rattle.reader_rack.proofs.Placed.{answers-set, counts-set, links-set, others-set, rack-holds, rack-set}
 use Rattle.reader_rack.proofs.rack.Rack.reset.Goals as goal
@@ -16,5 +16,9 @@ returns-clause-count g c = counts-set (λ (was becomes : ℕ). becomes ≡ was) 
 pub returns-clause-moments : goal.returns-clause-moments
 returns-clause-moments g c = links-set c.args.self.now.readers c.args.reader (c.from.result - 1) c.index-self-from.result c.reset.new.self _ (omega (arith, c.from.ensures, c.requires.reader.0)) (omega arith) c.reset.ensures.moments
 
-pub returns-clause-others : goal.returns-clause-others
-returns-clause-others g c = others-set c.args.self.now.readers c.args.reader (c.from.result - 1) c.reset.new.self (omega (arith, c.from.ensures, c.requires.reader.0))
+pub returns-clause-leaves : goal.returns-clause-leaves
+returns-clause-leaves g c = record {
+  others = others-set c.args.self.now.readers c.args.reader (c.from.result - 1) c.reset.new.self (omega (arith, c.from.ensures, c.requires.reader.0));
+  current = refl;
+  outlet = refl;
+}

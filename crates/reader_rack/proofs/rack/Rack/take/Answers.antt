@@ -1,4 +1,4 @@
-use Rattle.std.proofs.Common.{◌-◌, ◌∙◌, None, arith}
+use Rattle.std.proofs.Common.{◌-◌, ◌∙◌, None, arith, refl}
 use Rattle.reader_rack.specs.Readers.{lending}
 use Rattle.reader_rack.proofs.Placed.{becomes-set, of-place, others-set}
 use Rattle.reader_rack.proofs.rack.Rack.take.Goals as goal
@@ -9,5 +9,9 @@ returns-clause-link g c = of-place (λ r. r.link) None c.args.self.now.readers c
 pub returns-clause-lent : goal.returns-clause-lent
 returns-clause-lent g c = becomes-set lending c.args.self.now.readers c.args.reader (c.from.result - 1) c.index-self-from.result c.take.new.self (omega (arith, c.from.ensures, c.requires.reader.0)) (omega arith) c.take.ensures.lent
 
-pub returns-clause-others : goal.returns-clause-others
-returns-clause-others g c = others-set c.args.self.now.readers c.args.reader (c.from.result - 1) c.take.new.self (omega (arith, c.from.ensures, c.requires.reader.0))
+pub returns-clause-leaves : goal.returns-clause-leaves
+returns-clause-leaves g c = record {
+  others = others-set c.args.self.now.readers c.args.reader (c.from.result - 1) c.take.new.self (omega (arith, c.from.ensures, c.requires.reader.0));
+  current = refl;
+  outlet = refl;
+}

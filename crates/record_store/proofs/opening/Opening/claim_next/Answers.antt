@@ -60,7 +60,7 @@ invariant_of-result g c =
     let at = (goal.at.invariant_of-result g c).After-claim_slot in
     let takes = takes-first g at c.claim_slot.new.chains c.claim_slot.new.out.items c.in_ok-count.count c.in_ok-count.ensures.takes in
     let kept = kept-now g (goal.at.invariant_of-result g c).After-keep_octet in
-    (c.self.invariant.0, c.found.ensures.working ∙ (ap (λ (tags : SideTags). with_tags tags c.self.inside.claimed c.as_slice-2.result.now) c.self.invariant.1 ∙ sym c.found.ensures.committed), subst (λ (cells : ℕ). HasMemory cells c.self.inside.touched (vec_capacity c.self.inside.entries) c.self.inside.row_runs) (sym takes.chain.cells) c.self.invariant.2, held-same IsSoundSoFar c.claim_slot.new.chains c.self.inside.row_limit c.self.inside.committed.items (c.self.inside.claimed + 1) (c.self.inside.weight + c.in_ok-count.count) _ _ _ _ kept (tags-now g (goal.at.invariant_of-result g c).After-found) (sound-next (mine g at) c.claim_slot.new.chains c.in_ok-count.count c.claim_slot.new.out.items c.self.invariant.3 (left g at) takes.chain (omega (arith, c.if-weight-cells.false, c.cells.ensures.number, takes.chain.cells))))
+    (c.self.invariant.0, c.found.ensures.working ∙ (ap (λ (tags : SideTags). with_tags tags c.self.inside.claimed c.as_slice-2.result.now) c.self.invariant.1 ∙ sym c.found.ensures.committed), subst (λ (cells : ℕ). HasMemory cells c.self.inside.touched (vec_capacity c.self.inside.entries) c.self.inside.common_runs) (sym takes.chain.cells) c.self.invariant.2, held-same IsSoundSoFar c.claim_slot.new.chains c.self.inside.row_limit c.self.inside.committed.items (c.self.inside.claimed + 1) (c.self.inside.weight + c.in_ok-count.count) _ _ _ _ kept (tags-now g (goal.at.invariant_of-result g c).After-found) (sound-next (mine g at) c.claim_slot.new.chains c.in_ok-count.count c.claim_slot.new.out.items c.self.invariant.3 (left g at) takes.chain (omega (arith, c.if-weight-cells.false, c.cells.ensures.number, takes.chain.cells))))
 
 pub returns-clause-slots : goal.returns-clause-slots
 returns-clause-slots g c =

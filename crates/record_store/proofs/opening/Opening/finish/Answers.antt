@@ -6,7 +6,7 @@ use Rattle.record_store.specs.Opening.{HeldSoFar, StandsSoFar}
 use Rattle.record_store.proofs.Transacting.{touched-finished}
 use Rattle.record_store.proofs.InUse.{in_use-finished}
 use Rattle.record_store.proofs.OpeningSlots.{held_of, sound-finished, stands-finished, weight-finished}
-use Rattle.record_store.proofs.RunsOfRows.{passed-finished, firsts-kept}
+use Rattle.record_store.proofs.RunsOfCommon.{passed-finished, firsts-kept}
 use Rattle.record_store.proofs.Weighing.{weighed-finished}
 use Rattle.record_store.proofs.opening.Opening.finish.Goals as goal
 
@@ -18,8 +18,8 @@ invariant_of-result c =
     record {
       weighed = weighed-finished whole mine.working.items mine.tags c.self.invariant.3 all (ap (length {A = ℕ}) c.self.invariant.0 ∙ c.self.invariant.3.count);
       in_use = in_use-finished whole mine.working.items mine.tags c.slots_in_use-slots_in_use.result c.self.invariant.0 c.self.invariant.3.count (rw c.as_slice-firsts.ensures.value at c.slots_in_use-slots_in_use.ensures.most) (rw c.as_slice-firsts.ensures.value at c.slots_in_use-slots_in_use.ensures.empty);
-      passed = passed-finished whole mine.working.items mine.tags c.take_in_all.new.runs c.self.invariant.0 (c.take_in_all.ensures.size ∙ c.self.invariant.2.searched) (rw (c.as_slice-firsts.ensures.value, c.as_slice.ensures.value) at c.take_in_all.ensures.rows);
-      transaction = touched-finished whole mine.working.items mine.tags mine.touched (vec_capacity mine.entries) c.self.invariant.0 c.self.invariant.1 c.self.invariant.3.tags_count mine.row_runs c.self.invariant.2;
+      passed = passed-finished whole mine.working.items mine.tags c.take_in_all.new.runs c.self.invariant.0 (c.take_in_all.ensures.size ∙ c.self.invariant.2.searched) (rw (c.as_slice-firsts.ensures.value, c.as_slice.ensures.value) at c.take_in_all.ensures.common);
+      transaction = touched-finished whole mine.working.items mine.tags mine.touched (vec_capacity mine.entries) c.self.invariant.0 c.self.invariant.1 c.self.invariant.3.tags_count mine.common_runs c.self.invariant.2;
     }
 
 pub returns-clause-stands : goal.returns-clause-stands

@@ -20,7 +20,7 @@ invariant_of-result g c =
     let copied : c.in_ok-working.working.items ≡ c.in_ok-committed.committed.items = search rules in (
       copied,
       ap (λ (tags : Tags). tags.working) tags_are ∙ sym (ap (λ (tags : Tags). tags.committed) tags_are),
-      record { none = c.in_ok-touched.ensures ∙ ap none_touched (sym cells); room_is = omega (arith, cells, c.in_ok-entries.ensures.capacity); searched = c.in_ok-row_runs.ensures ∙ sym cells },
+      record { none = c.in_ok-touched.ensures ∙ ap none_touched (sym cells); room_is = omega (arith, cells, c.in_ok-entries.ensures.capacity); searched = c.in_ok-common_runs.ensures ∙ sym cells },
       sound-begun header.cells header.row_limit c.in_ok-committed.committed.items _ _ c.in_ok-chains.chains c.in_ok-chains.ensures range.few range.many range.rows c.in_ok-committed.ensures.count (ap (length {A = ℕ}) filled ∙ length-replicate {A = ℕ} (2 * header.cells) 0)
           (record { names = ap (λ (tags : Tags). length tags.committed.names) tags_are ∙ length-replicate {A = ℕ} header.cells 0; stamps = ap (λ (tags : Tags). length tags.committed.stamps) tags_are ∙ length-replicate {A = ℕ} header.cells 0 }),
     )
@@ -31,9 +31,9 @@ cells g c = ap (λ (store : Cells). store.cells) c.in_ok-chains.ensures
 pub returns-clause-over : goal.returns-clause-over
 returns-clause-over g c =
     let size : (g.B.Eeprom.chip c.read_directory.new.bench).still.size ≡ (g.B.Eeprom.chip c.args.bench.now).still.size =
-    ap (λ chip. chip.still.size) c.read_directory.ensures.frame.same ∙ (ap (λ still. still.size) c.close_gate.ensures.frame.store.keeps.still ∙ ap (λ chip. chip.still.size) c.read_header.ensures.frame.same) in record {
+    ap (λ chip. chip.still.size) c.read_directory.ensures.reads.frame.same ∙ (ap (λ still. still.size) c.close_gate.ensures.frame.store.keeps.still ∙ ap (λ chip. chip.still.size) c.read_header.ensures.reads.frame.same) in record {
       room = omega (arith, cells g c, c.in_ok-header.ensures.range.room, size);
-      stands = rw (c.read_directory.ensures.frame.same) (stands-begun c.in_ok-header.header c.in_ok-committed.committed.items _ _ c.in_ok-chains.chains (g.B.Eeprom.chip c.close_gate.new.bench).image c.in_ok-chains.ensures
+      stands = rw (c.read_directory.ensures.reads.frame.same) (stands-begun c.in_ok-header.header c.in_ok-committed.committed.items _ _ c.in_ok-chains.chains (g.B.Eeprom.chip c.close_gate.new.bench).image c.in_ok-chains.ensures
           c.in_ok-close_gate.ensures.header c.in_ok-committed.ensures.directory);
     }
 
@@ -47,13 +47,13 @@ returns-clause-octets_read g c =
 front : (g : _) (c : After-read_directory g) → ReadsFront c.in_ok-header.header.cells (g.B.Eeprom.chip c.args.bench.now).image (g.B.Eeprom.octets_read c.args.bench.now) (g.B.Eeprom.octets_read c.read_directory.new.bench)
 front g c =
     reads-front c.in_ok-header.header _ (g.B.Eeprom.chip c.args.bench.now).image (g.B.Eeprom.octets_read c.args.bench.now) (g.B.Eeprom.octets_read c.read_header.new.bench) (g.B.Eeprom.octets_read c.close_gate.new.bench)
-    (g.B.Eeprom.octets_read c.read_directory.new.bench) c.in_ok-header.ensures.range c.in_ok-header.ensures.header c.read_header.ensures.most_read c.close_gate.ensures.most_read c.close_gate.ensures.octets_read c.read_directory.ensures.most_read
+    (g.B.Eeprom.octets_read c.read_directory.new.bench) c.in_ok-header.ensures.range c.in_ok-header.ensures.header c.read_header.ensures.reads.octets_read c.close_gate.ensures.most_read c.close_gate.ensures.octets_read c.read_directory.ensures.reads.octets_read
 
 pub returns-in_err-close_gate-clause-no_memory : goal.returns-in_err-close_gate-clause-no_memory
 returns-in_err-close_gate-clause-no_memory g c = λ _. (
   c.in_ok-header.header.cells,
   reads-front c.in_ok-header.header _ (g.B.Eeprom.chip c.args.bench.now).image (g.B.Eeprom.octets_read c.args.bench.now) (g.B.Eeprom.octets_read c.read_header.new.bench) (g.B.Eeprom.octets_read c.close_gate.new.bench)
-      (g.B.Eeprom.octets_read c.close_gate.new.bench) c.in_ok-header.ensures.range c.in_ok-header.ensures.header c.read_header.ensures.most_read c.close_gate.ensures.most_read c.close_gate.ensures.octets_read (reads-nothing _ _),
+      (g.B.Eeprom.octets_read c.close_gate.new.bench) c.in_ok-header.ensures.range c.in_ok-header.ensures.header c.read_header.ensures.reads.octets_read c.close_gate.ensures.most_read c.close_gate.ensures.octets_read (reads-nothing _ _),
 )
 
 pub returns-clause-reads_front : goal.returns-clause-reads_front
@@ -79,8 +79,8 @@ returns-in_err-touched-clause-no_memory g c = λ _. (c.in_ok-header.header.cells
 pub returns-in_err-entries-clause-no_memory : goal.returns-in_err-entries-clause-no_memory
 returns-in_err-entries-clause-no_memory g c = λ _. (c.in_ok-header.header.cells, front g (goal.at.returns-in_err-entries-clause-no_memory g c).After-read_directory)
 
-pub returns-in_err-row_runs-clause-no_memory : goal.returns-in_err-row_runs-clause-no_memory
-returns-in_err-row_runs-clause-no_memory g c = λ _. (c.in_ok-header.header.cells, front g (goal.at.returns-in_err-row_runs-clause-no_memory g c).After-read_directory)
+pub returns-in_err-common_runs-clause-no_memory : goal.returns-in_err-common_runs-clause-no_memory
+returns-in_err-common_runs-clause-no_memory g c = λ _. (c.in_ok-header.header.cells, front g (goal.at.returns-in_err-common_runs-clause-no_memory g c).After-read_directory)
 
 pub returns-in_err-chains-clause-no_memory : goal.returns-in_err-chains-clause-no_memory
 returns-in_err-chains-clause-no_memory g c = λ _. (c.in_ok-header.header.cells, front g (goal.at.returns-in_err-chains-clause-no_memory g c).After-read_directory)

@@ -33,13 +33,13 @@ pub index-requires-in-loop-slot : goal.index-requires-in-loop-slot
 index-requires-in-loop-slot c =
     let there = slot-inside _ _ c.loop-slot.slot-index c.requires.slots c.loop-slot-test.true in
     let stamps : length c.args.other.now.stamps ≡ length c.other.inside.stamps.items = ap (λ (tags : SideTags). length tags.stamps) (sym c.other.view_is) in
-    omega (arith, there, stamps, c.requires.even, c.other.inside.stamps.ok.0)
+    omega (arith, there, stamps, c.requires.differ.even, c.other.inside.stamps.ok.0)
 
 pub index_mut-requires-in-loop-slot : goal.index_mut-requires-in-loop-slot
 index_mut-requires-in-loop-slot c =
     let there = slot-inside _ _ c.loop-slot.slot-index c.requires.slots c.loop-slot-test.true in
     let stamps : length c.args.other.now.stamps ≡ length c.other.inside.stamps.items = ap (λ (tags : SideTags). length tags.stamps) (sym c.other.view_is) in
-    omega (arith, there, stamps, c.requires.even, c.loop-slot.invariant.stamps_count, c.loop-slot.self-inside.stamps.ok.0)
+    omega (arith, there, stamps, c.requires.differ.even, c.loop-slot.invariant.stamps_count, c.loop-slot.self-inside.stamps.ok.0)
 
 pub loop-slot-preserved : goal.loop-slot-preserved
 loop-slot-preserved c =
@@ -48,12 +48,12 @@ loop-slot-preserved c =
     let names : length c.args.other.now.names ≡ length c.other.inside.names.items = ap (λ (tags : SideTags). length tags.names) (sym c.other.view_is) in
     let stamps : length c.args.other.now.stamps ≡ length c.other.inside.stamps.items = ap (λ (tags : SideTags). length tags.stamps) (sym c.other.view_is) in
     let name = link-read c.other.inside.names.items c.other.inside.names.items at c.index.result.now refl (omega (arith, there, names)) c.index.ensures in
-    let stamp = link-read c.other.inside.stamps.items c.other.inside.stamps.items at c.index-in-loop-slot.result.now refl (omega (arith, there, stamps, c.requires.even)) c.index-in-loop-slot.ensures in
+    let stamp = link-read c.other.inside.stamps.items c.other.inside.stamps.items at c.index-in-loop-slot.result.now refl (omega (arith, there, stamps, c.requires.differ.even)) c.index-in-loop-slot.ensures in
     record {
       names_count = length-set c.loop-slot.self-inside.names.items at c.index.result.now ∙ c.loop-slot.invariant.names_count;
       names = rw name (copy-more c.args.slots.now c.other.inside.names.items c.loop-slot.self-inside.names.items c.loop-slot.slot-index c.loop-slot-test.true (omega (arith, there, names, c.loop-slot.invariant.names_count)) c.loop-slot.invariant.names);
       stamps_count = length-set c.loop-slot.self-inside.stamps.items at c.index-in-loop-slot.result.now ∙ c.loop-slot.invariant.stamps_count;
-      stamps = rw stamp (copy-more c.args.slots.now c.other.inside.stamps.items c.loop-slot.self-inside.stamps.items c.loop-slot.slot-index c.loop-slot-test.true (omega (arith, there, stamps, c.requires.even, c.loop-slot.invariant.stamps_count)) c.loop-slot.invariant.stamps);
+      stamps = rw stamp (copy-more c.args.slots.now c.other.inside.stamps.items c.loop-slot.self-inside.stamps.items c.loop-slot.slot-index c.loop-slot-test.true (omega (arith, there, stamps, c.requires.differ.even, c.loop-slot.invariant.stamps_count)) c.loop-slot.invariant.stamps);
     }
 
 pub returns : goal.returns

@@ -1,4 +1,4 @@
-use Rattle.std.proofs.Common.{◌≡◌, ℕ, List, Bool, length, drop, refl, ap, ◌∙◌, subst, arith}
+use Rattle.std.proofs.Common.{rules, ◌≡◌, ℕ, List, Bool, length, drop, refl, ap, ◌∙◌, subst, arith}
 use Rattle.std.specs.Vec.{vec_capacity}
 use Rattle.cell_store.specs.Marks.{StaysMarked}
 use Rattle.eeprom.specs.Chip.{Keeps}
@@ -11,7 +11,7 @@ use Rattle.record_store.proofs.Commit.{Ready, ready-from, changed-few, commits-f
 use Rattle.record_store.proofs.Filling.{commit-sound, commit-view}
 use Rattle.record_store.proofs.InUse.{in_use-committed}
 use Rattle.record_store.proofs.Keeping.{behind-commit}
-use Rattle.record_store.proofs.RunsOfRows.{passed-committed}
+use Rattle.record_store.proofs.RunsOfCommon.{passed-committed}
 use Rattle.record_store.proofs.Transacting.{touched-sorted, touched-slots, working-others, committed-others, tags-others-back, touched-room, touched-committed}
 use Rattle.record_store.proofs.Weighing.{weighed-committed}
 use Rattle.record_store.proofs.store.Store.commit.Goals.{After-sort, After-take_entries, After-commit}
@@ -22,16 +22,14 @@ ready g c =
     ready-from _ c.args.self.now c.as_slice.result.now c.as_slice-working.result.now c.take_entries.new.entries.items c.self.view_is c.self.invariant.weighed.sound c.requires.begun c.as_slice.ensures.value c.as_slice-working.ensures.value
     c.take_entries.ensures.entries c.take_entries.ensures.range c.take_entries.ensures.count
 
-pub commit-requires-clause-few : goal.commit-requires-clause-few
-commit-requires-clause-few g c =
-    let r = ready g (goal.at.commit-requires-clause-few g c).After-take_entries in
-    let cells = ap (λ (held : Held). held.chains.cells) c.self.view_is in
-    rw (c.as_slice-2.ensures.value) (omega (arith, changed-few c.args.self.now c.take_entries.new.entries.items r, c.cells.ensures.number, cells))
-
 pub commit-requires-clause-entries : goal.commit-requires-clause-entries
 commit-requires-clause-entries g c =
     let r = ready g (goal.at.commit-requires-clause-entries g c).After-take_entries in
-    rw (c.as_slice-2.ensures.value, c.cells.ensures.number, ap (λ (held : Held). held.chains.cells) c.self.view_is) (r.range)
+    let cells = ap (λ (held : Held). held.chains.cells) c.self.view_is in
+    record {
+      few = rw (c.as_slice-2.ensures.value) (omega (arith, changed-few c.args.self.now c.take_entries.new.entries.items r, c.cells.ensures.number, cells));
+      range = rw (c.as_slice-2.ensures.value, c.cells.ensures.number, cells) (r.range);
+    }
 
 -- the slots that were touched, in rising order
 sorted : (g : _) (c : After-sort g)
@@ -53,7 +51,7 @@ invariant_of-self-2 g c =
     let same = c.copy_slots.ensures ∙ c.as_slice-working.ensures.value in
     record {
       in_use = in_use-committed whole c.free_replaced.new.cells c.commit-2.new.self _ c.self.inside.slots_in_use c.free_replaced.ensures.cells same c.self.invariant.in_use;
-      passed = passed-committed whole c.free_replaced.new.cells c.commit-2.new.self _ c.self.inside.row_runs c.free_replaced.ensures.cells same c.self.invariant.passed;
+      passed = passed-committed whole c.free_replaced.new.cells c.commit-2.new.self _ c.self.inside.common_runs c.free_replaced.ensures.cells same c.self.invariant.passed;
       weighed = weighed-committed whole c.free_replaced.new.cells c.commit-2.new.self _ c.self.inside.committed_weight c.self.inside.working_weight c.self.invariant.weighed begun c.free_replaced.ensures.links same
           (commit-sound whole c.free_replaced.new.cells c.commit-2.new.self _ c.as_slice-3.result.now c.as_slice-working.result.now c.self.invariant.weighed.sound begun c.as_slice-3.ensures.value c.as_slice-working.ensures.value
           c.free_replaced.ensures.cells c.free_replaced.ensures.links same c.free_replaced.ensures.freed c.free_replaced.ensures.others c.free_replaced.ensures.fewer c.free_replaced.ensures.count);
@@ -118,6 +116,10 @@ pub copy_slots-requires-clause-others : goal.copy_slots-requires-clause-others
 copy_slots-requires-clause-others g c =
     committed-others _ c.sort.new.self _ c.slots-slots.result.now c.as_slice-working.result.now c.self.inside.committed.items (sorted g (goal.at.copy_slots-requires-clause-others g c).After-sort) c.slots-slots.ensures.slots c.as_slice-working.ensures.value refl
 
-pub commit-requires-2-clause-others : goal.commit-requires-2-clause-others
-commit-requires-2-clause-others g c =
-    tags-others-back _ c.sort.new.self _ c.slots-slots.result.now (sorted g (goal.at.commit-requires-2-clause-others g c).After-sort) c.slots-slots.ensures.slots
+pub commit-requires-2-clause-differ : goal.commit-requires-2-clause-differ
+commit-requires-2-clause-differ g c = record {
+  even = search rules;
+  names = search rules;
+  stamps = search rules;
+  others = tags-others-back _ c.sort.new.self _ c.slots-slots.result.now (sorted g (goal.at.commit-requires-2-clause-differ g c).After-sort) c.slots-slots.ensures.slots;
+}

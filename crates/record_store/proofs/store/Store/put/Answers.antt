@@ -10,7 +10,7 @@ use Rattle.record_store.proofs.Emptying.{empty-record, full-found, full-none, wo
 use Rattle.record_store.proofs.Filling.{Emptied, room-enough, filled-becomes, filled-keeps}
 use Rattle.record_store.proofs.InUse.{in_use-filled, in_use-kept}
 use Rattle.record_store.proofs.Keeping.{behind-marked}
-use Rattle.record_store.proofs.RunsOfRows.{passed-filled, passed-kept}
+use Rattle.record_store.proofs.RunsOfCommon.{passed-filled, passed-kept}
 use Rattle.record_store.proofs.Putting.{put-over, put-within}
 use Rattle.record_store.proofs.Transacting.{tag-put, touched-set, touched-kept}
 use Rattle.record_store.proofs.Weighing.{weighed-filled, weighed-failed}
@@ -81,8 +81,8 @@ invariant_of-self g c =
           c.self-2.inside.committed_weight c.self-2.inside.working_weight c.write_chain.new.self c.put.new.self (emptied g at) c.in-Ok.ensures.takes c.self-2.invariant.weighed);
       in_use = in_use-filled (mid g at) c.write_chain.new.self c.put.new.self c.in-Some.slot c.in-Ok.first (slice_index c.args.octets.now 0) c.self-2.inside.slots_in_use _ c.in-Ok.ensures.takes.cells (omega arith) (omega arith)
           (omega (arith, inside g (goal.at.After-write_chain g at).In-Some, ap (λ (held : Held). held.chains.cells) (emptied g at).is, c.self-2.invariant.in_use.most)) c.self-2.invariant.in_use;
-      passed = passed-filled (mid g at) c.write_chain.new.self c.put.new.self c.in-Some.slot c.in-Ok.first _ (slice_index c.args.octets.now 0) c.self-2.inside.row_runs c.take_in.new.self c.self-2.invariant.weighed.sound (ap (λ (held : Held). held.begun) (emptied g at).is ∙ c.requires.begun) (omega (arith, c.in-Ok.ensures.there, ap (λ (held : Held). held.chains.cells) (emptied g at).is)) c.in-Ok.ensures.takes
-          c.take_in.ensures.size c.take_in.ensures.fewer c.take_in.ensures.row c.self-2.invariant.passed;
+      passed = passed-filled (mid g at) c.write_chain.new.self c.put.new.self c.in-Some.slot c.in-Ok.first _ (slice_index c.args.octets.now 0) c.self-2.inside.common_runs c.take_in.new.self c.self-2.invariant.weighed.sound (ap (λ (held : Held). held.begun) (emptied g at).is ∙ c.requires.begun) (omega (arith, c.in-Ok.ensures.there, ap (λ (held : Held). held.chains.cells) (emptied g at).is)) c.in-Ok.ensures.takes
+          c.take_in.ensures.size c.take_in.ensures.fewer c.take_in.ensures.common c.self-2.invariant.passed;
       transaction = touched-set (mid g at) c.write_chain.new.self (set (mid g at).first_octets c.in-Ok.first (slice_index c.args.octets.now 0)) c.put.new.self c.in-Some.slot c.in-Ok.first c.self-2.inside.touched c.touch.new.self (vec_capacity c.self-2.inside.entries)
           (ap (λ (held : Held). held.begun) (emptied g at).is ∙ c.requires.begun) c.in-Ok.ensures.takes.cells c.touch.ensures.slots c.touch.ensures.size (tag-put c.self-2.inside.tags c.in-Some.slot c.args.octets.now c.put.new.self c.put.ensures) c.self-2.invariant.transaction;
     }
@@ -93,7 +93,7 @@ invariant_of-self-in-Err-Fault g c =
     record {
       weighed = weighed-failed _ c.write_chain.new.self c.self-2.inside.committed_weight c.self-2.inside.working_weight c.self-2.invariant.weighed keeps;
       in_use = in_use-kept _ c.write_chain.new.self c.self-2.inside.slots_in_use keeps.cells c.self-2.invariant.in_use;
-      passed = passed-kept _ c.write_chain.new.self c.self-2.inside.row_runs keeps.cells c.self-2.invariant.passed;
+      passed = passed-kept _ c.write_chain.new.self c.self-2.inside.common_runs keeps.cells c.self-2.invariant.passed;
       transaction = touched-kept _ c.write_chain.new.self c.self-2.inside.touched (vec_capacity c.self-2.inside.entries) keeps.cells c.self-2.invariant.transaction;
     }
 

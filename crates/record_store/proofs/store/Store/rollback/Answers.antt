@@ -5,7 +5,7 @@ use Rattle.record_store.specs.Held.{Held, StandsFor}
 use Rattle.record_store.specs.Tags.{both_sides}
 use Rattle.record_store.proofs.Filling.{rollback-sound}
 use Rattle.record_store.proofs.InUse.{in_use-rolled_back}
-use Rattle.record_store.proofs.RunsOfRows.{passed-rolled_back}
+use Rattle.record_store.proofs.RunsOfCommon.{passed-rolled_back}
 use Rattle.record_store.proofs.Transacting.{touched-slots, working-others, touched-rolled_back, sound-restored, restored-stands, restored-view}
 use Rattle.record_store.proofs.Weighing.{weighed-rolled_back}
 use Rattle.record_store.proofs.store.Store.rollback.Goals as goal
@@ -16,7 +16,7 @@ invariant_of-self c =
     let same = c.copy_slots.ensures ∙ c.as_slice-committed.ensures.value in
     record {
       in_use = in_use-rolled_back whole c.free_replaced.new.cells c.rollback.new.self _ c.self.inside.slots_in_use c.free_replaced.ensures.cells same c.self.invariant.in_use;
-      passed = passed-rolled_back whole c.free_replaced.new.cells c.rollback.new.self _ c.self.inside.row_runs c.free_replaced.ensures.cells same c.self.invariant.passed;
+      passed = passed-rolled_back whole c.free_replaced.new.cells c.rollback.new.self _ c.self.inside.common_runs c.free_replaced.ensures.cells same c.self.invariant.passed;
       weighed = weighed-rolled_back whole c.free_replaced.new.cells c.rollback.new.self _ c.self.inside.committed_weight c.self.inside.working_weight c.self.invariant.weighed c.free_replaced.ensures.links
           (sound-restored whole c.free_replaced.new.cells c.rollback.new.self _ same (rollback-sound whole c.free_replaced.new.cells c.as_slice.result.now c.as_slice-committed.result.now c.self.invariant.weighed.sound (ap (λ (held : Held). held.begun) c.self.view_is ∙ c.requires.begun) c.as_slice.ensures.value c.as_slice-committed.ensures.value
           c.free_replaced.ensures.cells c.free_replaced.ensures.links c.free_replaced.ensures.freed c.free_replaced.ensures.others c.free_replaced.ensures.fewer c.free_replaced.ensures.count));

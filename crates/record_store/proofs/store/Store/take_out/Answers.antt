@@ -10,7 +10,7 @@ use Rattle.record_store.proofs.ChangedSlots.{entries-emptied, only-emptied}
 use Rattle.record_store.proofs.Emptying.{removed-stands}
 use Rattle.record_store.proofs.Filling.{freed-sound, kept-sound}
 use Rattle.record_store.proofs.InUse.{in_use-emptied}
-use Rattle.record_store.proofs.RunsOfRows.{passed-emptied}
+use Rattle.record_store.proofs.RunsOfCommon.{passed-emptied}
 use Rattle.record_store.proofs.Transacting.{tag-stays, touched-set}
 use Rattle.record_store.proofs.Weighing.{weighed-emptied}
 use Rattle.record_store.proofs.store.Store.take_out.Goals.{then-first-index, else-first-index}
@@ -18,7 +18,7 @@ use Rattle.record_store.proofs.store.Store.take_out.Goals as goal
 
 -- what holds of a store whose slot is empty
 abbrev emptied_is_kept : ℕ → ℕ → Inside → Type 0
-emptied_is_kept slot weight inside = IsInMemory (record { chains = inside.chains; row_limit = inside.row_limit; committed = inside.committed.items; working = set inside.working.items slot 65535; begun = inside.begun; first_octets = inside.first_octets.items; tags = inside.tags }) inside.committed_weight weight inside.slots_in_use inside.touched (vec_capacity inside.entries) inside.row_runs
+emptied_is_kept slot weight inside = IsInMemory (record { chains = inside.chains; row_limit = inside.row_limit; committed = inside.committed.items; working = set inside.working.items slot 65535; begun = inside.begun; first_octets = inside.first_octets.items; tags = inside.tags }) inside.committed_weight weight inside.slots_in_use inside.touched (vec_capacity inside.entries) inside.common_runs
 
 pub invariant_of-self : goal.invariant_of-self
 invariant_of-self c =
@@ -37,7 +37,7 @@ invariant_of-self c =
             weighed = weighed-emptied _ c.self.inside.committed_weight c.self.inside.working_weight c.args.slot c.args.weight w.free_chain.new.self c.self.invariant.weighed (freed-sound _ w.free_chain.new.self c.args.slot c.index-first.result.now c.self.invariant.weighed.sound begun inside first (λ same. w.if-first-index.true (same ∙ sym old)) w.free_chain.ensures.freed w.free_chain.ensures.cells w.free_chain.ensures.links
                 w.free_chain.ensures.count) begun inside w.free_chain.ensures.links weight;
             in_use = in_use-emptied _ w.free_chain.new.self c.args.slot c.self.inside.slots_in_use w.free_chain.ensures.cells c.self.invariant.in_use;
-            passed = passed-emptied _ w.free_chain.new.self c.args.slot c.self.inside.row_runs w.free_chain.ensures.cells c.self.invariant.passed;
+            passed = passed-emptied _ w.free_chain.new.self c.args.slot c.self.inside.common_runs w.free_chain.ensures.cells c.self.invariant.passed;
             transaction = touched-set _ w.free_chain.new.self c.self.inside.first_octets.items c.self.inside.tags c.args.slot 65535 c.self.inside.touched c.touch.new.self (vec_capacity c.self.inside.entries) begun w.free_chain.ensures.cells c.touch.ensures.slots c.touch.ensures.size (tag-stays c.self.inside.tags c.args.slot) c.self.invariant.transaction;
           })
       | else-first-index w ↦ subst (emptied_is_kept c.args.slot c.args.weight) (sym w.self-inside-is)
@@ -45,7 +45,7 @@ invariant_of-self c =
             weighed = weighed-emptied _ c.self.inside.committed_weight c.self.inside.working_weight c.args.slot c.args.weight c.self.inside.chains c.self.invariant.weighed
                 (kept-sound _ c.args.slot c.self.invariant.weighed.sound begun inside (sym first ∙ (w.if-first-index.false ∙ old))) begun inside refl weight;
             in_use = in_use-emptied _ c.self.inside.chains c.args.slot c.self.inside.slots_in_use refl c.self.invariant.in_use;
-            passed = passed-emptied _ c.self.inside.chains c.args.slot c.self.inside.row_runs refl c.self.invariant.passed;
+            passed = passed-emptied _ c.self.inside.chains c.args.slot c.self.inside.common_runs refl c.self.invariant.passed;
             transaction = touched-set _ c.self.inside.chains c.self.inside.first_octets.items c.self.inside.tags c.args.slot 65535 c.self.inside.touched c.touch.new.self (vec_capacity c.self.inside.entries) begun refl c.touch.ensures.slots c.touch.ensures.size (tag-stays c.self.inside.tags c.args.slot) c.self.invariant.transaction;
           })
     ]

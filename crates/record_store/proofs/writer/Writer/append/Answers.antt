@@ -11,8 +11,14 @@ pushed : (g : _) (c : After-push g) (limit : ℕ) → end_of c.args.self.now + l
 pushed g c limit inside =
     Keeps-then (drop limit) (g.B.Eeprom.chip c.args.bench.now) (g.B.Eeprom.chip c.loop-octet.bench) (g.B.Eeprom.chip c.push.new.bench) (c.loop-octet.invariant.after limit inside) (c.push.ensures.after limit (omega (arith, inside, c.loop-octet.invariant.appends.end, c.loop-octet-test.true, length-take-le c.loop-octet.octet-index c.args.octets.now)))
 
-pub returns-in_err-push-clause-after : goal.returns-in_err-push-clause-after
-returns-in_err-push-clause-after g c = λ limit inside. pushed g (goal.at.returns-in_err-push-clause-after g c).After-push limit inside
+pub returns-in_err-push : goal.returns-in_err-push
+returns-in_err-push g c = record {
+  appends = search rules;
+  behind = search rules;
+  front = Keeps-then (take 4) (g.B.Eeprom.chip c.args.bench.now) (g.B.Eeprom.chip c.loop-octet.bench) (g.B.Eeprom.chip c.push.new.bench) c.loop-octet.invariant.front c.push.ensures.front;
+  after = λ limit inside. pushed g (goal.at.returns-in_err-push g c).After-push limit inside;
+  cause = search rules;
+}
 
 pub loop-octet-preserved : goal.loop-octet-preserved
 loop-octet-preserved g c = record {

@@ -12,8 +12,14 @@ pushed : (g : _) (c : After-push g) (limit : ℕ) → end_of c.args.self.now + c
 pushed g c limit inside =
     Keeps-then (drop limit) (g.B.Eeprom.chip c.args.bench.now) (g.B.Eeprom.chip c.loop-step.bench) (g.B.Eeprom.chip c.push.new.bench) (c.loop-step.invariant.after limit inside) (c.push.ensures.after limit (omega (arith, inside, c.loop-step.invariant.appends.end, length-replicate c.loop-step._step c.args.octet)))
 
-pub returns-in_err-push-clause-after : goal.returns-in_err-push-clause-after
-returns-in_err-push-clause-after g c = λ limit inside. pushed g (goal.at.returns-in_err-push-clause-after g c).After-push limit inside
+pub returns-in_err-push : goal.returns-in_err-push
+returns-in_err-push g c = record {
+  appends = search rules;
+  behind = search rules;
+  front = Keeps-then (take 4) (g.B.Eeprom.chip c.args.bench.now) (g.B.Eeprom.chip c.loop-step.bench) (g.B.Eeprom.chip c.push.new.bench) c.loop-step.invariant.front c.push.ensures.front;
+  after = λ limit inside. pushed g (goal.at.returns-in_err-push g c).After-push limit inside;
+  cause = search rules;
+}
 
 pub loop-step-preserved : goal.loop-step-preserved
 loop-step-preserved g c = record {

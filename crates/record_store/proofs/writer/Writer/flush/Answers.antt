@@ -7,7 +7,7 @@ use Rattle.record_store.proofs.writer.Writer.flush.Goals.{After-write}
 use Rattle.record_store.proofs.writer.Writer.flush.Goals as goal
 
 front : (g : _) (c : After-write g) → Keeps (take 4) (g.B.Eeprom.chip c.args.bench.now) (g.B.Eeprom.chip c.write.new.self)
-front g c = Keeps-write _ _ (g.B.Eeprom.chip c.args.bench.now) (g.B.Eeprom.chip c.write.new.self) c.requires.behind (rw c.as_slice.ensures.value c.requires.room) (g.met.B.Eeprom.sized c.args.bench.now) (g.met.B.Eeprom.clocked c.args.bench.now) c.write.ensures.writes
+front g c = Keeps-write _ _ (g.B.Eeprom.chip c.args.bench.now) (g.B.Eeprom.chip c.write.new.self) c.requires.ready.behind (rw c.as_slice.ensures.value c.requires.ready.room) (g.met.B.Eeprom.sized c.args.bench.now) (g.met.B.Eeprom.clocked c.args.bench.now) c.write.ensures.writes
 
 pub returns-in_err-write-clause-front : goal.returns-in_err-write-clause-front
 returns-in_err-write-clause-front g c = front g (goal.at.returns-in_err-write-clause-front g c).After-write
@@ -17,7 +17,7 @@ returns-clause-front g c = front g (goal.at.returns-clause-front g c).After-writ
 
 after : (g : _) (c : After-write g) (limit : ℕ) → end_of c.args.self.now ≤ limit → Keeps (drop limit) (g.B.Eeprom.chip c.args.bench.now) (g.B.Eeprom.chip c.write.new.self)
 after g c limit inside =
-    behind-write _ limit _ (g.B.Eeprom.chip c.args.bench.now) (g.B.Eeprom.chip c.write.new.self) (rw c.as_slice.ensures.value inside) (rw c.as_slice.ensures.value c.requires.room) (g.met.B.Eeprom.sized c.args.bench.now) (g.met.B.Eeprom.clocked c.args.bench.now) c.write.ensures.writes
+    behind-write _ limit _ (g.B.Eeprom.chip c.args.bench.now) (g.B.Eeprom.chip c.write.new.self) (rw c.as_slice.ensures.value inside) (rw c.as_slice.ensures.value c.requires.ready.room) (g.met.B.Eeprom.sized c.args.bench.now) (g.met.B.Eeprom.clocked c.args.bench.now) c.write.ensures.writes
 
 pub returns-in_err-write-clause-after : goal.returns-in_err-write-clause-after
 returns-in_err-write-clause-after g c = λ limit inside. after g (goal.at.returns-in_err-write-clause-after g c).After-write limit inside

@@ -1,13 +1,21 @@
-use Rattle.std.proofs.Common.{refl, arith}
+use Rattle.std.proofs.Common.{refl, arith, rules}
 use Rattle.record_store.proofs.Appending.{Appends-pushed}
 use Rattle.record_store.proofs.writer.Writer.push.Goals as goal
 
-pub returns-clause-appends : goal.returns-clause-appends
-returns-clause-appends g c =
-    Appends-pushed _ _ _ _ _ _ c.in_ok-make_room.ensures.appends refl c.push.ensures.items
+pub returns-in_err-make_room : goal.returns-in_err-make_room
+returns-in_err-make_room g c = record {
+  appends = search rules;
+  behind = search rules;
+  front = c.make_room.ensures.appends.front;
+  after = λ limit inside. c.make_room.ensures.appends.after limit (omega (arith, inside));
+  cause = search rules;
+}
 
-pub returns-in_err-make_room-clause-after : goal.returns-in_err-make_room-clause-after
-returns-in_err-make_room-clause-after g c = λ limit inside. c.make_room.ensures.after limit (omega (arith, inside))
-
-pub returns-clause-after : goal.returns-clause-after
-returns-clause-after g c = λ limit inside. c.make_room.ensures.after limit (omega (arith, inside))
+pub returns : goal.returns
+returns g c = record {
+  appends = Appends-pushed _ _ _ _ _ _ c.in_ok-make_room.ensures.appends.appends refl c.push.ensures.items;
+  behind = search rules;
+  front = c.make_room.ensures.appends.front;
+  after = λ limit inside. c.make_room.ensures.appends.after limit (omega (arith, inside));
+  cause = search rules;
+}

@@ -1,14 +1,12 @@
--- The slot of each place is one of the store.
-use Rattle.std.proofs.Common.{◌<◌, sym, ◌∙◌, subst}
-use Rattle.std.specs.Prelude.{Option, IfSome}
-use Rattle.eeprom.specs.Slots.{has}
-use Rattle.row_index.specs.Places.{place_slot, place_stamp}
-use Rattle.row_index.specs.declared.place.RowPlace.{RowPlace}
-use Rattle.row_index.proofs.Kept.{found-all}
+-- The side's search, where the rows are in order.
+use Rattle.std.proofs.Common.{ap, ◌∙◌, subst, sym}
+use Rattle.std.specs.Prelude.{option_map}
+use Rattle.std.specs.List.{find}
+use Rattle.row_index.specs.Places.{is_row_of, place_slot}
+use Rattle.row_index.proofs.Stamped.{where-indexed}
 use Rattle.row_index.proofs.index.RowIndex.find.Goals as goal
 
-pub returns-clause-there : goal.returns-clause-there
-returns-clause-there c =
-    let test = has place_stamp c.args.stamp in
-    subst (λ (o : Option RowPlace). IfSome o (λ place. place_slot place < c.args.self.now.cells)) (sym c.find.ensures ∙ c.in_ok-place.was)
-    (found-all (λ place. place_slot place < c.args.self.now.cells) test c.side.result.now.places c.side.ensures.kept.within)
+pub returns-clause-value : goal.returns-clause-value
+returns-clause-value c =
+    where-indexed c.args.self.now c.args.store.now c.args.side c.stamps.result.now _ c.stamps.ensures
+    (λ slots here order. rw c.side.ensures.rows at c.find.ensures.value order ∙ ap (λ places. option_map place_slot (find (is_row_of c.args.table c.args.stamp) places)) here)

@@ -13,6 +13,6 @@ returns c =
       makes = λ chip db row stand held there with. Makes-removed old new chip db c.args.slot row held stand.over there with done.removed done.cells done.rows done.entries done.only;
       committed = λ chip stand. committed-emptied old new chip c.args.slot stand.over.stands done.removed;
       goes_on = λ chip stand. record { begun = done.begun; cells = done.cells; rows = done.rows; told = refl; over = done.over chip stand.over };
-      index = λ chip stand. rw c.removed.ensures.removed (Indexes-removed c.args.self.now.index old new chip c.args.slot stand.over.stands done.cells c.requires.there done.removed stand.index);
-      places = c.removed.ensures.removed;
+      index = λ chip stand. Indexes-removed c.args.self.now.index c.removed.new.self old new chip c.args.slot stand.over.stands done.cells c.requires.there done.removed c.removed.ensures.changes (c.removed.ensures.removed chip stand.over stand.index) stand.index;
+      changes = c.removed.ensures.changes;
     }

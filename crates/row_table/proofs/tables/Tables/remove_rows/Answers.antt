@@ -32,13 +32,13 @@ returns c =
     let numbers = c.rows_of-slot-items.result.now in
     let done = c.loop-slot.invariant in
     record {
-      removed = λ chip stand. removed-rows new chip c.args.table index.cells c.loop-slot.slot-index numbers index.working (slots_of old Working chip) c.loop-slot-test.false c.rows_of-slot-items.ensures.rows stand.index.working (done.emptied chip stand.over);
+      removed = λ chip stand. removed-rows new chip c.args.table c.loop-slot.slot-index numbers (slots_of old Working chip) c.loop-slot-test.false (c.rows_of-slot-items.ensures.rows chip stand.over stand.index) (done.emptied chip stand.over);
       committed = λ chip stand. done.committed chip stand.over;
       goes_on = λ chip stand. record { begun = done.begun; cells = done.cells; rows = done.rows; told = refl; over = done.over chip stand.over };
-      only = λ chip stand. only-rows old new c.args.table index.cells c.loop-slot.slot-index numbers index.working (slots_of old Working chip) c.loop-slot-test.false c.rows_of-slot-items.ensures.rows stand.index.working done.only;
-      entries = λ chip stand. entries-rows old new c.args.table index.cells c.loop-slot.slot-index numbers index.working (slots_of old Working chip) c.loop-slot.auto.slot-index-end c.rows_of-slot-items.ensures.rows stand.index.working done.entries;
+      only = λ chip stand. only-rows old new c.args.table c.loop-slot.slot-index numbers (slots_of old Working chip) c.loop-slot-test.false (c.rows_of-slot-items.ensures.rows chip stand.over stand.index) done.only;
+      entries = λ chip stand. entries-rows old new c.args.table c.loop-slot.slot-index numbers (slots_of old Working chip) c.loop-slot.auto.slot-index-end (c.rows_of-slot-items.ensures.rows chip stand.over stand.index) done.entries;
       index = λ chip stand. subst (λ index. Indexes index new chip) (sym c.table_removed.ensures.removed)
           (Indexes-without_table index c.args.table old new chip stand.over stand.index done.cells (done.committed chip stand.over)
-          (removed-rows new chip c.args.table index.cells c.loop-slot.slot-index numbers index.working (slots_of old Working chip) c.loop-slot-test.false c.rows_of-slot-items.ensures.rows stand.index.working (done.emptied chip stand.over)));
-      places = c.table_removed.ensures.removed;
+          (removed-rows new chip c.args.table c.loop-slot.slot-index numbers (slots_of old Working chip) c.loop-slot-test.false (c.rows_of-slot-items.ensures.rows chip stand.over stand.index) (done.emptied chip stand.over)));
+      changes = rw c.table_removed.ensures.removed record { cells = refl; begun = refl; committed = refl };
     }

@@ -1,9 +1,0 @@
-use Rattle.std.proofs.Common.{◌≡◌, ℕ, ◌<◌, true, length, slice_index}
-use Rattle.record_store.specs.RowRuns.{Passes, has_row_or_none}
-use Rattle.record_store.proofs.row_runs.take_in_all.Given as goal
-
-abbrev pub invariant-loop-slot : goal.invariant-loop-slot
-invariant-loop-slot l = record {
-  size : length l.runs ≡ length l.fn.runs;
-  rows : (from passed : ℕ) → Passes l.runs from passed → passed < l.slot → has_row_or_none l.first_octets (slice_index l.firsts passed) ≡ true;
-}

@@ -1,0 +1,47 @@
+-- The next row of a table stands behind those of keys up to its own.
+use Rattle.std.proofs.Common.{◌≡◌, ◌<◌, ◌⊎◌, ℕ, Bool, true, false, eqb, Some, None, inl, inr, refl, ap, sym, subst, ◌∙◌}
+use Rattle.std.specs.Prelude.{option_map}
+use Rattle.std.specs.List.{AllByRecursion}
+use Rattle.std.proofs.lemmas.Bool.{eq-eqb, ne_eqb, and_left, and_right}
+use Rattle.row_index.specs.Places.{is_in_table, is_row_of, place_slot}
+use Rattle.row_index.specs.SideRows.{place_at, places_at, places_of}
+use Rattle.row_index.specs.declared.place.RowPlace.{RowPlace}
+use Rattle.row_index.proofs.Searches.{all-got}
+use Rattle.row_index.proofs.SlotPlaces.{map-all, slot-got}
+use Rattle.row_index.proofs.Tables.{found-later, if_in_table}
+use Rattle.row_index.proofs.side_rows.SideRows.next_after.Goals as goal
+
+pub returns-in_err-place-clause-value : goal.returns-in_err-place-clause-value
+returns-in_err-place-clause-value c = λ order.
+    let places = places_at c.columns-columns.result.stamps.now c.columns-columns.result.tables.now c.as_slice-slots.result.now in
+    let same : places ≡ places_of c.args.stamps.now c.args.self.now.rows = rw (c.as_slice-slots.ensures.value, c.columns-columns.ensures.stamps, c.columns-columns.ensures.tables, ← c.self.view_is) refl in
+    c.from_residual.ensures
+    ∙ sym (found-later c.args.table c.args.stamp places _ c.count_up_to_near.result None same order (rw c.key_in_table.ensures at c.count_up_to_near.ensures.count) (sym c.in_err-place.was ∙ c.place_among.ensures))
+
+pub returns-then-place-table-clause-value : goal.returns-then-place-table-clause-value
+returns-then-place-table-clause-value c = λ order.
+    let places = places_at c.columns-columns.result.stamps.now c.columns-columns.result.tables.now c.as_slice-slots.result.now in
+    let same : places ≡ places_of c.args.stamps.now c.args.self.now.rows = rw (c.as_slice-slots.ensures.value, c.columns-columns.ensures.stamps, c.columns-columns.ensures.tables, ← c.self.view_is) refl in
+    let place = c.in_ok-place.place in
+    let own : if_in_table c.args.table (Some place) ≡ Some place = rw (eq-eqb place.table c.args.table c.if-place-table.true) refl in
+    sym (found-later c.args.table c.args.stamp places _ c.count_up_to_near.result (Some place) same order (rw c.key_in_table.ensures at c.count_up_to_near.ensures.count) (sym c.in_ok-place.was ∙ c.place_among.ensures) ∙ own)
+
+pub returns-else-place-table-clause-value : goal.returns-else-place-table-clause-value
+returns-else-place-table-clause-value c = λ order.
+    let places = places_at c.columns-columns.result.stamps.now c.columns-columns.result.tables.now c.as_slice-slots.result.now in
+    let same : places ≡ places_of c.args.stamps.now c.args.self.now.rows = rw (c.as_slice-slots.ensures.value, c.columns-columns.ensures.stamps, c.columns-columns.ensures.tables, ← c.self.view_is) refl in
+    let place = c.in_ok-place.place in
+    let other : if_in_table c.args.table (Some place) ≡ None = rw (ne_eqb place.table c.args.table c.if-place-table.false) refl in
+    sym (found-later c.args.table c.args.stamp places _ c.count_up_to_near.result (Some place) same order (rw c.key_in_table.ensures at c.count_up_to_near.ensures.count) (sym c.in_ok-place.was ∙ c.place_among.ensures) ∙ other)
+
+pub returns-then-place-table-clause-there : goal.returns-then-place-table-clause-there
+returns-then-place-table-clause-there c =
+    let places = places_at c.columns-columns.result.stamps.now c.columns-columns.result.tables.now c.as_slice-slots.result.now in
+    let within : AllByRecursion (λ (place : RowPlace). place.slot < c.args.self.now.cells) places = rw (c.as_slice-slots.ensures.value, ← c.self.view_is)
+    (map-all (λ (place : RowPlace). place.slot < c.self.inside.cells) (place_at c.columns-columns.result.stamps.now c.columns-columns.result.tables.now) c.self.inside.slots.items c.self.invariant.within) in
+    all-got (λ (place : RowPlace). place.slot < c.args.self.now.cells) places _ c.in_ok-place.place within (sym c.place_among.ensures ∙ c.in_ok-place.was)
+
+pub returns-then-place-table-clause-near : goal.returns-then-place-table-clause-near
+returns-then-place-table-clause-near c =
+    let got = slot-got c.columns-columns.result.stamps.now c.columns-columns.result.tables.now c.as_slice-slots.result.now c.count_up_to_near.result c.in_ok-place.place (sym c.place_among.ensures ∙ c.in_ok-place.was) in
+    rw (← c.self.view_is) (rw c.as_slice-slots.ensures.value at got)

@@ -1,0 +1,61 @@
+-- What a copy and its pieces leave of the cards: over one machine of each, and whatever is told of them.
+use Rattle.std.specs.Prelude.{ℕ, ◌∷◌, Bool, List, Option}
+use Rattle.eeprom.specs.Chip.{Chip}
+use Rattle.scql_model.specs.Machine.{Machine}
+use Rattle.card_link.specs.Link.{Holds, IsOneOf, LeavesOpen}
+use Rattle.card_asking.specs.Calls.{HasGoneOn}
+use Rattle.table_copy.specs.declared.copy_end.CopyEnd.{CopyEnd}
+use Rattle.table_copy.specs.Copy.{Copy}
+use Rattle.table_copy.specs.Copying.{CopiesSo, EndsBy, GoesBy, ReadsSo}
+use Rattle.table_copy.specs.Filling.{FetchesSo, IsFilling, OfDest, OfSource, Piece, UnlessDestMute}
+use Rattle.table_copy.specs.Progress.{ShowsCopy}
+
+-- A copy ended so on a destination that was at a machine. It is to do this there.
+pub record CopiesOver {L : Type 0} (is_at : L → Machine → Type 0) (mark : L → ℕ) (chip : L → Chip) (d : Machine) (copy : Copy) (result : CopyEnd) (old new : L) : Type 0 where
+  -- It ended as it is to, and all of it was committed.
+  pub copies : CopiesSo is_at d copy result new
+  -- A power loss leaves the database as it was, or with all rows.
+  pub dest_moments : LeavesOpen (IsOneOf (mark old) (d.committed ∷ copy.commits)) (chip old) (chip new)
+
+-- A copy read from a source that was at a machine.
+pub record ReadsOver {L : Type 0} (is_at : L → Machine → Type 0) (is_live : L → Bool) (mark : L → ℕ) (chip : L → Chip) (s : Machine) (old new : L) : Type 0 where
+  -- Where the source answers it is as it was.
+  pub reads : ReadsSo is_at is_live s new
+  -- A power loss leaves the database that it had.
+  pub source_moments : LeavesOpen (Holds (mark old) s.committed) (chip old) (chip new)
+
+-- What a copy leaves that ended so.
+pub record CopyLeaves {S D P : Type 0} (s_live : S → Bool) (s_faults s_mark : S → ℕ) (s_keeps s_goes : S → S → Type 0) (d_live : D → Bool) (d_faults d_mark : D → ℕ) (d_keeps d_goes : D → D → Type 0) (lost : P → Bool) (shown : P → Option (List ℕ)) (result : CopyEnd) (source next : S) (dest new : D) (person after : P) : Type 0 where
+  -- It ended so since that card failed, or none did.
+  pub causes : EndsBy s_live s_faults d_live d_faults result source next dest new
+  -- Both links go on.
+  pub source_goes_on : HasGoneOn s_mark s_keeps s_goes source next
+  pub dest_goes_on : HasGoneOn d_mark d_keeps d_goes dest new
+  -- A person was shown how far it came.
+  pub shows : ShowsCopy lost shown result person after
+
+-- So of a piece of it: over a source that was at a machine,
+pub record FetchesOver {L A : Type 0} (is_at : L → Machine → Type 0) (mark : L → ℕ) (chip : L → Chip) (s : Machine) (result : Piece A) (then' : Type 0) (old new : L) : Type 0 where
+  pub reads : FetchesSo is_at s result then' new
+  pub still : LeavesOpen (Holds (mark old) s.committed) (chip old) (chip new)
+
+-- over a destination that was at a machine,
+pub record FillsOver {L A : Type 0} (is_at : L → Machine → Type 0) (mark : L → ℕ) (chip : L → Chip) (d : Machine) (result : Piece A) (old new : L) : Type 0 where
+  pub fills : UnlessDestMute result (IsFilling is_at d new)
+  pub moments : LeavesOpen (Holds (mark old) d.committed) (chip old) (chip new)
+
+-- and whatever is told, of both,
+pub record PieceLeaves {S D A : Type 0} (s_live : S → Bool) (s_faults s_mark : S → ℕ) (s_keeps s_goes : S → S → Type 0) (d_live : D → Bool) (d_faults d_mark : D → ℕ) (d_keeps d_goes : D → D → Type 0) (result : Piece A) (source next : S) (dest new : D) : Type 0 where
+  pub ends : GoesBy s_live s_faults d_live d_faults result source next dest new
+  pub source_rest : HasGoneOn s_mark s_keeps s_goes source next
+  pub dest_rest : HasGoneOn d_mark d_keeps d_goes dest new
+
+-- of the source alone,
+pub record SourceLeaves {L A : Type 0} (is_live : L → Bool) (faults mark : L → ℕ) (keeps goes_on : L → L → Type 0) (result : Piece A) (old new : L) : Type 0 where
+  pub ends : OfSource is_live faults result old new
+  pub rest : HasGoneOn mark keeps goes_on old new
+
+-- and of the destination alone.
+pub record DestLeaves {L A : Type 0} (is_live : L → Bool) (faults mark : L → ℕ) (keeps goes_on : L → L → Type 0) (result : Piece A) (old new : L) : Type 0 where
+  pub ends : OfDest is_live faults result old new
+  pub rest : HasGoneOn mark keeps goes_on old new
