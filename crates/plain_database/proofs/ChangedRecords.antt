@@ -1,5 +1,5 @@
 -- A database in which a record took the place of another is as the edits have it, where there is room.
-use Rattle.std.proofs.Common.{◌≡◌, ◌+◌, ◌-◌, ◌≤◌, ◌<◌, [], ◌∷◌, Ok, Err, Some, refl, subst, sym, arith}
+use Rattle.std.proofs.Common.{◌≡◌, ◌+◌, ◌-◌, ◌≤◌, ◌<◌, [], ◌∷◌, Ok, Err, Some, ap, refl, subst, sym, arith}
 use Rattle.std.specs.List.{find}
 use Rattle.std.proofs.lemmas.Bool.{eqb-true, le-ltb, lt-ltb}
 use Rattle.eeprom.specs.Slots.{has, replaced}
@@ -21,6 +21,10 @@ grant-changed db g valid =
     let grants = sum_of_keys-replaced (λ _. 1) (λ (h : Grant). h.stamp) g db.grants in
     let light : weight left ≤ weight db = omega (arith, weight-kinds db, weight-kinds left, grants) in
     fits-lighter db (changing (of_grant g) ∷ []) left valid refl refl light
+
+-- where no row has the stamp, all stays
+pub row-absent : (db : Database) (row : RowRecord) → IsValid db → db.rows ≡ replaced (λ (r : RowRecord). r.stamp) row db.rows → Ok db ≡ with_edits db (changing (of_row row) ∷ [])
+row-absent db row valid same = fits-lighter db (changing (of_row row) ∷ []) db valid refl (ap (λ rows. record db { rows = rows }) same) (omega arith)
 
 -- a row takes its own cells for those of the one before
 record IsWeighed (db : Database) (row held : RowRecord) : Type 0 where

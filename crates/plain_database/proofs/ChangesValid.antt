@@ -1,17 +1,27 @@
 -- A changing command leaves a valid database valid, on a card of as many cells.
-use Rattle.std.proofs.Common.{◌≡◌, Option, ap, Ok, Err, subst, sym, ◌∙◌}
+use Rattle.std.proofs.Common.{◌≡◌, List, Option, ap, Ok, Err, refl, subst, sym, ◌∙◌}
 use Rattle.std.specs.Prelude.{Result}
 use Rattle.scql_base.specs.declared.cursor.Cursor.{Cursor}
 use Rattle.scql_base.specs.declared.operation.Operation.{Operation}
 use Rattle.scql_base.specs.declared.words.Actor.{Actor}
 use Rattle.scql_base.specs.declared.words.StatusWord.{StatusWord}
-use Rattle.scql_model.specs.Changing.{change_of}
+use Rattle.scql_model.specs.Changing.{change_of, edits_of}
 use Rattle.scql_model.specs.Creating.{IsActorOf}
 use Rattle.scql_model.specs.Database.{Database, IsValid}
+use Rattle.scql_model.specs.Edits.{Edit, with_edits}
 use Rattle.scql_model.specs.WellFormed.{FitsCard, HasForm}
 use Rattle.scql_model.proofs.ChangeLaws.{change_of-edits, change_of-ok}
 use Rattle.scql_model.proofs.KeepsValid.{IsValid-edits_of}
 use Rattle.plain_database.specs.Effects.{Ends}
+
+-- what is decided on is the change, or the refusal
+module _ (db : Database) (actor : Actor) (cursor : Option Cursor) (operation : Operation) where
+  pub decided-change : (edits : List Edit) → Ok edits ≡ edits_of db actor cursor operation → with_edits db edits ≡ change_of db actor cursor operation
+  decided-change edits is = sym (change_of-edits db actor cursor operation edits (sym is))
+
+  pub decided-refusal : (word : StatusWord) → Err word ≡ edits_of db actor cursor operation → Err word ≡ change_of db actor cursor operation
+  unfolding change_of
+  decided-refusal word is = rw (sym is) refl
 
 module _ (db new : Database) (actor : Actor) (cursor : Option Cursor) (operation : Operation) where
   pub stays-valid : (result : Result (Unit {0}) StatusWord) → Ends db new result (change_of db actor cursor operation)

@@ -1,22 +1,22 @@
 -- What becomes of a database by an operation.
-use Rattle.std.specs.Prelude.{ℕ, ◌+◌, ◌==◌, ◌&&◌, nat_le, not, Bool, ◌≡◌, List, Result, Ok, Err, OnErr}
+use Rattle.std.specs.Prelude.{ℕ, ◌+◌, ◌==◌, ◌&&◌, nat_le, not, Bool, ◌≡◌, Result, Ok, Err, OnErr, OnOk}
 use Rattle.scql_base.specs.declared.words.StatusWord.{StatusWord}
 use Rattle.scql_model.specs.Database.{Database, weight}
-use Rattle.scql_model.specs.Edits.{Edit, stamps_end, with_edits}
-use Rattle.scql_model.specs.Refusals.{◌>>=◌}
+use Rattle.scql_model.specs.Edits.{stamps_end}
 
 -- a stamp is left, and room for a record that takes so many cells
 abbrev pub has_room : Database → ℕ → Bool
 has_room db cells = not (db.next == stamps_end) && nat_le (weight db + cells) db.cells
 
--- the database with the edits that an operation makes, or the first refusal
-abbrev pub outcome : Database → Result (List Edit) StatusWord → Result Database StatusWord
-outcome db edits = edits >>= with_edits db
-
 -- something, or the word that an operation was refused with
 abbrev pub ended : {A : Type 0} → Result (Unit {0}) StatusWord → A → Result A StatusWord
 ended (Ok done) x = Ok x
 ended (Err word) x = Err word
+
+-- How a call ended that wants memory: it put what is meant, or nothing.
+pub record Puts {A E : Type 0} (old new : A) (result : Result (Unit {0}) E) (meant : A) : Type 0 where
+  pub put : OnOk result (new ≡ meant)
+  pub same : OnErr result (new ≡ old)
 
 -- How an operation ended: with what it was to make, or refused.
 pub record Ends {A : Type 0} (old new : A) (result : Result (Unit {0}) StatusWord) (meant : Result A StatusWord) : Type 0 where

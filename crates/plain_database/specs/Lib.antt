@@ -1,4 +1,6 @@
+pub mod Changes
 pub mod Effects
 pub mod Privileged
 pub mod Roomy
 pub mod Sought
+pub mod Within

@@ -1,15 +1,16 @@
 -- Which of a cursor's rows is sought.
-use Rattle.std.specs.Prelude.{ℕ, ◌==◌, ◌&&◌, nat_lt, Bool, true, List, Option}
+use Rattle.std.specs.Prelude.{◌≡◌, ℕ, ◌==◌, ◌&&◌, nat_lt, Bool, true, List, Option, Some}
 use Rattle.std.specs.List.{find}
 use Rattle.scql_base.specs.declared.condition.Condition.{Condition}
 use Rattle.scql_base.specs.declared.cursor.Cursor.{Cursor}
 use Rattle.scql_base.specs.declared.records.RowRecord.{RowRecord}
 use Rattle.scql_model.specs.Contents.{contents_of, cut_to}
+use Rattle.scql_model.specs.Cursors.{IsCursorOf}
 use Rattle.scql_model.specs.Database.{Database}
 use Rattle.scql_model.specs.Matching.{Columns, matches}
 use Rattle.scql_model.specs.Moves.{chosen}
 use Rattle.scql_model.specs.Objects.{StampedRow}
-use Rattle.scql_model.specs.Resolving.{Resolved, passes_filters}
+use Rattle.scql_model.specs.Resolving.{Resolved, passes_filters, resolved_of}
 use Rattle.plain_database.specs.declared.seen.ShownRow.{ShownRow}
 use Rattle.plain_database.specs.declared.sought.Sought.{Sought}
 use Rattle.plain_database.specs.declared.sought.Sought.TheVariants.{First, Behind, At}
@@ -32,6 +33,15 @@ is_in_table resolved conditions r = r.table == resolved.table && (matches resolv
 abbrev pub is_sought : Resolved → List Condition → Sought → RowRecord → Bool
 is_sought resolved conditions sought r =
     r.table == resolved.table && (admits sought r.stamp && (matches resolved.all conditions r.row && passes_filters resolved r.row))
+
+-- What is resolved is the object of a cursor of a database.
+pub record IsResolvedFor (db : Database) (c : Cursor) (r : Resolved) : Type 0 where
+  pub cursor : IsCursorOf db c
+  pub resolved : resolved_of db.objects c.object ≡ Some r
+
+-- a record is a row of the database
+abbrev pub IsRowOf : Database → RowRecord → Type 0
+IsRowOf db r = find (λ (s : RowRecord). s.stamp == r.stamp) db.rows ≡ Some r
 
 -- a row of the table as it is shown
 abbrev pub row_through : Resolved → Columns → RowRecord → StampedRow

@@ -6,6 +6,7 @@ ghost use Rattle.scql_base.specs.Row.{row_size};
 ghost use Rattle.scql_base.specs.declared.row.TheConstants.Row.{LARGEST, LONGEST_VALUE};
 ghost use Rattle.scql_model.specs.Rules as rules;
 ghost use Rattle.scql_model.specs.Writing.{all_assigned, assigned};
+ghost use Rattle.plain_database.specs.Within.{IsWithin};
 
 use crate::matching::value_at;
 use scql_base::{Name, NameList, PackedChanges, Row};
@@ -43,8 +44,7 @@ pub(crate) fn row_after(columns: &NameList, changes: &PackedChanges, row: &Row) 
 // The value in a column after changes, of which none is too long for a row.
 fn value_assigned<'a>(changes: &'a PackedChanges, column: &Name, own: &'a [u8]) -> &'a [u8]
     requires { length own.now ≤ LONGEST_VALUE }
-    ensures value { result.now ≡ assigned changes.now column.now own.now }
-    ensures short { length result.now ≤ LONGEST_VALUE }
+    ensures { IsWithin LONGEST_VALUE result.now (assigned changes.now column.now own.now) }
 {
     let mut left = changes.run();
     while let Some(((name, value), behind)) = left.first() {

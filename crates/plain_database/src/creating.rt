@@ -2,13 +2,13 @@
 ghost use Rattle.std.specs.Prelude.{◌≡◌, ◌<◌, ◌≤◌, IfSome, Some, None, option_copied, if◌then◌else◌};
 ghost use Rattle.std.specs.List.{list_any};
 ghost use Rattle.std.specs.Str.{bytes_eq};
-ghost use Rattle.scql_model.specs.Database.{IsValid};
 ghost use Rattle.scql_model.specs.Defining as defining;
 ghost use Rattle.scql_model.specs.Objects as objects;
 ghost use Rattle.scql_model.specs.ReadingCommands as commands;
 ghost use Rattle.scql_model.specs.Rules as rules;
-ghost use Rattle.plain_database.specs.Effects.{Ends, outcome};
+ghost use Rattle.plain_database.specs.Changes.{edits_decided};
 
+use crate::change::Change;
 use crate::columns::{are_named_among, columns_stored, wanted_of};
 use crate::rights::{actor_stamp, is_maker, is_owned_by};
 use crate::{PlainDatabase, ValidDatabase};
@@ -18,64 +18,25 @@ use scql_base::{Actor, Conditions, Name, NameList, Object, ObjectKind, StatusWor
 const DEEPEST: u8 = 4;
 
 impl PlainDatabase {
-    /// CREATE TABLE and CREATE DICTIONARY.
+    /// What CREATE TABLE and CREATE DICTIONARY change.
     #[tactic(auto, unfolding(scql_model::specs::Defining::object_created))]
-    pub(crate) fn create_object(
-        &mut self,
+    pub(crate) fn object_created(
+        &self,
         actor: Actor,
         name: &Name,
         kind: ObjectKind,
-    ) -> Result<(), StatusWord>
-        ensures { Ends self.old self.new result (outcome self.old (defining.object_created self.old actor name.now kind)) }
+    ) -> Result<Change, StatusWord>
+        ensures { edits_decided self.now result ≡ defining.object_created self.now actor name.now kind }
     {
         if !makes_objects(actor) {
             return Err(StatusWord::SECURITY_NOT_SATISFIED);
         }
-        self.name_object(actor, name, kind)
-    }
-
-    /// CREATE VIEW. An empty list of columns becomes all columns.
-    #[tactic(auto, unfolding(scql_model::specs::Defining::view_created))]
-    pub(crate) fn create_view(
-        &mut self,
-        actor: Actor,
-        name: &Name,
-        base: &Name,
-        columns: &NameList,
-        conditions: &Conditions,
-    ) -> Result<(), StatusWord>
-        requires valid { IsValid self.old }
-        ensures { Ends self.old self.new result (outcome self.old (defining.view_created self.old actor name.now base.now columns.now conditions.now)) }
-    {
-        if !makes_objects(actor) {
-            return Err(StatusWord::SECURITY_NOT_SATISFIED);
-        }
-        let Some(base) = self.seen_named(actor, base) else {
-            return Err(StatusWord::NOT_FOUND);
-        };
-        let Some(all) = columns_stored(&base.kind) else {
-            return Err(StatusWord::NOT_FOUND);
-        };
-        if !is_owned_by(actor, base.owner) {
-            return Err(StatusWord::SECURITY_NOT_SATISFIED);
-        }
-        if !self.as_valid().may_have_view(base) {
-            return Err(StatusWord::CONDITIONS_NOT_SATISFIED);
-        }
-        if !are_named_among(all, columns, conditions) {
-            return Err(StatusWord::NOT_FOUND);
-        }
-        let kind = ObjectKind::View {
-            base: base.stamp,
-            columns: wanted_of(all, columns).copy(),
-            conditions: conditions.copy(),
-        };
-        self.name_object(actor, name, kind)
+        self.named_anew(actor, name, kind)
     }
 
     // A new object is added, whose name no other object has.
-    fn name_object(&mut self, actor: Actor, name: &Name, kind: ObjectKind) -> Result<(), StatusWord>
-        ensures { Ends self.old self.new result (outcome self.old (defining.named_anew self.old (defining.new_object self.old actor name.now kind))) }
+    fn named_anew(&self, actor: Actor, name: &Name, kind: ObjectKind) -> Result<Change, StatusWord>
+        ensures { edits_decided self.now result ≡ defining.named_anew self.now (defining.new_object self.now actor name.now kind) }
     {
         if self.has_object(name) {
             return Err(StatusWord::ALREADY_EXISTS);
@@ -86,7 +47,7 @@ impl PlainDatabase {
             owner: actor_stamp(actor),
             kind,
         };
-        self.add_object(object)
+        Ok(Change::AddObject { object })
     }
 
     // Whether an object has a name.
@@ -100,6 +61,45 @@ impl PlainDatabase {
 }
 
 impl<'a> ValidDatabase<'a> {
+    /// What CREATE VIEW changes. An empty list of columns becomes all columns.
+    #[tactic(auto, unfolding(scql_model::specs::Defining::view_created))]
+    pub(crate) fn view_created(
+        &self,
+        actor: Actor,
+        name: &Name,
+        base: &Name,
+        columns: &NameList,
+        conditions: &Conditions,
+    ) -> Result<Change, StatusWord>
+        ensures { edits_decided self.now result ≡ defining.view_created self.now actor name.now base.now columns.now conditions.now }
+    {
+        if !makes_objects(actor) {
+            return Err(StatusWord::SECURITY_NOT_SATISFIED);
+        }
+        let database = self.database();
+        let Some(base) = database.seen_named(actor, base) else {
+            return Err(StatusWord::NOT_FOUND);
+        };
+        let Some(all) = columns_stored(&base.kind) else {
+            return Err(StatusWord::NOT_FOUND);
+        };
+        if !is_owned_by(actor, base.owner) {
+            return Err(StatusWord::SECURITY_NOT_SATISFIED);
+        }
+        if !self.may_have_view(base) {
+            return Err(StatusWord::CONDITIONS_NOT_SATISFIED);
+        }
+        if !are_named_among(all, columns, conditions) {
+            return Err(StatusWord::NOT_FOUND);
+        }
+        let kind = ObjectKind::View {
+            base: base.stamp,
+            columns: wanted_of(all, columns).copy(),
+            conditions: conditions.copy(),
+        };
+        database.named_anew(actor, name, kind)
+    }
+
     // Whether a view may rest on an object: whether that doesn't stand at the greatest depth.
     #[tactic(auto, unfolding(scql_model::specs::Objects::depth_of))]
     fn may_have_view(&self, base: &Object) -> bool

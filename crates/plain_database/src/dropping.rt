@@ -1,20 +1,19 @@
 // DROP TABLE and DROP VIEW.
 ghost use Rattle.std.specs.Prelude.{◌≡◌, not};
-ghost use Rattle.scql_model.specs.Database.{IsValid};
 ghost use Rattle.scql_model.specs.Defining as defining;
 ghost use Rattle.scql_model.specs.Rules as rules;
-ghost use Rattle.plain_database.specs.Effects.{Ends, outcome};
+ghost use Rattle.plain_database.specs.Changes.{edits_decided};
 
 use crate::PlainDatabase;
+use crate::change::Change;
 use crate::rights::is_owned_by;
 use scql_base::{Actor, Name, Object, ObjectKind, StatusWord};
 
 impl PlainDatabase {
-    /// DROP TABLE.
+    /// What DROP TABLE changes.
     #[tactic(auto, unfolding(scql_model::specs::Defining::table_dropped))]
-    pub(crate) fn drop_table(&mut self, actor: Actor, name: &Name) -> Result<(), StatusWord>
-        requires valid { IsValid self.old }
-        ensures { Ends self.old self.new result (outcome self.old (defining.table_dropped self.old actor name.now)) }
+    pub(crate) fn table_dropped(&self, actor: Actor, name: &Name) -> Result<Change, StatusWord>
+        ensures { edits_decided self.now result ≡ defining.table_dropped self.now actor name.now }
     {
         let Some(object) = self.seen_named(actor, name) else {
             return Err(StatusWord::NOT_FOUND);
@@ -28,16 +27,15 @@ impl PlainDatabase {
         if self.has_view(object) {
             return Err(StatusWord::CONDITIONS_NOT_SATISFIED);
         }
-        let stamp = object.stamp;
-        self.remove_table(stamp);
-        Ok(())
+        Ok(Change::RemoveTable {
+            table: object.copy(),
+        })
     }
 
-    /// DROP VIEW, which drops dictionaries too.
+    /// What DROP VIEW changes, which drops dictionaries too.
     #[tactic(auto, unfolding(scql_model::specs::Defining::view_dropped))]
-    pub(crate) fn drop_view(&mut self, actor: Actor, name: &Name) -> Result<(), StatusWord>
-        requires valid { IsValid self.old }
-        ensures { Ends self.old self.new result (outcome self.old (defining.view_dropped self.old actor name.now)) }
+    pub(crate) fn view_dropped(&self, actor: Actor, name: &Name) -> Result<Change, StatusWord>
+        ensures { edits_decided self.now result ≡ defining.view_dropped self.now actor name.now }
     {
         let Some(object) = self.seen_named(actor, name) else {
             return Err(StatusWord::NOT_FOUND);
@@ -51,9 +49,9 @@ impl PlainDatabase {
         if self.has_view(object) {
             return Err(StatusWord::CONDITIONS_NOT_SATISFIED);
         }
-        let stamp = object.stamp;
-        self.remove_object(stamp);
-        Ok(())
+        Ok(Change::RemoveObject {
+            object: object.copy(),
+        })
     }
 
     // Whether a view rests on an object.

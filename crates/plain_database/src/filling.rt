@@ -1,8 +1,9 @@
 // How a database is filled: by records one after another, or from another database.
-ghost use Rattle.std.specs.Prelude.{◌≡◌, ◌≤◌, OnErr, OnOk, length, nat_lt, vec_capacity};
+ghost use Rattle.std.specs.Prelude.{◌≡◌, ◌≤◌, length, nat_lt, vec_capacity};
 ghost use Rattle.std.specs.List.{position};
 ghost use Rattle.eeprom.specs.Slots.{put_in_order};
 ghost use Rattle.scql_model.specs.Database.{IsValid};
+ghost use Rattle.plain_database.specs.Effects.{Puts};
 
 use crate::record::Record;
 use crate::{PlainDatabase, Stamped};
@@ -20,32 +21,28 @@ impl PlainDatabase {
 
     /// Puts a user before the first of a greater stamp.
     pub fn put_user(&mut self, user: User) -> Result<(), AllocError>
-        ensures put { OnOk result (self.new ≡ record self.old { users = put_in_order (λ u. u.stamp) user self.old.users }) }
-        ensures same { OnErr result (self.new ≡ self.old) }
+        ensures { Puts self.old self.new result (record self.old { users = put_in_order (λ u. u.stamp) user self.old.users }) }
     {
         put(&mut self.users, user)
     }
 
     /// Puts an object before the first of a greater stamp.
     pub fn put_object(&mut self, object: Object) -> Result<(), AllocError>
-        ensures put { OnOk result (self.new ≡ record self.old { objects = put_in_order (λ o. o.stamp) object self.old.objects }) }
-        ensures same { OnErr result (self.new ≡ self.old) }
+        ensures { Puts self.old self.new result (record self.old { objects = put_in_order (λ o. o.stamp) object self.old.objects }) }
     {
         put(&mut self.objects, object)
     }
 
     /// Puts a grant before the first of a greater stamp.
     pub fn put_grant(&mut self, grant: Grant) -> Result<(), AllocError>
-        ensures put { OnOk result (self.new ≡ record self.old { grants = put_in_order (λ g. g.stamp) grant self.old.grants }) }
-        ensures same { OnErr result (self.new ≡ self.old) }
+        ensures { Puts self.old self.new result (record self.old { grants = put_in_order (λ g. g.stamp) grant self.old.grants }) }
     {
         put(&mut self.grants, grant)
     }
 
     /// Puts a row before the first of a greater stamp.
     pub fn put_row(&mut self, row: RowRecord) -> Result<(), AllocError>
-        ensures put { OnOk result (self.new ≡ record self.old { rows = put_in_order (λ r. r.stamp) row self.old.rows }) }
-        ensures same { OnErr result (self.new ≡ self.old) }
+        ensures { Puts self.old self.new result (record self.old { rows = put_in_order (λ r. r.stamp) row self.old.rows }) }
     {
         put(&mut self.rows, row)
     }
@@ -67,8 +64,7 @@ impl PlainDatabase {
 
 // Puts a record before the first of a greater stamp.
 fn put<R: Record>(records: &mut Vec<R, Heap>, entry: R) -> Result<(), AllocError>
-    ensures put { OnOk result (records.new.items ≡ put_in_order R.stamp_of entry records.old.items) }
-    ensures same { OnErr result (records.new.items ≡ records.old.items) }
+    ensures puts { Puts records.old.items records.new.items result (put_in_order R.stamp_of entry records.old.items) }
     ensures capacity { vec_capacity records.old ≤ vec_capacity records.new }
 {
     let at = first_behind(records, entry.stamp()).unwrap_or(records.len());

@@ -1,25 +1,24 @@
 // GRANT and REVOKE.
 ghost use Rattle.std.specs.Prelude.{◌≡◌, ◌==◌, Some, None, bit_or, if◌then◌else◌, option_copied};
-ghost use Rattle.scql_model.specs.Database.{IsValid};
 ghost use Rattle.scql_model.specs.Granting as granting;
-ghost use Rattle.plain_database.specs.Effects.{Ends, outcome};
+ghost use Rattle.plain_database.specs.Changes.{edits_decided};
 
 use crate::PlainDatabase;
+use crate::change::Change;
 use crate::rights::is_owned_by;
 use scql_base::{Actor, Grant, Name, Object, Privileges, StatusWord};
 
 impl PlainDatabase {
-    /// GRANT: privileges are added to those of the grantee's grant, or are a new grant.
+    /// What GRANT changes: privileges are added to those of the grantee's grant, or are a new grant.
     #[tactic(auto, unfolding(scql_model::specs::Granting::privileges_granted))]
-    pub(crate) fn grant(
-        &mut self,
+    pub(crate) fn privileges_granted(
+        &self,
         actor: Actor,
         privileges: Privileges,
         name: &Name,
         grantee: &Name,
-    ) -> Result<(), StatusWord>
-        requires valid { IsValid self.old }
-        ensures { Ends self.old self.new result (outcome self.old (granting.privileges_granted self.old actor privileges name.now grantee.now)) }
+    ) -> Result<Change, StatusWord>
+        ensures { edits_decided self.now result ≡ granting.privileges_granted self.now actor privileges name.now grantee.now }
     {
         let Some(object) = self.seen_named(actor, name) else {
             return Err(StatusWord::NOT_FOUND);
@@ -34,8 +33,7 @@ impl PlainDatabase {
             Some(held) => {
                 let more = both(held.privileges, privileges);
                 let grant = with_privileges(held, more);
-                self.change_grant(grant);
-                Ok(())
+                Ok(Change::ChangeGrant { grant })
             }
             None => {
                 let grant = Grant {
@@ -44,22 +42,21 @@ impl PlainDatabase {
                     grantee,
                     privileges,
                 };
-                self.add_grant(grant)
+                Ok(Change::AddGrant { grant })
             }
         }
     }
 
-    /// REVOKE: privileges are taken from the grantee's grant, which goes where none is left.
+    /// What REVOKE changes: privileges are taken from the grantee's grant, which goes where none is left.
     #[tactic(auto, unfolding(scql_model::specs::Granting::privileges_revoked))]
-    pub(crate) fn revoke(
-        &mut self,
+    pub(crate) fn privileges_revoked(
+        &self,
         actor: Actor,
         privileges: Privileges,
         name: &Name,
         grantee: &Name,
-    ) -> Result<(), StatusWord>
-        requires valid { IsValid self.old }
-        ensures { Ends self.old self.new result (outcome self.old (granting.privileges_revoked self.old actor privileges name.now grantee.now)) }
+    ) -> Result<Change, StatusWord>
+        ensures { edits_decided self.now result ≡ granting.privileges_revoked self.now actor privileges name.now grantee.now }
     {
         let Some(object) = self.seen_named(actor, name) else {
             return Err(StatusWord::NOT_FOUND);
@@ -75,15 +72,10 @@ impl PlainDatabase {
         };
         match left_of(held.privileges, privileges) {
             Some(left) => {
-                let lessened = with_privileges(held, left);
-                self.change_grant(lessened);
-                Ok(())
+                let grant = with_privileges(held, left);
+                Ok(Change::ChangeGrant { grant })
             }
-            None => {
-                let stamp = held.stamp;
-                self.remove_grant(stamp);
-                Ok(())
-            }
+            None => Ok(Change::RemoveGrant { grant: *held }),
         }
     }
 

@@ -1,15 +1,22 @@
 // INSERT.
+ghost use Rattle.std.specs.Prelude.{◌≡◌};
 ghost use Rattle.scql_model.specs.Writing.{row_inserted};
-ghost use Rattle.plain_database.specs.Effects.{Ends, outcome};
+ghost use Rattle.plain_database.specs.Changes.{edits_decided};
 
+use crate::change::Change;
 use crate::{PlainDatabase, Privilege};
 use scql_base::{Actor, Name, ObjectKind, Row, RowRecord, StatusWord};
 
 impl PlainDatabase {
-    /// INSERT: a row is added behind all others of a table.
+    /// What INSERT changes: a row is added behind all others of a table.
     #[tactic(auto, unfolding(scql_model::specs::Writing::row_inserted))]
-    pub(crate) fn insert(&mut self, actor: Actor, table: &Name, row: &Row) -> Result<(), StatusWord>
-        ensures { Ends self.old self.new result (outcome self.old (row_inserted self.old actor table.now row.now)) }
+    pub(crate) fn row_inserted(
+        &self,
+        actor: Actor,
+        table: &Name,
+        row: &Row,
+    ) -> Result<Change, StatusWord>
+        ensures { edits_decided self.now result ≡ row_inserted self.now actor table.now row.now }
     {
         let Some(object) = self.seen_named(actor, table) else {
             return Err(StatusWord::NOT_FOUND);
@@ -23,11 +30,11 @@ impl PlainDatabase {
         if row.len() != columns.len() {
             return Err(StatusWord::WRONG_DATA);
         }
-        let record = RowRecord {
+        let row = RowRecord {
             stamp: self.next(),
             table: object.stamp,
             row: row.copy(),
         };
-        self.add_row(record)
+        Ok(Change::AddRow { row })
     }
 }

@@ -2,6 +2,7 @@
 #![tactic(auto)]
 
 mod assigning;
+mod change;
 mod changing;
 mod columns;
 mod creating;
@@ -15,7 +16,6 @@ mod matching;
 mod privilege;
 mod reaching;
 mod record;
-mod removing;
 mod replacing;
 mod resolved;
 mod rights;

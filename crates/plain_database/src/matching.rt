@@ -1,10 +1,11 @@
 // Whether rows meet conditions.
-ghost use Rattle.std.specs.Prelude.{◌≡◌, ◌≤◌, [], get_or, length, position};
+ghost use Rattle.std.specs.Prelude.{◌≡◌, ◌≤◌, [], get_or, position};
 ghost use Rattle.std.specs.Str.{bytes_eq};
 ghost use Rattle.scql_base.specs.Row.{row_size};
 ghost use Rattle.scql_base.specs.declared.row.TheConstants.Row.{LARGEST, LONGEST_VALUE};
 ghost use Rattle.scql_model.specs.Contents as contents;
 ghost use Rattle.scql_model.specs.Matching as matching;
+ghost use Rattle.plain_database.specs.Within.{IsWithin};
 
 use scql_base::{Comparison, Condition, Name, NameList, Row};
 
@@ -19,8 +20,7 @@ pub fn matches(columns: &NameList, conditions: &[Condition], row: &Row) -> bool
 
 /// A row's value in a column.
 pub fn value_of<'a>(columns: &NameList, row: &'a Row, column: &Name) -> &'a [u8]
-    ensures value { result.now ≡ matching.value_of columns.now row.now column.now }
-    ensures short { length result.now ≤ LONGEST_VALUE }
+    ensures { IsWithin LONGEST_VALUE result.now (matching.value_of columns.now row.now column.now) }
 {
     match place_of(columns, column) {
         Some(place) => value_at(row, place),
@@ -30,8 +30,7 @@ pub fn value_of<'a>(columns: &NameList, row: &'a Row, column: &Name) -> &'a [u8]
 
 /// A row's value at a place, or nothing.
 pub(crate) fn value_at(row: &Row, place: usize) -> &[u8]
-    ensures value { result.now ≡ get_or row.now place [] }
-    ensures short { length result.now ≤ LONGEST_VALUE }
+    ensures { IsWithin LONGEST_VALUE result.now (get_or row.now place []) }
 {
     prove!(row.len() <= Row::MOST);
     match row.get(place) {

@@ -1,12 +1,12 @@
 // The row at which a cursor stands, and the columns of its table.
-ghost use Rattle.std.specs.Prelude.{◌≡◌, ◌==◌, Some, true, IfSome, length, option_copied};
-ghost use Rattle.std.specs.List.{find};
+ghost use Rattle.std.specs.Prelude.{◌≡◌, Some, true, IfSome, length, option_copied};
 ghost use Rattle.scql_base.specs.declared.records.Object as records;
 ghost use Rattle.scql_model.specs.Cursors.{IsCursorOf};
 ghost use Rattle.scql_model.specs.Defining.{is_table_or_view};
 ghost use Rattle.scql_model.specs.Moves as moves;
 ghost use Rattle.scql_model.specs.Objects.{object_stamped};
 ghost use Rattle.scql_model.specs.Writing as writing;
+ghost use Rattle.plain_database.specs.Sought.{IsRowOf};
 
 use crate::columns::columns_stored;
 use crate::{Sought, ValidDatabase};
@@ -18,7 +18,7 @@ impl<'a> ValidDatabase<'a> {
         requires cursor { IsCursorOf self.now cursor.now }
         requires there { (o : records.Object) × (object_stamped self.now.objects cursor.now.object ≡ Some o) × (is_table_or_view o.kind ≡ true) }
         ensures at { option_copied result ≡ writing.record_at_cursor self.now cursor.now }
-        ensures among { IfSome (option_copied result) (λ r. find (λ s. s.stamp == r.stamp) self.now.rows ≡ Some r) }
+        ensures among { IfSome (option_copied result) (IsRowOf self.now) }
     {
         let Place::At { stamp } = cursor.place else {
             return None;
@@ -31,7 +31,7 @@ impl<'a> ValidDatabase<'a> {
 
     /// The columns of the table of a row.
     pub(crate) fn columns_of_row(&self, row: &RowRecord) -> Option<&'a NameList>
-        requires { find (λ s. s.stamp == row.now.stamp) self.now.rows ≡ Some row.now }
+        requires { IsRowOf self.now row.now }
         ensures columns { option_copied result ≡ Some (writing.columns_of_row self.now row.now) }
         ensures many { length (writing.columns_of_row self.now row.now) ≡ length row.now.row }
     {

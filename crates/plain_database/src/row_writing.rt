@@ -1,31 +1,29 @@
 // UPDATE and DELETE of the row at a cursor.
-ghost use Rattle.std.specs.Prelude.{◌≡◌, ◌==◌, nat_le, Some, None, IfSome, if◌then◌else◌};
-ghost use Rattle.std.specs.List.{find};
+ghost use Rattle.std.specs.Prelude.{◌≡◌, nat_le, Some, None, IfSome, if◌then◌else◌};
 ghost use Rattle.scql_base.specs.Row.{row_size};
 ghost use Rattle.scql_model.specs.Cursors.{IsCursorOf};
-ghost use Rattle.scql_model.specs.Database.{IsValid};
 ghost use Rattle.scql_model.specs.Writing as writing;
-ghost use Rattle.plain_database.specs.Effects.{Ends, outcome};
+ghost use Rattle.plain_database.specs.Changes.{edits_decided};
+ghost use Rattle.plain_database.specs.Sought.{IsRowOf};
 
 use crate::assigning::{are_changed_among, row_after};
+use crate::change::Change;
 use crate::columns::{columns_stored, is_table_or_view};
 use crate::reaching::is_opened;
-use crate::record::Record;
-use crate::{PlainDatabase, Privilege, ValidDatabase};
+use crate::{Privilege, ValidDatabase};
 use scql_base::{Actor, Cursor, PackedChanges, RowRecord, StatusWord};
 
-impl PlainDatabase {
-    /// UPDATE: columns of the row at which a cursor stands get new values.
+impl<'a> ValidDatabase<'a> {
+    /// What UPDATE changes: columns of the row at which a cursor stands get new values.
     #[tactic(auto, unfolding(scql_model::specs::Writing::row_updated))]
-    pub(crate) fn update(
-        &mut self,
+    pub(crate) fn row_updated(
+        &self,
         actor: Actor,
         cursor: &Option<Cursor>,
         changes: &PackedChanges,
-    ) -> Result<(), StatusWord>
-        requires valid { IsValid self.old }
-        requires cursor { IfSome cursor.now (IsCursorOf self.old) }
-        ensures { Ends self.old self.new result (outcome self.old (writing.row_updated self.old actor cursor.now changes.now)) }
+    ) -> Result<Change, StatusWord>
+        requires { IfSome cursor.now (IsCursorOf self.now) }
+        ensures { edits_decided self.now result ≡ writing.row_updated self.now actor cursor.now changes.now }
     {
         let Some(cursor) = cursor else {
             return Err(StatusWord::CONDITIONS_NOT_SATISFIED);
@@ -33,35 +31,36 @@ impl PlainDatabase {
         if !is_opened(cursor.place) {
             return Err(StatusWord::CONDITIONS_NOT_SATISFIED);
         }
-        let valid = self.as_valid();
-        let Some(object) = valid.seen_stamped(actor, cursor.object) else {
+        let Some(object) = self.seen_stamped(actor, cursor.object) else {
             return Err(StatusWord::NOT_FOUND);
         };
         let Some(columns) = columns_stored(&object.kind) else {
             return Err(StatusWord::CONDITIONS_NOT_SATISFIED);
         };
-        if !self.holds(actor, object, Privilege::Update) {
+        if !self.database().holds(actor, object, Privilege::Update) {
             return Err(StatusWord::SECURITY_NOT_SATISFIED);
         }
         if !are_changed_among(columns, changes) {
             return Err(StatusWord::NOT_FOUND);
         }
-        let Some(row) = valid.record_at(cursor) else {
+        let Some(row) = self.record_at(cursor) else {
             return Err(StatusWord::RECORD_NOT_FOUND);
         };
-        let Some(changed) = valid.changed(row, changes) else {
+        let Some(changed) = self.changed(row, changes) else {
             return Err(StatusWord::WRONG_DATA);
         };
-        let before = row.cells();
-        self.change_row(changed, before)
+        Ok(Change::ChangeRow { row: changed })
     }
 
-    /// DELETE: the row at which a cursor stands goes.
+    /// What DELETE changes: the row at which a cursor stands goes.
     #[tactic(auto, unfolding(scql_model::specs::Writing::row_deleted))]
-    pub(crate) fn delete(&mut self, actor: Actor, cursor: &Option<Cursor>) -> Result<(), StatusWord>
-        requires valid { IsValid self.old }
-        requires cursor { IfSome cursor.now (IsCursorOf self.old) }
-        ensures { Ends self.old self.new result (outcome self.old (writing.row_deleted self.old actor cursor.now)) }
+    pub(crate) fn row_deleted(
+        &self,
+        actor: Actor,
+        cursor: &Option<Cursor>,
+    ) -> Result<Change, StatusWord>
+        requires { IfSome cursor.now (IsCursorOf self.now) }
+        ensures { edits_decided self.now result ≡ writing.row_deleted self.now actor cursor.now }
     {
         let Some(cursor) = cursor else {
             return Err(StatusWord::CONDITIONS_NOT_SATISFIED);
@@ -69,29 +68,24 @@ impl PlainDatabase {
         if !is_opened(cursor.place) {
             return Err(StatusWord::CONDITIONS_NOT_SATISFIED);
         }
-        let valid = self.as_valid();
-        let Some(object) = valid.seen_stamped(actor, cursor.object) else {
+        let Some(object) = self.seen_stamped(actor, cursor.object) else {
             return Err(StatusWord::NOT_FOUND);
         };
         if !is_table_or_view(&object.kind) {
             return Err(StatusWord::CONDITIONS_NOT_SATISFIED);
         }
-        if !self.holds(actor, object, Privilege::Delete) {
+        if !self.database().holds(actor, object, Privilege::Delete) {
             return Err(StatusWord::SECURITY_NOT_SATISFIED);
         }
-        let Some(row) = valid.record_at(cursor) else {
+        let Some(row) = self.record_at(cursor) else {
             return Err(StatusWord::RECORD_NOT_FOUND);
         };
-        let stamp = row.stamp;
-        self.remove_row(stamp);
-        Ok(())
+        Ok(Change::RemoveRow { row: row.copy() })
     }
-}
 
-impl<'a> ValidDatabase<'a> {
     // A row after changes, where it is within the card's limit.
     fn changed(&self, row: &RowRecord, changes: &PackedChanges) -> Option<RowRecord>
-        requires { find (λ s. s.stamp == row.now.stamp) self.now.rows ≡ Some row.now }
+        requires { IsRowOf self.now row.now }
         ensures { result ≡ (if nat_le (row_size (writing.row_after self.now changes.now row.now).row) self.now.limit then Some (writing.row_after self.now changes.now row.now) else None) }
     {
         let database = self.database();

@@ -1,11 +1,9 @@
 // The rows that a cursor shows, through the views between it and their table.
-ghost use Rattle.std.specs.Prelude.{◌≡◌, ◌==◌, ◌≤◌, Some, IfSome, option_copied, option_map};
+ghost use Rattle.std.specs.Prelude.{◌≡◌, ◌≤◌, IfSome, option_copied, option_map};
 ghost use Rattle.std.specs.List.{find};
 ghost use Rattle.scql_base.specs.Row.{row_size};
 ghost use Rattle.scql_base.specs.declared.row.TheConstants.Row.{LARGEST};
 ghost use Rattle.scql_model.specs.Contents.{cut_to};
-ghost use Rattle.scql_model.specs.Cursors.{IsCursorOf};
-ghost use Rattle.scql_model.specs.Resolving as resolving;
 ghost use Rattle.plain_database.specs.Sought as model;
 
 use crate::matching::{cut_to, matches};
@@ -27,10 +25,9 @@ impl<'a> ValidDatabase<'a> {
         cursor: &Cursor,
         sought: Sought,
     ) -> Option<&'a RowRecord>
-        requires cursor { IsCursorOf self.now cursor.now }
-        requires resolved { resolving.resolved_of self.now.objects cursor.now.object ≡ Some resolved.now }
+        requires { model.IsResolvedFor self.now cursor.now resolved.now }
         ensures shown { option_map (model.row_through resolved.now cursor.now.columns) (option_copied result) ≡ model.sought_row self.now cursor.now sought }
-        ensures among { IfSome (option_copied result) (λ r. find (λ s. s.stamp == r.stamp) self.now.rows ≡ Some r) }
+        ensures among { IfSome (option_copied result) (model.IsRowOf self.now) }
         ensures table { IfSome (option_copied result) (λ r. r.table ≡ resolved.now.table) }
         ensures fits { IfSome (option_copied result) (λ r. row_size (cut_to resolved.now.all cursor.now.columns r.row) ≤ LARGEST) }
     {
@@ -45,8 +42,7 @@ impl<'a> ValidDatabase<'a> {
         cursor: &Cursor,
         sought: Sought,
     ) -> Option<ShownRow>
-        requires cursor { IsCursorOf self.now cursor.now }
-        requires resolved { resolving.resolved_of self.now.objects cursor.now.object ≡ Some resolved.now }
+        requires { model.IsResolvedFor self.now cursor.now resolved.now }
         ensures { option_map model.row_shown result ≡ model.sought_row self.now cursor.now sought }
     {
         let found = self.find_record(resolved, cursor, sought)?;

@@ -4,7 +4,7 @@ ghost use Rattle.eeprom.specs.Slots.{Rises};
 ghost use Rattle.plain_database.specs.Sought as model;
 
 use crate::Stamped;
-use crate::stamped::{behind_stamp, with_stamp};
+use crate::stamped::place_of;
 
 /// Which of the rows that a cursor shows is sought.
 #[derive(Clone, Copy, PartialEq, Eq, Debug)]
@@ -24,8 +24,14 @@ impl Sought {
     {
         match self {
             Sought::First => records,
-            Sought::Behind { stamp } => behind_stamp(records, stamp),
-            Sought::At { stamp } => with_stamp(records, stamp),
+            Sought::Behind { stamp } => {
+                let from = records.partition_point(|record| record.stamp() <= stamp);
+                &records[from..]
+            }
+            Sought::At { stamp } => match place_of(records, stamp) {
+                Some(place) => &records[place..place + 1],
+                None => &[],
+            },
         }
     }
 }

@@ -1,5 +1,5 @@
 // Records whose stamps rise. A search for one by its stamp halves what is left at each turn.
-ghost use Rattle.std.specs.Prelude.{ℕ, ◌≡◌, ◌<◌, IfSome, filter, length, nat_lt, option_copied};
+ghost use Rattle.std.specs.Prelude.{ℕ, ◌≡◌, ◌<◌, IfSome, length, option_copied};
 ghost use Rattle.std.specs.List.{find, position};
 ghost use Rattle.eeprom.specs.Slots.{Rises, has};
 
@@ -65,24 +65,4 @@ pub(crate) fn find_stamped<R: Stamped>(records: &[R], stamp: u32) -> Option<&R>
 {
     let place = place_of(records, stamp)?;
     Some(&records[place])
-}
-
-/// The record of a stamp, and no other.
-pub(crate) fn with_stamp<R: Stamped>(records: &[R], stamp: u32) -> &[R]
-    requires rises { Rises R.stamp_of records.now }
-    ensures { result.now ≡ filter (has R.stamp_of stamp) records.now }
-{
-    match place_of(records, stamp) {
-        Some(place) => &records[place..place + 1],
-        None => &[],
-    }
-}
-
-/// The records behind that of a stamp.
-pub(crate) fn behind_stamp<R: Stamped>(records: &[R], stamp: u32) -> &[R]
-    requires rises { Rises R.stamp_of records.now }
-    ensures { result.now ≡ filter (λ r. nat_lt stamp (R.stamp_of r)) records.now }
-{
-    let from = records.partition_point(|record| record.stamp() <= stamp);
-    &records[from..]
 }

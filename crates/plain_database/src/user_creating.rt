@@ -3,22 +3,23 @@ ghost use Rattle.std.specs.Prelude.{◌≡◌};
 ghost use Rattle.std.specs.List.{list_any};
 ghost use Rattle.scql_model.specs.Creating as creating;
 ghost use Rattle.scql_model.specs.Rules as rules;
-ghost use Rattle.plain_database.specs.Effects.{Ends, outcome};
+ghost use Rattle.plain_database.specs.Changes.{edits_decided};
 
 use crate::PlainDatabase;
+use crate::change::Change;
 use crate::rights::actor_stamp;
 use scql_base::{Actor, Name, Octets, Profile, StatusWord, User};
 
 impl PlainDatabase {
-    /// CREATE USER.
-    pub(crate) fn create_user(
-        &mut self,
+    /// What CREATE USER changes.
+    pub(crate) fn user_added(
+        &self,
         actor: Actor,
         name: &Name,
         profile: Profile,
         secret: &Octets<8>,
-    ) -> Result<(), StatusWord>
-        ensures { Ends self.old self.new result (outcome self.old (creating.user_added self.old actor name.now profile secret.now)) }
+    ) -> Result<Change, StatusWord>
+        ensures { edits_decided self.now result ≡ creating.user_added self.now actor name.now profile secret.now }
     {
         if !may_create(actor, profile) {
             return Err(StatusWord::SECURITY_NOT_SATISFIED);
@@ -34,7 +35,7 @@ impl PlainDatabase {
             secret: secret.copy(),
             tries: User::ALL_TRIES,
         };
-        self.add_user(user)
+        Ok(Change::AddUser { user })
     }
 
     // Whether a user has a name.

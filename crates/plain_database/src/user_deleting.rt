@@ -1,20 +1,19 @@
 // DELETE USER.
 ghost use Rattle.std.specs.Prelude.{◌≡◌, ◌==◌};
 ghost use Rattle.std.specs.List.{list_any};
-ghost use Rattle.scql_model.specs.Database.{IsValid};
 ghost use Rattle.scql_model.specs.Users as users;
-ghost use Rattle.plain_database.specs.Effects.{Ends, outcome};
+ghost use Rattle.plain_database.specs.Changes.{edits_decided};
 
 use crate::PlainDatabase;
+use crate::change::Change;
 use crate::rights::is_owned_by;
 use scql_base::{Actor, Name, Profile, StatusWord, User};
 
 impl PlainDatabase {
-    /// DELETE USER.
+    /// What DELETE USER changes.
     #[tactic(auto, unfolding(scql_model::specs::Users::user_deleted))]
-    pub(crate) fn delete_user(&mut self, actor: Actor, name: &Name) -> Result<(), StatusWord>
-        requires valid { IsValid self.old }
-        ensures { Ends self.old self.new result (outcome self.old (users.user_deleted self.old actor name.now)) }
+    pub(crate) fn user_deleted(&self, actor: Actor, name: &Name) -> Result<Change, StatusWord>
+        ensures { edits_decided self.now result ≡ users.user_deleted self.now actor name.now }
     {
         let Some(user) = self.user_named(name) else {
             return Err(StatusWord::NOT_FOUND);
@@ -25,9 +24,7 @@ impl PlainDatabase {
         if self.is_needed(user) {
             return Err(StatusWord::CONDITIONS_NOT_SATISFIED);
         }
-        let stamp = user.stamp;
-        self.remove_user(stamp);
-        Ok(())
+        Ok(Change::RemoveUser { user: user.copy() })
     }
 
     // Whether a user is OWNER, or owns users or objects.
