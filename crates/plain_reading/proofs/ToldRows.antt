@@ -6,7 +6,7 @@ use Rattle.scql_base.specs.declared.condition.Condition.{Condition}
 use Rattle.scql_base.specs.declared.records.Object.{Object}
 use Rattle.scql_base.specs.declared.records.ObjectKind.TheVariants.{Dictionary}
 use Rattle.scql_base.specs.declared.words.Subject.{Subject}
-use Rattle.scql_model.specs.Contents.{contents_of, narrowed}
+use Rattle.scql_model.specs.Contents.{contents_of, cut_to, narrowed}
 use Rattle.scql_model.specs.Database.{Database, object_stamped}
 use Rattle.scql_model.specs.Dictionaries.{rows_told}
 use Rattle.scql_model.specs.Matching.{Columns, matches}
@@ -14,7 +14,14 @@ use Rattle.scql_model.specs.Objects.{StampedRow, dictionary_columns}
 use Rattle.plain_database.specs.Sought.{admits}
 use Rattle.plain_database.specs.declared.sought.Sought.{Sought}
 use Rattle.plain_database.proofs.SoughtRows.{and-swap, find-filter, find-image}
-use Rattle.plain_reading.specs.Found.{is_sought_row, row_cut}
+
+-- a told row is the one that is sought, where the dictionary has these columns
+abbrev pub is_sought_row : Columns → List Condition → Sought → StampedRow → Bool
+is_sought_row columns conditions sought r = admits sought r.stamp && matches columns conditions r.values
+
+-- a told row, cut to the wanted columns
+abbrev row_cut : Columns → Columns → StampedRow → StampedRow
+row_cut columns wanted r = record r { values = cut_to columns wanted r.values }
 
 -- the first of the records that are admitted of which it is told, and whose row meets the conditions, is told and sought
 pub told-admitted : {X : Type 0} (tells : X → Bool) (told : X → StampedRow) (stamp_of : X → ℕ) (columns : Columns) (conditions : List Condition) (sought : Sought) (records : List X)

@@ -1,16 +1,18 @@
--- What a cursor shows of a dictionary.
-use Rattle.std.specs.Prelude.{◌&&◌, Bool, List}
-use Rattle.scql_base.specs.declared.condition.Condition.{Condition}
-use Rattle.scql_model.specs.Contents.{cut_to}
-use Rattle.scql_model.specs.Matching.{Columns, matches}
-use Rattle.scql_model.specs.Objects.{StampedRow}
-use Rattle.plain_database.specs.Sought.{admits}
-use Rattle.plain_database.specs.declared.sought.Sought.{Sought}
+-- What a cursor is over.
+use Rattle.std.specs.Prelude.{◌≡◌, true, Some}
+use Rattle.scql_base.specs.declared.cursor.Cursor.{Cursor}
+use Rattle.scql_base.specs.declared.records.Object.{Object}
+use Rattle.scql_model.specs.Cursors.{IsCursorOf}
+use Rattle.scql_model.specs.Database.{Database, are_among, are_different}
+use Rattle.scql_model.specs.Matching.{Columns}
+use Rattle.scql_model.specs.Objects.{object_stamped}
 
--- a told row is the one that is sought, where the dictionary has these columns
-abbrev pub is_sought_row : Columns → List Condition → Sought → StampedRow → Bool
-is_sought_row columns conditions sought r = admits sought r.stamp && matches columns conditions r.values
+-- Columns are different ones of these.
+pub record AreColumnsOf (all columns : Columns) : Type 0 where
+  pub different : are_different columns ≡ true
+  pub among : are_among columns all ≡ true
 
--- a told row, cut to the wanted columns
-abbrev pub row_cut : Columns → Columns → StampedRow → StampedRow
-row_cut columns wanted r = record r { values = cut_to columns wanted r.values }
+-- A cursor of a database is over this object.
+pub record IsOver (db : Database) (c : Cursor) (o : Object) : Type 0 where
+  pub cursor : IsCursorOf db c
+  pub object : object_stamped db.objects c.object ≡ Some o

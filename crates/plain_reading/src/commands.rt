@@ -1,8 +1,10 @@
 // The commands that read.
 ghost use Rattle.std.specs.Prelude.{◌≡◌, IfSome, option_map};
 ghost use Rattle.scql_model.specs.ReadingCommands.{reading_command};
-ghost use Rattle.plain_reading.specs.Commands.{HasLe, IsLe, command_seen};
+ghost use Rattle.plain_reading.specs.Commands.{command_seen};
+ghost use Rattle.plain_reading.specs.Le.{IsLe};
 
+use crate::Le;
 use scql_base::{Conditions, Name, NameList, Operation};
 
 /// A reading command; those that give octets have an Le, the greatest number of octets wanted.
@@ -16,13 +18,13 @@ pub enum ReadingCommand<'a> {
     OpenCursor,
     Next,
     Fetch {
-        le: u16,
+        le: Le,
     },
     FetchNext {
-        le: u16,
+        le: Le,
     },
     GetResponse {
-        le: u16,
+        le: Le,
     },
 }
 
@@ -30,8 +32,7 @@ impl<'a> ReadingCommand<'a> {
     /// The reading command that an operation is with its Le, if it is one.
     pub fn of(operation: &'a Operation, le: Option<u16>) -> Option<ReadingCommand<'a>>
         requires { IfSome le IsLe }
-        ensures command { option_map command_seen result ≡ reading_command operation.now le }
-        ensures le { IfSome result HasLe }
+        ensures { option_map command_seen result ≡ reading_command operation.now le }
     {
         match operation {
             Operation::DeclareCursor {
@@ -45,9 +46,9 @@ impl<'a> ReadingCommand<'a> {
             }),
             Operation::OpenCursor => Some(ReadingCommand::OpenCursor),
             Operation::Next => Some(ReadingCommand::Next),
-            Operation::Fetch => Some(ReadingCommand::Fetch { le: le? }),
-            Operation::FetchNext => Some(ReadingCommand::FetchNext { le: le? }),
-            Operation::GetResponse => Some(ReadingCommand::GetResponse { le: le? }),
+            Operation::Fetch => Some(ReadingCommand::Fetch { le: Le::new(le?) }),
+            Operation::FetchNext => Some(ReadingCommand::FetchNext { le: Le::new(le?) }),
+            Operation::GetResponse => Some(ReadingCommand::GetResponse { le: Le::new(le?) }),
             _ => None,
         }
     }

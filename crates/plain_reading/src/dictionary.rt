@@ -1,14 +1,13 @@
 // The rows that a cursor shows of a dictionary.
-ghost use Rattle.std.specs.Prelude.{◌≡◌, ◌&&◌, List, filter, length, map, option_copied, option_map, true};
+ghost use Rattle.std.specs.Prelude.{◌≡◌, ◌&&◌, List, filter, length, map, option_copied, option_map};
 ghost use Rattle.std.specs.List.{find};
 ghost use Rattle.scql_model.specs.Contents.{narrowed};
 ghost use Rattle.eeprom.specs.Slots.{Rises};
-ghost use Rattle.scql_model.specs.Database.{are_among, are_different};
 ghost use Rattle.scql_model.specs.Dictionaries.{rows_told, tells_of};
 ghost use Rattle.scql_model.specs.Matching as matching;
 ghost use Rattle.scql_model.specs.Objects as objects;
 ghost use Rattle.plain_database.specs.Sought.{admits, row_shown};
-ghost use Rattle.plain_reading.specs.Found.{is_sought_row};
+ghost use Rattle.plain_reading.specs.Found.{AreColumnsOf};
 
 use crate::texts::dictionary_columns;
 use crate::told::Told;
@@ -26,8 +25,7 @@ pub(crate) fn find_told(
     cursor: &Cursor,
     sought: Sought,
 ) -> Option<ShownRow>
-    requires different { are_different cursor.now.columns ≡ true }
-    requires among { are_among cursor.now.columns (objects.dictionary_columns subject) ≡ true }
+    requires { AreColumnsOf (objects.dictionary_columns subject) cursor.now.columns }
     ensures { option_map row_shown result ≡ find (λ r. admits sought r.stamp)
         (narrowed cursor.now.columns cursor.now.conditions (record { columns = objects.dictionary_columns subject; rows = rows_told database.now owner subject })) }
 {
@@ -62,34 +60,19 @@ impl<'a> Dictionary<'a> {
         sought: Sought,
     ) -> Option<ShownRow>
         requires rises { Rises R.stamp_of records.now }
-        requires different { are_different cursor.now.columns ≡ true }
-        requires among { are_among cursor.now.columns self.now.columns.now ≡ true }
+        requires wanted { AreColumnsOf self.now.columns.now cursor.now.columns }
         requires many { (entry : R) → length (R.told self.now.database.now entry).values ≡ length self.now.columns.now }
         ensures { option_map row_shown result ≡ find (λ r. admits sought r.stamp)
             (narrowed cursor.now.columns cursor.now.conditions
             (record { columns = self.now.columns.now; rows = map (R.told self.now.database.now) (filter (λ r. tells_of self.now.owner (R.owned_by self.now.database.now r)) records.now) })) }
     {
-        let found = self.find_record(records, cursor, sought)?;
+        let found = self.find_among(sought.admitted(records), cursor)?;
         let values = found.values(self.database);
         prove!(values.len() <= Row::MOST);
         Some(ShownRow {
             stamp: found.stamp(),
             values: cut_to(self.columns, &cursor.columns, &values),
         })
-    }
-
-    // The first record of which the dictionary tells, and whose row is sought.
-    fn find_record<'b, R: Told>(
-        &self,
-        records: &'b [R],
-        cursor: &Cursor,
-        sought: Sought,
-    ) -> Option<&'b R>
-        requires rises { Rises R.stamp_of records.now }
-        ensures { option_copied result ≡ find (λ r. tells_of self.now.owner (R.owned_by self.now.database.now r)
-            && is_sought_row self.now.columns.now cursor.now.conditions sought (R.told self.now.database.now r)) records.now }
-    {
-        self.find_among(sought.admitted(records), cursor)
     }
 
     // The first record of which the dictionary tells, and whose row meets a cursor's conditions.

@@ -4,6 +4,7 @@
 mod commands;
 mod dictionary;
 mod found;
+mod le;
 mod moving;
 mod names;
 mod readable;
@@ -12,5 +13,6 @@ mod texts;
 mod told;
 
 pub use commands::ReadingCommand;
+pub use le::Le;
 pub use moving::read;
 pub use reading::Reading;

@@ -1,19 +1,19 @@
 // The reading commands: what each answers, and what it makes of a session's cursor and of what is left of an answer.
-ghost use Rattle.std.specs.Prelude.{◌≡◌, ◌<◌, Some, IfSome, OnErr, option_map};
+ghost use Rattle.std.specs.Prelude.{◌≡◌, Some, IfSome, option_map};
 ghost use Rattle.scql_base.specs.Words.{wrong_le};
 ghost use Rattle.scql_base.specs.declared.cursor.Cursor as cursors;
 ghost use Rattle.scql_model.specs.Cursors.{IsCursorOf};
 ghost use Rattle.scql_model.specs.Moves as moves;
 ghost use Rattle.scql_model.specs.ReadingCommands as commands;
 ghost use Rattle.plain_database.specs.Sought.{row_shown};
-ghost use Rattle.plain_reading.specs.Commands.{HasLe, IsLe, command_seen};
+ghost use Rattle.plain_reading.specs.Commands.{command_seen};
 ghost use Rattle.plain_database.specs.Effects.{ended};
 ghost use Rattle.plain_reading.specs.Outcomes.{Answers, given};
 
 use crate::found::{find_row, row_behind};
 use crate::readable::{opened, readable};
 use crate::texts::columns_of;
-use crate::{Reading, ReadingCommand};
+use crate::{Le, Reading, ReadingCommand};
 use apdu::Reply;
 use plain_database::{Privilege, ShownRow, Sought, ValidDatabase, are_named_among, wanted_of};
 use scql_base::{Actor, Conditions, Cursor, Name, NameList, Place, Row, StatusWord};
@@ -26,8 +26,7 @@ pub fn read(
     command: &ReadingCommand<'_>,
     reply: &mut Reply,
 ) -> Result<(), StatusWord>
-    requires cursor { IfSome reading.old.cursor (IsCursorOf database.now) }
-    requires le { HasLe command.now }
+    requires { IfSome reading.old.cursor (IsCursorOf database.now) }
     ensures { Answers reading.old reading.new reply.new result (moves.moved database.now actor reading.old (command_seen command.now)) }
 {
     match command {
@@ -84,7 +83,7 @@ fn open_cursor(
     reading: &mut Reading,
     reply: &mut Reply,
 ) -> Result<(), StatusWord>
-    requires cursor { IfSome reading.old.cursor (IsCursorOf database.now) }
+    requires { IfSome reading.old.cursor (IsCursorOf database.now) }
     ensures { Answers reading.old reading.new reply.new result (moves.moved database.now actor reading.old commands.open_cursor) }
 {
     let Some(cursor) = &reading.cursor else {
@@ -103,7 +102,7 @@ fn next(
     reading: &mut Reading,
     reply: &mut Reply,
 ) -> Result<(), StatusWord>
-    requires cursor { IfSome reading.old.cursor (IsCursorOf database.now) }
+    requires { IfSome reading.old.cursor (IsCursorOf database.now) }
     ensures { Answers reading.old reading.new reply.new result (moves.moved database.now actor reading.old commands.next) }
 {
     let cursor = opened(&reading.cursor)?;
@@ -118,11 +117,10 @@ fn fetch(
     database: &ValidDatabase<'_>,
     actor: Actor,
     reading: &mut Reading,
-    le: u16,
+    le: Le,
     reply: &mut Reply,
 ) -> Result<(), StatusWord>
-    requires cursor { IfSome reading.old.cursor (IsCursorOf database.now) }
-    requires le { IsLe le }
+    requires { IfSome reading.old.cursor (IsCursorOf database.now) }
     ensures { Answers reading.old reading.new reply.new result (moves.moved database.now actor reading.old (commands.fetch le)) }
 {
     let cursor = opened(&reading.cursor)?;
@@ -147,11 +145,10 @@ fn fetch_next(
     database: &ValidDatabase<'_>,
     actor: Actor,
     reading: &mut Reading,
-    le: u16,
+    le: Le,
     reply: &mut Reply,
 ) -> Result<(), StatusWord>
-    requires cursor { IfSome reading.old.cursor (IsCursorOf database.now) }
-    requires le { IsLe le }
+    requires { IfSome reading.old.cursor (IsCursorOf database.now) }
     ensures { Answers reading.old reading.new reply.new result (moves.moved database.now actor reading.old (commands.fetch_next le)) }
 {
     let cursor = opened(&reading.cursor)?;
@@ -173,10 +170,9 @@ fn get_response(
     database: &ValidDatabase<'_>,
     actor: Actor,
     reading: &mut Reading,
-    le: u16,
+    le: Le,
     reply: &mut Reply,
 ) -> Result<(), StatusWord>
-    requires le { IsLe le }
     ensures { Answers reading.old reading.new reply.new result (moves.moved database.now actor reading.old (commands.get_response le)) }
 {
     let Some(cursor) = &reading.cursor else {
@@ -186,7 +182,7 @@ fn get_response(
     if reading.pending.is_empty() {
         return Err(StatusWord::CONDITIONS_NOT_SATISFIED);
     }
-    reading.pending.more(le, reply);
+    reading.pending.more(le.octets(), reply);
     Ok(())
 }
 
@@ -208,12 +204,10 @@ fn give_row(
     reading: &mut Reading,
     place: Place,
     values: &Row,
-    le: u16,
+    le: Le,
     reply: &mut Reply,
 ) -> Result<(), StatusWord>
-    requires le { IsLe le }
-    ensures gave { (c : cursors.Cursor) → reading.old.cursor ≡ Some c → ended result (record { reply = reply.new; after = reading.new }) ≡ given place c le values.now }
-    ensures same { OnErr result (reading.new ≡ reading.old) }
+    ensures { (c : cursors.Cursor) → reading.old.cursor ≡ Some c → Answers reading.old reading.new reply.new result (given place c le values.now) }
 {
     prove!(values.len() <= Row::MOST);
     let octets = values.octets();
@@ -223,10 +217,11 @@ fn give_row(
 }
 
 // Octets that Le allows as a whole; with Le 256 an answer may be longer, and is given in parts.
-fn fit(le: u16, octets: &[u8]) -> Result<(), StatusWord>
+fn fit(le: Le, octets: &[u8]) -> Result<(), StatusWord>
     ensures { ended result octets.now ≡ commands.fitting le octets.now }
 {
-    if octets.len() <= usize::from(le) || le == 256 {
+    let most = le.octets();
+    if octets.len() <= usize::from(most) || most == 256 {
         Ok(())
     } else {
         Err(wrong_le(octets.len()))

@@ -5,6 +5,7 @@ ghost use Rattle.scql_base.specs.declared.row.TheConstants.Row.{LARGEST};
 ghost use Rattle.scql_model.specs.Machine.{no_reading};
 ghost use Rattle.scql_model.specs.Moves as moves;
 
+use crate::Le;
 use apdu::Reply;
 use apdu_chain::Pending;
 use scql_base::{Cursor, Place, StatusWord};
@@ -54,14 +55,12 @@ impl Reading {
     }
 
     // The cursor stands at a place, and octets are given as far as Le allows. The rest is pending.
-    pub(crate) fn give(&mut self, place: Place, le: u16, octets: &[u8], reply: &mut Reply)
-        requires row { length octets.now ≤ LARGEST }
-        requires least { 1 ≤ le }
-        requires most { le ≤ 256 }
+    pub(crate) fn give(&mut self, place: Place, le: Le, octets: &[u8], reply: &mut Reply)
+        requires { length octets.now ≤ LARGEST }
         ensures { (c : cursors.Cursor) → self.old.cursor ≡ Some c → record { reply = reply.new; after = self.new } ≡ moves.giving place c le octets.now }
     {
         self.set_place(place);
-        self.pending.start(octets, le, reply);
+        self.pending.start(octets, le.octets(), reply);
     }
 
     // The cursor, if there is one, stands at a place.

@@ -6,6 +6,7 @@ ghost use Rattle.scql_base.specs.declared.name_list.TheConstants.NameList.{MOST}
 ghost use Rattle.scql_base.specs.declared.row.TheConstants.Row.{LONGEST_VALUE};
 ghost use Rattle.scql_model.specs.Dictionaries.{columns_told};
 ghost use Rattle.scql_model.specs.Objects as objects;
+ghost use Rattle.plain_database.specs.Within.{IsWithin};
 
 use arrayvec::ArrayVec;
 use scql_base::{Name, NameList, ObjectKind, Row, Subject};
@@ -49,8 +50,7 @@ pub(crate) fn dictionary_columns(subject: Subject) -> NameList
 
 /// The names of an object's columns, with a comma between each two.
 pub(crate) fn columns_text(kind: &ObjectKind) -> ArrayVec<u8, { Row::LONGEST_VALUE }>
-    ensures text { result.items ≡ columns_told kind.now }
-    ensures short { length result.items ≤ LONGEST_VALUE }
+    ensures { IsWithin LONGEST_VALUE result.items (columns_told kind.now) }
 {
     let columns = columns_of(kind);
     joined(columns.as_slice())
@@ -59,8 +59,7 @@ pub(crate) fn columns_text(kind: &ObjectKind) -> ArrayVec<u8, { Row::LONGEST_VAL
 // Names, with a comma between each two.
 fn joined(names: &[Name]) -> ArrayVec<u8, { Row::LONGEST_VALUE }>
     requires few { length names.now ≤ MOST }
-    ensures text { result.items ≡ join_with_byte 0x2C names.now }
-    ensures short { length result.items ≤ LONGEST_VALUE }
+    ensures { IsWithin LONGEST_VALUE result.items (join_with_byte 0x2C names.now) }
 {
     match names {
         [first, others @ ..] => joined_to(first, others),
@@ -71,8 +70,7 @@ fn joined(names: &[Name]) -> ArrayVec<u8, { Row::LONGEST_VALUE }>
 // A name and others behind it, with a comma between each two.
 fn joined_to(first: &Name, others: &[Name]) -> ArrayVec<u8, { Row::LONGEST_VALUE }>
     requires few { length others.now < MOST }
-    ensures text { result.items ≡ join_with_byte 0x2C (first.now ∷ others.now) }
-    ensures short { length result.items ≤ LONGEST_VALUE }
+    ensures { IsWithin LONGEST_VALUE result.items (join_with_byte 0x2C (first.now ∷ others.now)) }
 {
     let mut text = ArrayVec::new();
     extend(&mut text, first.octets());

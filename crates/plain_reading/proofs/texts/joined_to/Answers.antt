@@ -27,7 +27,10 @@ loop-name-preserved c =
       short = omega (arith, size, c.push.ensures.len, c.octets-in-loop-name.ensures.short, c.loop-name.invariant.short);
     }
 
-pub returns-clause-text : goal.returns-clause-text
-returns-clause-text c =
+pub returns : goal.returns
+returns c =
     let text = c.loop-name.text.items in
-    sym (commas-none text) ∙ sym (at_drop_all (λ (names : List (List ℕ)). text ++ commas names) c.args.others.now c.loop-name.name-index c.loop-name-test.false) ∙ sym c.loop-name.invariant.text
+    record {
+      value = sym (commas-none text) ∙ sym (at_drop_all (λ (names : List (List ℕ)). text ++ commas names) c.args.others.now c.loop-name.name-index c.loop-name-test.false) ∙ sym c.loop-name.invariant.text;
+      short = omega (arith, c.loop-name.invariant.short, c.loop-name-test.false, c.requires.few);
+    }
