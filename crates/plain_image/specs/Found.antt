@@ -1,5 +1,5 @@
 -- What is found in the slots of a store.
-use Rattle.std.specs.Prelude.{◌≡◌, ℕ, ◌≤◌, ◌&&◌, Bool, true, List, [], ◌∷◌, length, Option, Some, None}
+use Rattle.std.specs.Prelude.{◌≡◌, ℕ, ◌≤◌, ◌&&◌, Bool, true, List, [], ◌∷◌, length, Option, Some, None, Result, IfOk, OnOk, is_some}
 use Rattle.std.specs.List.{list_all}
 use Rattle.std.specs.Option.{option_map_or}
 use Rattle.eeprom.specs.StoreOf.{Slots}
@@ -53,3 +53,11 @@ pub record AreWithin (db : Database) : Type 0 where
   pub objects : list_all object_fits db.objects ≡ true
   pub grants : list_all grant_record.fits db.grants ≡ true
   pub rows : list_all row_record.fits db.rows ≡ true
+
+-- Octets were put among the records of a kind, where they are one.
+pub record PutsFound {X E : Type 0} (fits : X → Bool) (found : Option X) (old new : List X) (result : Result Bool E) (put' : Type 0) : Type 0 where
+  -- it is said whether they are one
+  pub known : IfOk result (λ known. known ≡ is_some found)
+  pub put : OnOk result put'
+  -- records that were within the limits of the kind are so still
+  pub limits : list_all fits old ≡ true → OnOk result (list_all fits new ≡ true)

@@ -8,7 +8,7 @@ ghost use Rattle.scql_model.specs.Database.{IsValid};
 ghost use Rattle.scql_model.specs.Opens.{Holds, counter_stamp, is_spelled};
 ghost use Rattle.scql_model.specs.Rules.{is_short};
 ghost use Rattle.scql_model.specs.Records.{counter_in, user_in, object_in, grant_in, row_in, user_record, object_fits, grant_record, row_record};
-ghost use Rattle.plain_image.specs.Found.{AreCounters, AreWithin, is_admitted, is_short_object, put_found, records_in};
+ghost use Rattle.plain_image.specs.Found.{AreCounters, AreWithin, PutsFound, is_admitted, is_short_object, put_found, records_in};
 
 use crate::PlainStore;
 use crate::counters::Counters;
@@ -102,9 +102,7 @@ fn put_record(database: &mut PlainDatabase, octets: &[u8]) -> Result<bool, Alloc
 
 // Puts a user into a database, where the octets are those of one.
 fn put_user(database: &mut PlainDatabase, octets: &[u8]) -> Result<bool, AllocError>
-    ensures known { IfOk result (λ known. known ≡ is_some (user_in octets.now)) }
-    ensures put { OnOk result (database.new ≡ record database.old { users = put_found (λ u. u.stamp) (user_in octets.now) database.old.users }) }
-    ensures limits { list_all user_record.fits database.old.users ≡ true → OnOk result (list_all user_record.fits database.new.users ≡ true) }
+    ensures { PutsFound user_record.fits (user_in octets.now) database.old.users database.new.users result (database.new ≡ record database.old { users = put_found (λ u. u.stamp) (user_in octets.now) database.old.users }) }
 {
     match User::decode(octets) {
         Some(user) => {
@@ -117,9 +115,7 @@ fn put_user(database: &mut PlainDatabase, octets: &[u8]) -> Result<bool, AllocEr
 
 // Puts an object into a database, where the octets are those of one.
 fn put_object(database: &mut PlainDatabase, octets: &[u8]) -> Result<bool, AllocError>
-    ensures known { IfOk result (λ known. known ≡ is_some (object_in octets.now)) }
-    ensures put { OnOk result (database.new ≡ record database.old { objects = put_found (λ o. o.stamp) (object_in octets.now) database.old.objects }) }
-    ensures limits { list_all object_fits database.old.objects ≡ true → OnOk result (list_all object_fits database.new.objects ≡ true) }
+    ensures { PutsFound object_fits (object_in octets.now) database.old.objects database.new.objects result (database.new ≡ record database.old { objects = put_found (λ o. o.stamp) (object_in octets.now) database.old.objects }) }
 {
     match Object::decode(octets) {
         Some(object) => {
@@ -132,9 +128,7 @@ fn put_object(database: &mut PlainDatabase, octets: &[u8]) -> Result<bool, Alloc
 
 // Puts a grant into a database, where the octets are those of one.
 fn put_grant(database: &mut PlainDatabase, octets: &[u8]) -> Result<bool, AllocError>
-    ensures known { IfOk result (λ known. known ≡ is_some (grant_in octets.now)) }
-    ensures put { OnOk result (database.new ≡ record database.old { grants = put_found (λ g. g.stamp) (grant_in octets.now) database.old.grants }) }
-    ensures limits { list_all grant_record.fits database.old.grants ≡ true → OnOk result (list_all grant_record.fits database.new.grants ≡ true) }
+    ensures { PutsFound grant_record.fits (grant_in octets.now) database.old.grants database.new.grants result (database.new ≡ record database.old { grants = put_found (λ g. g.stamp) (grant_in octets.now) database.old.grants }) }
 {
     match Grant::decode(octets) {
         Some(grant) => {
@@ -147,9 +141,7 @@ fn put_grant(database: &mut PlainDatabase, octets: &[u8]) -> Result<bool, AllocE
 
 // Puts a row into a database, where the octets are those of one.
 fn put_row(database: &mut PlainDatabase, octets: &[u8]) -> Result<bool, AllocError>
-    ensures known { IfOk result (λ known. known ≡ is_some (row_in octets.now)) }
-    ensures put { OnOk result (database.new ≡ record database.old { rows = put_found (λ r. r.stamp) (row_in octets.now) database.old.rows }) }
-    ensures limits { list_all row_record.fits database.old.rows ≡ true → OnOk result (list_all row_record.fits database.new.rows ≡ true) }
+    ensures { PutsFound row_record.fits (row_in octets.now) database.old.rows database.new.rows result (database.new ≡ record database.old { rows = put_found (λ r. r.stamp) (row_in octets.now) database.old.rows }) }
 {
     match RowRecord::decode(octets) {
         Some(row) => {

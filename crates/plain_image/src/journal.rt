@@ -2,8 +2,8 @@
 ghost use Rattle.std.specs.Prelude.{◌≡◌, ◌+◌, ◌≤◌, ◌<◌, true, IfOk, length, option_map};
 ghost use Rattle.std.specs.List.{list_all};
 ghost use Rattle.eeprom.specs.StoreOf as image;
-ghost use Rattle.eeprom.specs.StoreOf.{most_cells};
 
+use crate::cells::Cells;
 use crate::octets::{number_at, octet_at};
 use eeprom::{Entry, GATE_PLACE, HEADER_SIZE, Heap, NO_CELL, journal_place};
 use std::alloc::AllocError;
@@ -12,16 +12,16 @@ use std::alloc::AllocError;
 pub(crate) fn directory(
     alloc: Heap,
     octets: &[u8],
-    cells: u16,
+    cells: Cells,
 ) -> Result<Option<Vec<u16, Heap>>, AllocError>
-    requires few { cells ≤ most_cells }
     ensures { IfOk result (λ found. option_map (λ firsts. firsts.items) found ≡ image.directory octets.now cells) }
 {
-    let mut firsts = numbers_at(alloc, octets, HEADER_SIZE, cells)?;
+    let number = cells.number();
+    let mut firsts = numbers_at(alloc, octets, HEADER_SIZE, number)?;
     if is_gate_open(octets) {
-        let place = journal_place(cells);
+        let place = journal_place(number);
         let count = number_at(octets, place);
-        if count > cells {
+        if count > number {
             return Ok(None);
         }
         let entries = entries_at(alloc, octets, place + 2, count)?;
@@ -90,23 +90,22 @@ fn entry_at(octets: &[u8], place: usize) -> Entry
 }
 
 // Whether each entry names a slot, and a cell or none.
-fn are_entries(cells: u16, entries: &[Entry]) -> bool
-    requires few { cells ≤ most_cells }
+fn are_entries(cells: Cells, entries: &[Entry]) -> bool
     ensures { result ≡ list_all (image.is_entry cells) entries.now }
 {
     entries.iter().all(|entry| is_entry(cells, *entry))
 }
 
 // Whether an entry names a slot, and a cell or none.
-fn is_entry(cells: u16, entry: Entry) -> bool
-    requires few { cells ≤ most_cells }
+fn is_entry(cells: Cells, entry: Entry) -> bool
     ensures { result ≡ image.is_entry cells entry }
 {
-    entry.slot < cells && (entry.first < 2 * cells || entry.first == NO_CELL)
+    let number = cells.number();
+    entry.slot < number && (entry.first < 2 * number || entry.first == NO_CELL)
 }
 
 // Puts entries into a directory, one after another.
-fn put_entries(cells: u16, entries: &[Entry], firsts: &mut [u16])
+fn put_entries(cells: Cells, entries: &[Entry], firsts: &mut [u16])
     requires entries { list_all (image.is_entry cells) entries.now ≡ true }
     requires count { length firsts.old ≡ cells }
     ensures { firsts.new ≡ image.with_entries entries.now firsts.old }

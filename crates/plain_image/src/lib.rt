@@ -1,6 +1,7 @@
 //! The plain database to which an image opens, read without a card's store.
 #![tactic(auto)]
 
+mod cells;
 mod chains;
 mod counters;
 mod filling;

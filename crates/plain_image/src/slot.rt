@@ -1,9 +1,9 @@
 // The record in a slot of an image.
-ghost use Rattle.std.specs.Prelude.{◌≡◌, ◌≤◌, IfOk};
+ghost use Rattle.std.specs.Prelude.{◌≡◌, IfOk};
 ghost use Rattle.std.specs.List.{flat_map};
 ghost use Rattle.eeprom.specs.StoreOf as image;
-ghost use Rattle.eeprom.specs.StoreOf.{most_cells};
 
+use crate::cells::Cells;
 use crate::octets::{number_at, part};
 use eeprom::{Heap, PIECE_SIZE, cell_place};
 use std::alloc::AllocError;
@@ -28,10 +28,9 @@ impl SlotOctets {
     pub(crate) fn read(
         alloc: Heap,
         octets: &[u8],
-        cells: u16,
+        cells: Cells,
         chain: &[u16],
     ) -> Result<Option<SlotOctets>, AllocError>
-        requires few { cells ≤ most_cells }
         ensures { IfOk result (λ found. found ≡ image.slot_of octets.now cells chain.now) }
     {
         if chain.is_empty() {
@@ -56,15 +55,14 @@ impl SlotOctets {
 fn payload_of(
     alloc: Heap,
     octets: &[u8],
-    cells: u16,
+    cells: Cells,
     chain: &[u16],
 ) -> Result<Vec<u8, Heap>, AllocError>
-    requires few { cells ≤ most_cells }
     ensures { IfOk result (λ payload. payload.items ≡ flat_map (image.payload_of octets.now cells) chain.now) }
 {
     let mut payload = Vec::new(alloc);
     for cell in chain {
-        payload.extend_from_slice(part(octets, cell_place(cells, *cell) + 2, PIECE_SIZE))?;
+        payload.extend_from_slice(part(octets, cell_place(cells.number(), *cell) + 2, PIECE_SIZE))?;
     }
     Ok(payload)
 }

@@ -1,8 +1,8 @@
 // The records at the first cells of a directory.
-ghost use Rattle.std.specs.Prelude.{◌≡◌, ◌≤◌, IfOk, option_map};
+ghost use Rattle.std.specs.Prelude.{◌≡◌, IfOk, option_map};
 ghost use Rattle.eeprom.specs.StoreOf as image;
-ghost use Rattle.eeprom.specs.StoreOf.{most_cells};
 
+use crate::cells::Cells;
 use crate::chains::{are_apart, chain_of, is_record};
 use crate::slot::SlotOctets;
 use eeprom::Heap;
@@ -12,10 +12,9 @@ use std::alloc::AllocError;
 pub(crate) fn slots_at(
     alloc: Heap,
     octets: &[u8],
-    cells: u16,
+    cells: Cells,
     firsts: &[u16],
 ) -> Result<Option<Vec<Option<SlotOctets>, Heap>>, AllocError>
-    requires few { cells ≤ most_cells }
     ensures { IfOk result (λ found. option_map (λ slots. slots.items) found ≡ image.slots_at octets.now cells firsts.now) }
 {
     let mut used = Vec::new(alloc);

@@ -2,6 +2,7 @@
 ghost use Rattle.std.specs.Prelude.{◌≡◌, IfOk};
 ghost use Rattle.eeprom.specs.StoreOf as image;
 
+use crate::cells::Cells;
 use crate::header::{begins_store, cells_of, row_limit};
 use crate::journal::directory;
 use crate::slot::SlotOctets;
@@ -33,7 +34,7 @@ impl PlainStore {
         if !begins_store(octets) {
             return Ok(None);
         }
-        let cells = cells_of(octets);
+        let cells = Cells::new(cells_of(octets));
         let Some(firsts) = directory(alloc, octets, cells)? else {
             return Ok(None);
         };

@@ -5,5 +5,5 @@ use Rattle.plain_image.proofs.chains.chain_of.Given as goal
 
 abbrev pub invariant-loop : goal.invariant-loop
 invariant-loop l = record {
-  left : (most : ℕ) → most + l.counter ≡ 2 * l.cells → image.chain_of l.octets l.cells (2 * l.cells) l.first ≡ option_map (λ rest. l.chain.items ++ rest) (image.chain_of l.octets l.cells most l.cell);
+  left : (most : ℕ) → most + l.counter ≡ 2 * l.fn.cells → image.chain_of l.octets l.fn.cells (2 * l.fn.cells) l.first ≡ option_map (λ rest. l.chain.items ++ rest) (image.chain_of l.octets l.fn.cells most l.cell);
 }

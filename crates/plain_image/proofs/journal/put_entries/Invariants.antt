@@ -6,5 +6,5 @@ use Rattle.plain_image.proofs.journal.put_entries.Given as goal
 abbrev pub invariant-loop-entry : goal.invariant-loop-entry
 invariant-loop-entry l = record {
   left : image.with_entries l.entries l.fn.firsts ≡ image.with_entries (drop l.entry-index l.entries) l.firsts;
-  count : length l.firsts ≡ l.cells;
+  count : length l.firsts ≡ l.fn.cells;
 }
