@@ -2,15 +2,15 @@
 use Rattle.std.specs.Prelude.{◌≡◌, ℕ, ◌≤◌, ◌&&◌, Bool, true, List, [], ◌∷◌, length, Option, Some, None, Result, IfOk, OnOk, is_some}
 use Rattle.std.specs.List.{list_all}
 use Rattle.std.specs.Option.{option_map_or}
-use Rattle.eeprom.specs.StoreOf.{Slots}
+use Rattle.eeprom.specs.StoreOf.{Slots, Stored}
 use Rattle.eeprom.specs.Slots.{kept, put_in_order}
 use Rattle.scql_base.specs.declared.records.User.{User}
 use Rattle.scql_base.specs.declared.records.Object.{Object}
 use Rattle.scql_base.specs.declared.records.Grant.{Grant}
 use Rattle.scql_base.specs.declared.records.RowRecord.{RowRecord}
-use Rattle.scql_model.specs.Records.{user_in, object_in, grant_in, row_in, user_record, object_fits, grant_record, row_record}
+use Rattle.scql_model.specs.Records.{counter_in, user_in, object_in, grant_in, row_in, user_record, object_fits, grant_record, row_record}
 use Rattle.scql_model.specs.Rules.{is_short}
-use Rattle.scql_model.specs.Opens.{is_spelled}
+use Rattle.scql_model.specs.Opens.{Holds, counter_stamp, is_spelled}
 use Rattle.scql_model.specs.Database.{Database}
 use Rattle.plain_image.specs.declared.counters.Counters.{Counters}
 use Rattle.plain_image.specs.declared.counters.Counters.TheVariants.{Missing, Single, Several}
@@ -61,3 +61,16 @@ pub record PutsFound {X E : Type 0} (fits : X → Bool) (found : Option X) (old 
   pub put : OnOk result put'
   -- records that were within the limits of the kind are so still
   pub limits : list_all fits old ≡ true → OnOk result (list_all fits new ≡ true)
+
+-- A database was filled from slots, which have these counters.
+pub record IsFilledFrom (slots : Slots) (old new : Database) (told : Counters) : Type 0 where
+  pub records : new ≡ records_in old.cells old.limit slots
+  pub counters : AreCounters told (kept counter_stamp counter_in slots)
+  pub limits : AreWithin new
+
+-- A database is what is found in a store.
+pub record IsFoundIn (store : Stored) (db : Database) : Type 0 where
+  pub limit : db.limit ≡ store.row_limit
+  pub holds : Holds store.slots db
+  pub limits : AreWithin db
+  pub short : list_all is_short db.objects ≡ true

@@ -2,13 +2,11 @@
 ghost use Rattle.std.specs.Prelude.{◌≡◌, ◌≤◌, [], None, Some, true, IfOk, IfSome, OnOk, is_some, length};
 ghost use Rattle.std.specs.List.{list_all};
 ghost use Rattle.eeprom.specs.StoreOf.{most_cells};
-ghost use Rattle.eeprom.specs.Slots.{kept};
 ghost use Rattle.scql_model.specs.Database as model;
 ghost use Rattle.scql_model.specs.Database.{IsValid};
-ghost use Rattle.scql_model.specs.Opens.{Holds, counter_stamp, is_spelled};
-ghost use Rattle.scql_model.specs.Rules.{is_short};
-ghost use Rattle.scql_model.specs.Records.{counter_in, user_in, object_in, grant_in, row_in, user_record, object_fits, grant_record, row_record};
-ghost use Rattle.plain_image.specs.Found.{AreCounters, AreWithin, PutsFound, is_admitted, is_short_object, put_found, records_in};
+ghost use Rattle.scql_model.specs.Opens.{Holds, is_spelled};
+ghost use Rattle.scql_model.specs.Records.{user_in, object_in, grant_in, row_in, user_record, object_fits, grant_record, row_record};
+ghost use Rattle.plain_image.specs.Found.{AreWithin, IsFilledFrom, IsFoundIn, PutsFound, is_admitted, is_short_object, put_found, records_in};
 
 use crate::PlainStore;
 use crate::counters::Counters;
@@ -25,10 +23,7 @@ pub(crate) fn database_in(
     alloc: Heap,
     store: &PlainStore,
 ) -> Result<Option<PlainDatabase>, AllocError>
-    ensures limit { IfOk result (λ found. IfSome found (λ db. db.limit ≡ store.now.row_limit)) }
-    ensures holds { IfOk result (λ found. IfSome found (Holds store.now.slots)) }
-    ensures limits { IfOk result (λ found. IfSome found AreWithin) }
-    ensures short { IfOk result (λ found. IfSome found (λ db. list_all is_short db.objects ≡ true)) }
+    ensures found { IfOk result (λ found. IfSome found (IsFoundIn store.now)) }
     ensures none { IfOk result (λ found. found ≡ None → (db : model.Database) → Holds store.now.slots db → IsValid db → ⊥) }
 {
     if store.slots.len() > usize::from(MOST_CELLS) {
@@ -52,9 +47,7 @@ fn fill(
 ) -> Result<Option<Counters>, AllocError>
     requires few { length slots.now ≤ most_cells }
     requires empty { database.old ≡ records_in database.old.cells database.old.limit [] }
-    ensures records { IfOk result (λ found. IfSome found (λ _. database.new ≡ records_in database.old.cells database.old.limit slots.now)) }
-    ensures counters { IfOk result (λ found. IfSome found (λ counters. AreCounters counters (kept counter_stamp counter_in slots.now))) }
-    ensures limits { IfOk result (λ found. IfSome found (λ _. AreWithin database.new)) }
+    ensures filled { IfOk result (λ found. IfSome found (IsFilledFrom slots.now database.old database.new)) }
     ensures admitted { IfOk result (λ found. is_some found ≡ list_all is_admitted slots.now) }
 {
     let mut counters = Counters::Missing;
