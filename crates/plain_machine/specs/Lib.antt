@@ -1,4 +1,5 @@
 pub mod Answers
+pub mod Reading
 pub mod Serving
 pub mod Sessions
 pub mod Standing

@@ -1,10 +1,15 @@
 -- The program's sessions, as the model's.
-use Rattle.std.specs.Prelude.{ℕ, ◌==◌, Bool, true, false, List, [], ◌∷◌, map, Option, None, is_some, option_and_then, option_map, slice_get, slice_set, if◌then◌else◌}
+use Rattle.std.specs.Prelude.{◌≡◌, ℕ, ◌==◌, Bool, true, false, List, [], ◌∷◌, map, Option, None, is_some, option_and_then, option_map, slice_get, slice_set, if◌then◌else◌}
 use Rattle.std.specs.Option.{option_flatten, option_map_or}
 use Rattle.scql_base.specs.declared.cursor.PresentedUser.{PresentedUser}
+use Rattle.scql_base.specs.declared.operation.Command.{Command}
 use Rattle.scql_model.specs.Form.{Form, refused, refused_on, part_on, a_command}
 use Rattle.scql_model.specs.Machine as machine
 use Rattle.scql_model.specs.Sessions.{with_part, without_chain}
+use Rattle.scql_model.specs.WellFormed.{IsWellFormed}
+use Rattle.apdu_chain.specs.Chaining.{taken_of}
+use Rattle.apdu_chain.specs.declared.chains.Taken.{Taken}
+use Rattle.apdu_chain.specs.declared.chains.Taken.TheVariants.{Whole}
 use Rattle.plain_machine.specs.declared.session.Session.{Session}
 
 -- a session with these parts of a command
@@ -49,3 +54,12 @@ sessions_after sessions (refused word) = sessions
 sessions_after sessions (refused_on channel word) = changed_on without_chain sessions channel
 sessions_after sessions (part_on channel kind octets) = changed_on (with_part kind octets) sessions channel
 sessions_after sessions (a_command c) = changed_on without_chain sessions c.channel
+
+-- Octets were taken by sessions, as the form that they have.
+pub record Takes (form : Form) (old new : List (Option machine.Session)) (result : Taken) (command : Command) : Type 0 where
+  -- they are refused, kept, or a whole command
+  pub taken : result ≡ taken_of form
+  pub sessions : new ≡ sessions_after old form
+  -- a whole command was read into a place, and is well formed
+  pub whole : result ≡ Whole → form ≡ a_command command
+  pub formed : result ≡ Whole → IsWellFormed command

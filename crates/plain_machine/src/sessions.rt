@@ -1,5 +1,5 @@
 // The sessions of the four channels, and the parts of their commands.
-ghost use Rattle.std.specs.Prelude.{◌≡◌, ◌∷◌, [], Some, None, IfSome, is_some, map, min, not, option_and_then, option_map, slice_set, true, OnErr};
+ghost use Rattle.std.specs.Prelude.{◌≡◌, ◌∷◌, [], Some, None, IfSome, is_some, map, min, not, option_and_then, option_map, slice_set, true};
 ghost use Rattle.std.specs.List.{find};
 ghost use Rattle.scql_base.specs.declared.row.TheConstants.Row.{LARGEST};
 ghost use Rattle.scql_model.specs.Changing.{change_of};
@@ -10,11 +10,10 @@ ghost use Rattle.scql_model.specs.Machine as machine;
 ghost use Rattle.scql_model.specs.Moves.{moved};
 ghost use Rattle.scql_model.specs.Operations.{operations};
 ghost use Rattle.scql_model.specs.Sessions as model;
-ghost use Rattle.scql_model.specs.WellFormed.{IsWellFormed};
-ghost use Rattle.apdu_chain.specs.Chaining.{taken_of};
-ghost use Rattle.plain_database.specs.Effects.{Ends, ended};
-ghost use Rattle.plain_reading.specs.Commands.{HasLe, command_seen};
-ghost use Rattle.plain_machine.specs.Sessions.{are_open, chain_in, changed_on, left_session, reading_on, session_on, session_seen, sessions_after};
+ghost use Rattle.plain_database.specs.Effects.{Ends};
+ghost use Rattle.plain_reading.specs.Commands.{command_seen};
+ghost use Rattle.plain_machine.specs.Reading.{Reads};
+ghost use Rattle.plain_machine.specs.Sessions.{Takes, are_open, chain_in, changed_on, left_session, reading_on, session_on, session_seen};
 
 use crate::channel::Channel;
 use crate::session::Session;
@@ -58,10 +57,7 @@ impl Sessions {
     /// Takes octets, where a row has at most so many octets, and never more than 1,020. The command that they make whole is read into
     /// a place.
     pub(crate) fn take(&mut self, octets: &[u8], limit: u16, command: &mut Command) -> Taken
-        ensures taken { result ≡ taken_of (form.form_of operations octets.now (are_open self.old) (chain_in self.old) (min limit LARGEST)) }
-        ensures sessions { self.new ≡ sessions_after self.old (form.form_of operations octets.now (are_open self.old) (chain_in self.old) (min limit LARGEST)) }
-        ensures whole { result ≡ Taken.Whole → form.form_of operations octets.now (are_open self.old) (chain_in self.old) (min limit LARGEST) ≡ form.a_command command.new }
-        ensures formed { result ≡ Taken.Whole → IsWellFormed command.new }
+        ensures { Takes (form.form_of operations octets.now (are_open self.old) (chain_in self.old) (min limit LARGEST)) self.old self.new result command.new }
     {
         let channels = self.open_channels();
         self.chains.take(octets, channels, limit, command)
@@ -113,10 +109,8 @@ impl Sessions {
     ) -> Result<(), StatusWord>
         requires open { is_some (session_on self.old channel) ≡ true }
         requires cursor { IfSome (reading_on self.old channel).cursor (IsCursorOf database.now) }
-        requires le { HasLe command.now }
-        ensures moved { ended result (record { reply = reply.new; after = reading_on self.new channel }) ≡ moved database.now actor (reading_on self.old channel) (command_seen command.now) }
-        ensures reading { self.new ≡ changed_on (model.reading_so (reading_on self.new channel)) self.old channel }
-        ensures same { OnErr result (self.new ≡ self.old) }
+        ensures { Reads (λ sessions. reading_on sessions channel) (λ reading. changed_on (model.reading_so reading) self.old channel) self.old self.new reply.new result
+            (moved database.now actor (reading_on self.old channel) (command_seen command.now)) }
     {
         let place = channel.place();
         match &mut self.channels[place] {

@@ -1,13 +1,13 @@
 // Commands that read.
-ghost use Rattle.std.specs.Prelude.{◌≡◌, OnErr};
+ghost use Rattle.std.specs.Prelude.{◌≡◌};
 ghost use Rattle.scql_model.specs.Machine as machine;
 ghost use Rattle.scql_model.specs.Moves.{moved};
 ghost use Rattle.scql_model.specs.Sessions as model;
 ghost use Rattle.scql_model.specs.Step as stepping;
 ghost use Rattle.scql_model.specs.Touched.{without_touched};
-ghost use Rattle.plain_database.specs.Effects.{ended};
-ghost use Rattle.plain_reading.specs.Commands.{HasLe, command_seen};
+ghost use Rattle.plain_reading.specs.Commands.{command_seen};
 ghost use Rattle.plain_machine.specs.Answers.{left_by_answer};
+ghost use Rattle.plain_machine.specs.Reading.{Reads};
 ghost use Rattle.plain_machine.specs.Serving.{IsServed};
 
 use crate::channel::Channel;
@@ -19,8 +19,7 @@ use scql_base::StatusWord;
 impl Engine {
     // A reading command moves over what its channel reads, for whom it acts.
     pub(super) fn read(&mut self, channel: Channel, command: &ReadingCommand<'_>, reply: &mut Reply)
-        requires served { IsServed self.old channel }
-        requires le { HasLe command.now }
+        requires { IsServed self.old channel }
         ensures { record { reply = reply.new; after = self.new } ≡ left_by_answer (stepping.reading_done self.old channel (command_seen command.now)) }
     {
         if let Err(word) = self.read_base(channel, command, reply) {
@@ -35,11 +34,9 @@ impl Engine {
         command: &ReadingCommand<'_>,
         reply: &mut Reply,
     ) -> Result<(), StatusWord>
-        requires served { IsServed self.old channel }
-        requires le { HasLe command.now }
-        ensures moved { ended result (record { reply = reply.new; after = model.reading_of self.new channel }) ≡ moved (machine.base self.old channel) (machine.actor self.old channel) (model.reading_of self.old channel) (command_seen command.now) }
-        ensures machine { self.new ≡ without_touched (model.changing_session (model.reading_so (model.reading_of self.new channel)) self.old channel) }
-        ensures same { OnErr result (self.new ≡ self.old) }
+        requires { IsServed self.old channel }
+        ensures { Reads (λ m. model.reading_of m channel) (λ reading. without_touched (model.changing_session (model.reading_so reading) self.old channel)) self.old self.new reply.new result
+            (moved (machine.base self.old channel) (machine.actor self.old channel) (model.reading_of self.old channel) (command_seen command.now)) }
     {
         let actor = self.actor(channel);
         if self.has_transaction(channel) {

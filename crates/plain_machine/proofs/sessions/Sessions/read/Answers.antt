@@ -29,29 +29,28 @@ new-readings c = rw (← c.place-place.ensures.place) (found-new c.self.inside.c
 pub unreachable-requires : goal.unreachable-requires
 unreachable-requires c = found-none c.self.inside.channels c.self.inside.chains c.args.self.now c.place-place.result c.index-self-place.result c.self.invariant c.place-place.ensures.few c.self.view_is c.index-self-place.is c.in-None.is (rw c.place-place.ensures.place c.requires.open)
 
-pub read-requires-clause-cursor : goal.read-requires-clause-cursor
-read-requires-clause-cursor c =
-    subst (λ (reading : machine.Reading). IfSome reading.cursor (IsCursorOf c.args.database.now)) (readings (goal.at.read-requires-clause-cursor c).In-Some) c.requires.cursor
+pub read-requires : goal.read-requires
+read-requires c =
+    subst (λ (reading : machine.Reading). IfSome reading.cursor (IsCursorOf c.args.database.now)) (readings (goal.at.read-requires c).In-Some) c.requires.cursor
 
-pub returns-clause-moved : goal.returns-clause-moved
-returns-clause-moved c =
-    ap (λ (after : machine.Reading). let move : Move machine.Reading = record { reply = c.read.new.reply; after = after } in ended c.read.result move) (new-readings c)
+pub returns : goal.returns
+returns c =
+    let here = goal.at.returns c in
+    let meant : (let move : Move machine.Reading = record { reply = c.read.new.reply; after = reading_on (sessions_of (slice_set c.self.inside.channels c.place-place.result (Some (new here.After-read))) c.self.inside.chains) c.args.channel } in ended c.read.result move) ≡ moved c.args.database.now c.args.actor (reading_on c.args.self.now c.args.channel) (command_seen c.args.command.now) =
+    ap (λ (after : machine.Reading). let move : Move machine.Reading = record { reply = c.read.new.reply; after = after } in ended c.read.result move) (new-readings here.After-read)
     ∙ (c.read.ensures.answered
-    ∙ ap (λ (reading : machine.Reading). moved c.args.database.now c.args.actor reading (command_seen c.args.command.now)) (sym (readings (goal.at.returns-clause-moved c).In-Some)))
-
-pub returns-clause-reading : goal.returns-clause-reading
-returns-clause-reading c =
-    found-changed c.self.inside.channels c.self.inside.chains c.args.self.now c.place-place.result c.index-self-place.result c.self.invariant c.place-place.ensures.few c.self.view_is c.index-self-place.is
-    (reading_so c.read.new.reading) c.in-Some.session (new c) c.in-Some.is (λ chain. refl)
-    ∙ (ap (changed_on (reading_so c.read.new.reading) c.args.self.now) c.place-place.ensures.place
-    ∙ ap (λ (reading : machine.Reading). changed_on (reading_so reading) c.args.self.now c.args.channel) (sym (new-readings c)))
-
-pub returns-clause-same : goal.returns-clause-same
-returns-clause-same c =
-    on_err_weaker c.read.result
-    (λ same.
-    ap (λ (reading : machine.Reading). let next : Session = record c.in-Some.session { reading = reading } in sessions_of (slice_set c.self.inside.channels c.place-place.result (Some next)) c.self.inside.chains) same
-    ∙ (ap (λ (session : Option Session). sessions_of (slice_set c.self.inside.channels c.place-place.result session) c.self.inside.chains) (sym c.in-Some.is)
-    ∙ (ap (λ (sessions : List (Option Session)). sessions_of sessions c.self.inside.chains) (set-again c.self.inside.channels c.place-place.result c.index-self-place.result)
-    ∙ c.self.view_is)))
-    c.read.ensures.same
+    ∙ ap (λ (reading : machine.Reading). moved c.args.database.now c.args.actor reading (command_seen c.args.command.now)) (sym (readings here.In-Some))) in
+    record {
+      moved = meant;
+      left = found-changed c.self.inside.channels c.self.inside.chains c.args.self.now c.place-place.result c.index-self-place.result c.self.invariant c.place-place.ensures.few c.self.view_is c.index-self-place.is
+          (reading_so c.read.new.reading) c.in-Some.session (new here.After-read) c.in-Some.is (λ chain. refl)
+          ∙ (ap (changed_on (reading_so c.read.new.reading) c.args.self.now) c.place-place.ensures.place
+          ∙ ap (λ (reading : machine.Reading). changed_on (reading_so reading) c.args.self.now c.args.channel) (sym (new-readings here.After-read)));
+      same = on_err_weaker c.read.result
+          (λ same.
+          ap (λ (reading : machine.Reading). let next : Session = record c.in-Some.session { reading = reading } in sessions_of (slice_set c.self.inside.channels c.place-place.result (Some next)) c.self.inside.chains) same
+          ∙ (ap (λ (session : Option Session). sessions_of (slice_set c.self.inside.channels c.place-place.result session) c.self.inside.chains) (sym c.in-Some.is)
+          ∙ (ap (λ (sessions : List (Option Session)). sessions_of sessions c.self.inside.chains) (set-again c.self.inside.channels c.place-place.result c.index-self-place.result)
+          ∙ c.self.view_is)))
+          c.read.ensures.same;
+    }

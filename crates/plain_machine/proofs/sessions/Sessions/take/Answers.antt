@@ -10,19 +10,16 @@ use Rattle.plain_machine.specs.Sessions.{are_open, chain_in, sessions_after, ses
 use Rattle.plain_machine.proofs.TakenSessions.{form-seen, seen-taken}
 use Rattle.plain_machine.proofs.sessions.Sessions.take.Goals as goal
 
-pub returns-clause-taken : goal.returns-clause-taken
-returns-clause-taken c =
-    c.take.ensures.taken ∙ ap taken_of (form-seen c.args.octets.now c.self.inside.channels c.self.inside.chains c.open_channels-channels.result (min c.args.limit LARGEST) c.args.self.now c.self.view_is c.open_channels-channels.ensures)
-
-pub returns-clause-sessions : goal.returns-clause-sessions
-returns-clause-sessions c =
+pub returns : goal.returns
+returns c =
     let seen = c.args.self.now in
     let form = form_of operations c.args.octets.now (are_open seen) (chain_in seen) (min c.args.limit LARGEST) in
     let same = form-seen c.args.octets.now c.self.inside.channels c.self.inside.chains c.open_channels-channels.result (min c.args.limit LARGEST) seen c.self.view_is c.open_channels-channels.ensures in
-    ap (sessions_of c.self.inside.channels) (c.take.ensures.chains ∙ ap (chains_after c.self.inside.chains) same)
-    ∙ (seen-taken c.self.inside.channels c.self.inside.chains form
-    ∙ ap (λ (sessions : List (Option machine.Session)). sessions_after sessions form) c.self.view_is)
-
-pub returns-clause-whole : goal.returns-clause-whole
-returns-clause-whole c = λ is.
-    sym (form-seen c.args.octets.now c.self.inside.channels c.self.inside.chains c.open_channels-channels.result (min c.args.limit LARGEST) c.args.self.now c.self.view_is c.open_channels-channels.ensures) ∙ c.take.ensures.whole is
+    record {
+      taken = c.take.ensures.taken ∙ ap taken_of same;
+      sessions = ap (sessions_of c.self.inside.channels) (c.take.ensures.chains ∙ ap (chains_after c.self.inside.chains) same)
+          ∙ (seen-taken c.self.inside.channels c.self.inside.chains form
+          ∙ ap (λ (sessions : List (Option machine.Session)). sessions_after sessions form) c.self.view_is);
+      whole = λ is. sym same ∙ c.take.ensures.whole is;
+      formed = c.take.ensures.formed;
+    }
