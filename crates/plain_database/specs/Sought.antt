@@ -1,9 +1,11 @@
 -- Which of a cursor's rows is sought.
-use Rattle.std.specs.Prelude.{◌≡◌, ℕ, ◌==◌, ◌&&◌, nat_lt, Bool, true, List, Option, Some}
+use Rattle.std.specs.Prelude.{◌≡◌, ℕ, ◌≤◌, ◌==◌, ◌&&◌, nat_lt, Bool, true, List, Option, Some}
 use Rattle.std.specs.List.{find}
+use Rattle.scql_base.specs.Row.{row_size}
 use Rattle.scql_base.specs.declared.condition.Condition.{Condition}
 use Rattle.scql_base.specs.declared.cursor.Cursor.{Cursor}
 use Rattle.scql_base.specs.declared.records.RowRecord.{RowRecord}
+use Rattle.scql_base.specs.declared.row.TheConstants.Row.{LARGEST}
 use Rattle.scql_model.specs.Contents.{contents_of, cut_to}
 use Rattle.scql_model.specs.Cursors.{IsCursorOf}
 use Rattle.scql_model.specs.Database.{Database}
@@ -42,6 +44,12 @@ pub record IsResolvedFor (db : Database) (c : Cursor) (r : Resolved) : Type 0 wh
 -- a record is a row of the database
 abbrev pub IsRowOf : Database → RowRecord → Type 0
 IsRowOf db r = find (λ (s : RowRecord). s.stamp == r.stamp) db.rows ≡ Some r
+
+-- A record is a row of the database in the table that is resolved, and no larger than a row where it is cut to the wanted columns.
+pub record IsShownRow (db : Database) (resolved : Resolved) (wanted : Columns) (r : RowRecord) : Type 0 where
+  pub among : IsRowOf db r
+  pub table : r.table ≡ resolved.table
+  pub fits : row_size (cut_to resolved.all wanted r.row) ≤ LARGEST
 
 -- a row of the table as it is shown
 abbrev pub row_through : Resolved → Columns → RowRecord → StampedRow

@@ -1,5 +1,5 @@
 // A change of records, and how it is made.
-ghost use Rattle.std.specs.Prelude.{◌≡◌, ◌∷◌, []};
+ghost use Rattle.std.specs.Prelude.{◌∷◌, []};
 ghost use Rattle.scql_model.specs.Database.{IsValid};
 ghost use Rattle.scql_model.specs.Edits.{changing, of_row, with_edits};
 ghost use Rattle.plain_database.specs.Changes.{edits_for};

@@ -1,6 +1,7 @@
 // What the records of each kind have in common.
-ghost use Rattle.std.specs.Prelude.{◌≡◌, ◌<◌};
+ghost use Rattle.std.specs.Prelude.{◌≡◌};
 ghost use Rattle.scql_model.specs.Edits.{AnyRecord, cells_of_record, of_grant, of_object, of_row, of_user};
+ghost use Rattle.plain_database.specs.Within.{IsAtMost};
 
 use crate::Stamped;
 use crate::sizes::{cells_for, object_size};
@@ -13,8 +14,7 @@ pub(crate) trait Record: Stamped {
 
     /// How many cells it takes.
     fn cells(&self) -> u32
-        ensures cells { result ≡ cells_of_record (entry self.now) }
-        ensures few { result < 65536 };
+        ensures { IsAtMost 65535 result (cells_of_record (entry self.now)) };
 
     /// The same record once more.
     fn again(&self) -> Self

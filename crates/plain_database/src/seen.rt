@@ -1,9 +1,6 @@
 // The rows that a cursor shows, through the views between it and their table.
-ghost use Rattle.std.specs.Prelude.{◌≡◌, ◌≤◌, IfSome, option_copied, option_map};
+ghost use Rattle.std.specs.Prelude.{◌≡◌, IfSome, option_copied, option_map};
 ghost use Rattle.std.specs.List.{find};
-ghost use Rattle.scql_base.specs.Row.{row_size};
-ghost use Rattle.scql_base.specs.declared.row.TheConstants.Row.{LARGEST};
-ghost use Rattle.scql_model.specs.Contents.{cut_to};
 ghost use Rattle.plain_database.specs.Sought as model;
 
 use crate::matching::{cut_to, matches};
@@ -27,9 +24,7 @@ impl<'a> ValidDatabase<'a> {
     ) -> Option<&'a RowRecord>
         requires { model.IsResolvedFor self.now cursor.now resolved.now }
         ensures shown { option_map (model.row_through resolved.now cursor.now.columns) (option_copied result) ≡ model.sought_row self.now cursor.now sought }
-        ensures among { IfSome (option_copied result) (model.IsRowOf self.now) }
-        ensures table { IfSome (option_copied result) (λ r. r.table ≡ resolved.now.table) }
-        ensures fits { IfSome (option_copied result) (λ r. row_size (cut_to resolved.now.all cursor.now.columns r.row) ≤ LARGEST) }
+        ensures row { IfSome (option_copied result) (model.IsShownRow self.now resolved.now cursor.now.columns) }
     {
         let rows = sought.admitted(self.database().rows());
         find_among(rows, resolved, cursor.conditions.as_slice())

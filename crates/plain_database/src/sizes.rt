@@ -1,7 +1,8 @@
 // How many octets records have, and how many cells these take.
-ghost use Rattle.std.specs.Prelude.{◌≡◌, ◌<◌, ◌≤◌, length};
+ghost use Rattle.std.specs.Prelude.{◌<◌, length};
 ghost use Rattle.eeprom.specs.StoreOf as image;
 ghost use Rattle.scql_model.specs.Records as records;
+ghost use Rattle.plain_database.specs.Within.{IsAtMost};
 
 use eeprom::PIECE_SIZE;
 use scql_base::{Conditions, NameList, Object, ObjectKind};
@@ -9,16 +10,14 @@ use scql_base::{Conditions, NameList, Object, ObjectKind};
 /// How many cells a record of so many octets takes, with the two of its length.
 pub(crate) fn cells_for(octets: usize) -> u32
     requires { octets < 65536 }
-    ensures cells { result ≡ image.cells_for octets }
-    ensures few { result < 65536 }
+    ensures { IsAtMost 65535 result (image.cells_for octets) }
 {
     ((octets + 31) / PIECE_SIZE) as u32
 }
 
 /// How many octets the record of an object has.
 pub(crate) fn object_size(object: &Object) -> usize
-    ensures size { result ≡ length (records.object_spelling object.now) }
-    ensures short { result < 65536 }
+    ensures { IsAtMost 65535 result (length (records.object_spelling object.now)) }
 {
     let name = object.name.octets().len();
     match &object.kind {
@@ -34,8 +33,7 @@ pub(crate) fn object_size(object: &Object) -> usize
 
 // How many octets columns have in a record: one that counts them, and each name with its length.
 fn columns_size(columns: &NameList) -> usize
-    ensures size { result ≡ length (records.columns.spell columns.now) }
-    ensures short { result ≤ 1024 }
+    ensures { IsAtMost 1024 result (length (records.columns.spell columns.now)) }
 {
     let columns = columns.as_slice();
     let mut size = 1;
@@ -47,8 +45,7 @@ fn columns_size(columns: &NameList) -> usize
 
 // How many octets conditions have in a record: one that counts them, and each name and value with its length and its comparison.
 fn conditions_size(conditions: &Conditions) -> usize
-    ensures size { result ≡ length (records.conditions.spell conditions.now) }
-    ensures short { result ≤ 4096 }
+    ensures { IsAtMost 4096 result (length (records.conditions.spell conditions.now)) }
 {
     let conditions = conditions.as_slice();
     let mut size = 1;

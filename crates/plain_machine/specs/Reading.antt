@@ -1,10 +1,18 @@
 -- How a channel reads.
-use Rattle.std.specs.Prelude.{◌≡◌, Result, OnErr}
+use Rattle.std.specs.Prelude.{◌≡◌, ℕ, true, List, Option, Result, IfSome, OnErr, is_some}
 use Rattle.scql_base.specs.declared.words.StatusWord.{StatusWord}
+use Rattle.scql_model.specs.Cursors.{IsCursorOf}
+use Rattle.scql_model.specs.Database.{Database}
 use Rattle.scql_model.specs.Machine as machine
 use Rattle.scql_model.specs.ReadingCommands.{Move}
 use Rattle.scql_model.specs.Replies.{Reply}
 use Rattle.plain_database.specs.Effects.{ended}
+use Rattle.plain_machine.specs.Sessions.{reading_on, session_on}
+
+-- A channel of some sessions is open, and its cursor, if it has one, is of a database.
+pub record HasCursorOf (db : Database) (sessions : List (Option machine.Session)) (channel : ℕ) : Type 0 where
+  pub is_open : is_some (session_on sessions channel) ≡ true
+  pub cursor : IfSome (reading_on sessions channel).cursor (IsCursorOf db)
 
 -- A reading command was carried out, or refused, on a channel of what has sessions. What the channel reads is told of these, and what they are with another reading of it.
 pub record Reads {A : Type 0} (reading_of : A → machine.Reading) (with_reading : machine.Reading → A) (old new : A) (reply : Reply) (result : Result (Unit {0}) StatusWord) (meant : Result (Move machine.Reading) StatusWord) : Type 0 where

@@ -1,9 +1,8 @@
 // The sessions of the four channels, and the parts of their commands.
-ghost use Rattle.std.specs.Prelude.{◌≡◌, ◌∷◌, [], Some, None, IfSome, is_some, map, min, not, option_and_then, option_map, slice_set, true};
+ghost use Rattle.std.specs.Prelude.{◌≡◌, ◌∷◌, [], Some, None, is_some, map, min, not, option_and_then, option_map, slice_set};
 ghost use Rattle.std.specs.List.{find};
 ghost use Rattle.scql_base.specs.declared.row.TheConstants.Row.{LARGEST};
 ghost use Rattle.scql_model.specs.Changing.{change_of};
-ghost use Rattle.scql_model.specs.Cursors.{IsCursorOf};
 ghost use Rattle.scql_model.specs.Database.{IsValid};
 ghost use Rattle.scql_model.specs.Form as form;
 ghost use Rattle.scql_model.specs.Machine as machine;
@@ -12,7 +11,7 @@ ghost use Rattle.scql_model.specs.Operations.{operations};
 ghost use Rattle.scql_model.specs.Sessions as model;
 ghost use Rattle.plain_database.specs.Effects.{Ends};
 ghost use Rattle.plain_reading.specs.Commands.{command_seen};
-ghost use Rattle.plain_machine.specs.Reading.{Reads};
+ghost use Rattle.plain_machine.specs.Reading.{HasCursorOf, Reads};
 ghost use Rattle.plain_machine.specs.Sessions.{Takes, are_open, chain_in, changed_on, left_session, reading_on, session_on, session_seen};
 
 use crate::channel::Channel;
@@ -107,8 +106,7 @@ impl Sessions {
         command: &ReadingCommand<'_>,
         reply: &mut Reply,
     ) -> Result<(), StatusWord>
-        requires open { is_some (session_on self.old channel) ≡ true }
-        requires cursor { IfSome (reading_on self.old channel).cursor (IsCursorOf database.now) }
+        requires { HasCursorOf database.now self.old channel }
         ensures { Reads (λ sessions. reading_on sessions channel) (λ reading. changed_on (model.reading_so reading) self.old channel) self.old self.new reply.new result
             (moved database.now actor (reading_on self.old channel) (command_seen command.now)) }
     {
@@ -127,9 +125,8 @@ impl Sessions {
         actor: Actor,
         operation: &Operation,
     ) -> Result<(), StatusWord>
-        requires open { is_some (session_on self.now channel) ≡ true }
         requires valid { IsValid database.old }
-        requires cursor { IfSome (reading_on self.now channel).cursor (IsCursorOf database.old) }
+        requires reads { HasCursorOf database.old self.now channel }
         ensures ends { Ends database.old database.new result (change_of database.old actor (reading_on self.now channel).cursor operation.now) }
         ensures cells { database.new.cells ≡ database.old.cells }
     {

@@ -2,3 +2,4 @@ pub mod Commands
 pub mod Found
 pub mod Le
 pub mod Outcomes
+pub mod Put

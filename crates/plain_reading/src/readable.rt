@@ -1,16 +1,14 @@
 // Which object a cursor reads, and who may.
-ghost use Rattle.std.specs.Prelude.{◌≡◌, Ok, Err, Some, IfErr, IfOk};
-ghost use Rattle.scql_model.specs.Contents.{contents_of};
+ghost use Rattle.std.specs.Prelude.{◌≡◌, Err, MatchResult};
 ghost use Rattle.scql_model.specs.Moves as moves;
-ghost use Rattle.scql_model.specs.Objects.{object_stamped};
+ghost use Rattle.plain_reading.specs.Found.{IsOpened, IsReadable};
 
 use plain_database::{Privilege, ValidDatabase, is_opened};
 use scql_base::{Actor, Cursor, Object, StatusWord};
 
 /// A cursor that was opened.
 pub(crate) fn opened(cursor: &Option<Cursor>) -> Result<&Cursor, StatusWord>
-    ensures opened { IfOk result (λ c. (cursor.now ≡ Some c.now) × (moves.opened cursor.now ≡ Ok c.now)) }
-    ensures refused { IfErr result (λ word. moves.opened cursor.now ≡ Err word) }
+    ensures { MatchResult result (λ c. IsOpened cursor.now c.now) (λ word. moves.opened cursor.now ≡ Err word) }
 {
     match cursor {
         Some(cursor) if is_opened(cursor.place) => Ok(cursor),
@@ -24,9 +22,7 @@ pub(crate) fn readable<'a>(
     actor: Actor,
     cursor: &Cursor,
 ) -> Result<&'a Object, StatusWord>
-    ensures rows { IfOk result (λ _. moves.rows_under database.now actor cursor.now ≡ Ok (moves.chosen (contents_of database.now cursor.now.object) cursor.now)) }
-    ensures object { IfOk result (λ object. object_stamped database.now.objects cursor.now.object ≡ Some object.now) }
-    ensures refused { IfErr result (λ word. moves.rows_under database.now actor cursor.now ≡ Err word) }
+    ensures { MatchResult result (λ o. IsReadable database.now actor cursor.now o.now) (λ word. moves.rows_under database.now actor cursor.now ≡ Err word) }
 {
     let records = database.database();
     match database.seen_stamped(actor, cursor.object) {

@@ -1,10 +1,10 @@
 // Records as the rows of dictionaries that tell of them.
-ghost use Rattle.std.specs.Prelude.{ℕ, ◌≡◌, ◌+◌, ◌<◌, ◌≤◌, [], ◌∷◌, ◌++◌, length, refl};
-ghost use Rattle.scql_base.specs.Row.{row_size};
-ghost use Rattle.scql_base.specs.declared.row.TheConstants.Row.{LARGEST, LONGEST_VALUE, MOST};
+ghost use Rattle.std.specs.Prelude.{ℕ, ◌≡◌, ◌≤◌, length, refl};
+ghost use Rattle.scql_base.specs.declared.row.TheConstants.Row.{LONGEST_VALUE};
 ghost use Rattle.scql_model.specs.Database.{Database};
 ghost use Rattle.scql_model.specs.Dictionaries as model;
 ghost use Rattle.scql_model.specs.Objects.{StampedRow};
+ghost use Rattle.plain_reading.specs.Put.{HasPlace, IsPut};
 
 use crate::names::{grantee_name, object_name, object_owner, user_name};
 use crate::texts::columns_text;
@@ -107,11 +107,9 @@ fn kind_letter(kind: &ObjectKind) -> u8
 
 // Puts what BASE tells.
 fn put_base(row: &mut Row, database: &ValidDatabase<'_>, kind: &ObjectKind)
-    requires count { length row.old < MOST }
-    requires room { row_size row.old + 8 < LARGEST }
-    ensures put { row.new ≡ row.old ++ model.base_told database.now kind.now ∷ [] }
-    ensures count { length row.new ≡ length row.old + 1 }
-    ensures size { row_size row.new ≤ row_size row.old + 9 }
+    requires { HasPlace 8 row.old }
+    ensures put { IsPut row.old row.new (model.base_told database.now kind.now) }
+    ensures short { length (model.base_told database.now kind.now) ≤ 8 }
 {
     match kind {
         ObjectKind::Table { .. } => put(row, b""),
@@ -122,12 +120,9 @@ fn put_base(row: &mut Row, database: &ValidDatabase<'_>, kind: &ObjectKind)
 
 // Puts a value at the end of a row that has room for it.
 fn put(row: &mut Row, value: &[u8])
-    requires count { length row.old < MOST }
+    requires place { HasPlace (length value.now) row.old }
     requires narrow { length value.now ≤ LONGEST_VALUE }
-    requires room { row_size row.old + length value.now < LARGEST }
-    ensures put { row.new ≡ row.old ++ value.now ∷ [] }
-    ensures count { length row.new ≡ length row.old + 1 }
-    ensures size { row_size row.new ≡ row_size row.old + (length value.now + 1) }
+    ensures { IsPut row.old row.new value.now }
 {
     // There is room, so this doesn't fail.
     let _put = row.push(value);

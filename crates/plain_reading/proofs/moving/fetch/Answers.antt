@@ -9,9 +9,9 @@ pub returns-in-Some : goal.returns-in-Some
 returns-in-Some c =
     let cursor = c.in_ok-cursor.cursor.now in
     let own = ap (λ (r : Reading). r.cursor) c.reading.view_is in
-    let gave = c.give_row.ensures cursor (sym own ∙ c.in_ok-cursor.ensures.opened.0) in
+    let gave = c.give_row.ensures cursor (sym own ∙ c.in_ok-cursor.ensures.there) in
     record {
       answered = gave.answered
-          ∙ sym (fetched c.args.database.now c.args.actor c.args.reading.now cursor c.args.le (row_shown c.in-Some.found) (rw own at c.in_ok-cursor.ensures.opened.1) c.in_ok-object.ensures.rows c.in-At.stamp c.in-At.is c.in-Some.ensures);
+          ∙ sym (fetched c.args.database.now c.args.actor c.args.reading.now cursor c.args.le (row_shown c.in-Some.found) (rw own at c.in_ok-cursor.ensures.opened) c.in_ok-object.ensures.rows c.in-At.stamp c.in-At.is c.in-Some.ensures);
       same = gave.same;
     }

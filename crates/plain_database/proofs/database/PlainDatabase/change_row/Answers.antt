@@ -22,13 +22,13 @@ held c =
 pub overflow_sub-weight : goal.overflow_sub-weight
 overflow_sub-weight c =
     let least = row-least c.args.self.now c.args.row c.index.result.now c.requires (held (goal.at.overflow_sub-weight c).After-index) in
-    omega (arith, least, c.cells.ensures.cells, c.weight-weight.ensures, weight-valid c.args.self.now c.requires)
+    omega (arith, least, c.cells.ensures.number, c.weight-weight.ensures, weight-valid c.args.self.now c.requires)
 
 pub returns-then-weight-cells : goal.returns-then-weight-cells
 returns-then-weight-cells c =
     let cells = ap (λ (db : Database). db.cells) c.self.view_is in
     let refused = row-refused c.args.self.now c.args.row c.index.result.now c.requires (held (goal.at.returns-then-weight-cells c).After-index)
-    (omega (arith, c.cells.ensures.cells, c.weight-weight.ensures, weight-valid c.args.self.now c.requires, c.cells-in-Some.ensures.cells, c.from.ensures, cells, c.if-weight-cells.true)) in
+    (omega (arith, c.cells.ensures.number, c.weight-weight.ensures, weight-valid c.args.self.now c.requires, c.cells-in-Some.ensures.number, c.from.ensures, cells, c.if-weight-cells.true)) in
     record { ended = refused; same = refl }
 
 pub returns-else-weight-cells : goal.returns-else-weight-cells
@@ -36,7 +36,7 @@ returns-else-weight-cells c =
     let cells = ap (λ (db : Database). db.cells) c.self.view_is in
     let rows = ap (λ (db : Database). db.rows) c.self.view_is in
     let changed = row-changed c.args.self.now c.args.row c.index.result.now c.requires (held (goal.at.returns-else-weight-cells c).After-index)
-    (omega (arith, c.cells.ensures.cells, c.weight-weight.ensures, weight-valid c.args.self.now c.requires, c.cells-in-Some.ensures.cells, c.from.ensures, cells, c.if-weight-cells.false)) in
+    (omega (arith, c.cells.ensures.number, c.weight-weight.ensures, weight-valid c.args.self.now c.requires, c.cells-in-Some.ensures.number, c.from.ensures, cells, c.if-weight-cells.false)) in
     let set = replaced-Some (λ (r : RowRecord). r.stamp) c.args.row c.self.inside.rows.items c.in-Some.at (subst IsValid (sym c.self.view_is) c.requires).rows.rises (sym (rw c.deref.ensures.value at c.in-Some.ensures.place)) in
     record {
       ended = subst (λ (db : Database). Ok (record db { rows = (with_item c.self.inside.rows c.in-Some.at c.args.row).items }) ≡ with_edits c.args.self.now (changing (of_row c.args.row) ∷ [])) (sym c.self.view_is)

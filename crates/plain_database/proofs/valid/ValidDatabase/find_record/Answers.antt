@@ -1,9 +1,15 @@
 -- The row is sought in the table, and is there.
-use Rattle.std.proofs.Common.{◌≡◌, ◌∙◌}
-use Rattle.std.specs.Prelude.{option_copied}
+use Rattle.std.proofs.Common.{◌≡◌, ◌≤◌, Option, Some, None, ◌∙◌}
+use Rattle.std.specs.Prelude.{IfSome, option_copied}
 use Rattle.std.specs.List.{find}
+use Rattle.scql_base.specs.Row.{row_size}
+use Rattle.scql_base.specs.declared.row.TheConstants.Row.{LARGEST}
 use Rattle.scql_base.specs.declared.records.RowRecord.{RowRecord}
-use Rattle.plain_database.specs.Sought.{is_sought}
+use Rattle.scql_model.specs.Contents.{cut_to}
+use Rattle.scql_model.specs.Database.{Database}
+use Rattle.scql_model.specs.Matching.{Columns}
+use Rattle.scql_model.specs.Resolving.{Resolved}
+use Rattle.plain_database.specs.Sought.{IsRowOf, IsShownRow, is_sought}
 use Rattle.plain_database.proofs.CutRows.{sought-within}
 use Rattle.plain_database.proofs.SoughtRows.{find-admitted, found-among, found-in_table, sought-through}
 use Rattle.plain_database.proofs.valid.ValidDatabase.find_record.Goals.{After-find_among}
@@ -20,17 +26,17 @@ returns-clause-shown c =
     rw (is-sought (goal.at.returns-clause-shown c).After-find_among)
     (sought-through c.args.self.now c.args.cursor.now c.args.resolved.now c.args.sought c.database.ensures.valid c.requires.cursor c.requires.resolved)
 
-pub returns-clause-among : goal.returns-clause-among
-returns-clause-among c =
-    rw (is-sought (goal.at.returns-clause-among c).After-find_among)
-    (found-among (λ (r : RowRecord). r.stamp) (is_sought c.args.resolved.now c.args.cursor.now.conditions c.args.sought) c.args.self.now.rows c.database.ensures.valid.rows.rises)
+-- what is known of a row that was found
+shown-row : (db : Database) (r : Resolved) (wanted : Columns) (found : Option RowRecord) → IfSome found (IsRowOf db) → IfSome found (λ s. s.table ≡ r.table) → IfSome found (λ s. row_size (cut_to r.all wanted s.row) ≤ LARGEST)
+    → IfSome found (IsShownRow db r wanted)
+shown-row db r wanted None among table fits = tt
+shown-row db r wanted (Some s) among table fits = record { among = among; table = table; fits = fits }
 
-pub returns-clause-table : goal.returns-clause-table
-returns-clause-table c =
-    rw (is-sought (goal.at.returns-clause-table c).After-find_among)
+pub returns-clause-row : goal.returns-clause-row
+returns-clause-row c =
+    let test = is_sought c.args.resolved.now c.args.cursor.now.conditions c.args.sought in
+    rw (is-sought (goal.at.returns-clause-row c).After-find_among)
+    (shown-row c.args.self.now c.args.resolved.now c.args.cursor.now.columns (find test c.args.self.now.rows)
+    (found-among (λ (r : RowRecord). r.stamp) test c.args.self.now.rows c.database.ensures.valid.rows.rises)
     (found-in_table c.args.resolved.now c.args.cursor.now.conditions c.args.sought c.args.self.now.rows)
-
-pub returns-clause-fits : goal.returns-clause-fits
-returns-clause-fits c =
-    rw (is-sought (goal.at.returns-clause-fits c).After-find_among)
-    (sought-within c.args.self.now c.args.cursor.now c.args.resolved.now c.args.sought c.database.ensures.valid c.requires.cursor c.requires.resolved)
+    (sought-within c.args.self.now c.args.cursor.now c.args.resolved.now c.args.sought c.database.ensures.valid c.requires.cursor c.requires.resolved))

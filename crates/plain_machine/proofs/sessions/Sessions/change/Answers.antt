@@ -19,7 +19,7 @@ cursors c =
     ap (λ (reading : machine.Reading). reading.cursor) reads ∙ ap (λ (s : Session). s.reading.cursor) (sym c.session.view_is)
 
 pub change-requires-clause-cursor : goal.change-requires-clause-cursor
-change-requires-clause-cursor c = subst (λ (cursor : Option Cursor). IfSome cursor (IsCursorOf c.args.database.now)) (cursors c) c.requires.cursor
+change-requires-clause-cursor c = subst (λ (cursor : Option Cursor). IfSome cursor (IsCursorOf c.args.database.now)) (cursors c) c.requires.reads.cursor
 
 pub returns-clause-ends : goal.returns-clause-ends
 returns-clause-ends c = record {

@@ -27,7 +27,7 @@ new-readings : (c : After-read) → reading_on (sessions_of (slice_set c.self.in
 new-readings c = rw (← c.place-place.ensures.place) (found-new c.self.inside.channels c.self.inside.chains c.args.self.now c.place-place.result c.index-self-place.result c.self.invariant c.place-place.ensures.few c.self.view_is c.index-self-place.is c.in-Some.session (new c) c.in-Some.is)
 
 pub unreachable-requires : goal.unreachable-requires
-unreachable-requires c = found-none c.self.inside.channels c.self.inside.chains c.args.self.now c.place-place.result c.index-self-place.result c.self.invariant c.place-place.ensures.few c.self.view_is c.index-self-place.is c.in-None.is (rw c.place-place.ensures.place c.requires.open)
+unreachable-requires c = found-none c.self.inside.channels c.self.inside.chains c.args.self.now c.place-place.result c.index-self-place.result c.self.invariant c.place-place.ensures.few c.self.view_is c.index-self-place.is c.in-None.is (rw c.place-place.ensures.place c.requires.is_open)
 
 pub read-requires : goal.read-requires
 read-requires c =
