@@ -13,9 +13,11 @@ abbrev pub ended : {A : Type 0} → Result (Unit {0}) StatusWord → A → Resul
 ended (Ok done) x = Ok x
 ended (Err word) x = Err word
 
--- How a call ended that wants memory: it put what is meant, or nothing.
+-- How a call ended that wants memory.
 pub record Puts {A E : Type 0} (old new : A) (result : Result (Unit {0}) E) (meant : A) : Type 0 where
+  -- it made what is meant
   pub put : OnOk result (new ≡ meant)
+  -- where memory is wanting, all is as it was
   pub same : OnErr result (new ≡ old)
 
 -- How an operation ended: with what it was to make, or refused.

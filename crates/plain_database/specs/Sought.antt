@@ -36,19 +36,24 @@ abbrev pub is_sought : Resolved → List Condition → Sought → RowRecord → 
 is_sought resolved conditions sought r =
     r.table == resolved.table && (admits sought r.stamp && (matches resolved.all conditions r.row && passes_filters resolved r.row))
 
--- What is resolved is the object of a cursor of a database.
+-- What is resolved for a cursor of a database.
 pub record IsResolvedFor (db : Database) (c : Cursor) (r : Resolved) : Type 0 where
+  -- the cursor is one of the database
   pub cursor : IsCursorOf db c
+  -- and its object is what is resolved
   pub resolved : resolved_of db.objects c.object ≡ Some r
 
 -- a record is a row of the database
 abbrev pub IsRowOf : Database → RowRecord → Type 0
 IsRowOf db r = find (λ (s : RowRecord). s.stamp == r.stamp) db.rows ≡ Some r
 
--- A record is a row of the database in the table that is resolved, and no larger than a row where it is cut to the wanted columns.
+-- A record of which a row is shown.
 pub record IsShownRow (db : Database) (resolved : Resolved) (wanted : Columns) (r : RowRecord) : Type 0 where
+  -- it is a row of the database
   pub among : IsRowOf db r
+  -- in the table that is resolved
   pub table : r.table ≡ resolved.table
+  -- and cut to the wanted columns no larger than a row may be
   pub fits : row_size (cut_to resolved.all wanted r.row) ≤ LARGEST
 
 -- a row of the table as it is shown

@@ -14,6 +14,7 @@ use scql_base::{Grant, Object, RowRecord, StatusWord, User};
 /// What a command makes of a database's records. A change names whole records, as the edits of the model do.
 #[derive(Drop)]
 pub(crate) enum Change {
+    /// A record is added behind all others of its kind.
     AddUser { user: User },
     AddObject { object: Object },
     AddGrant { grant: Grant },
@@ -28,7 +29,9 @@ pub(crate) enum Change {
     RemoveObject { object: Object },
     /// A table goes, and the grants on it and its rows.
     RemoveTable { table: Object },
+    /// A grant goes.
     RemoveGrant { grant: Grant },
+    /// A row goes.
     RemoveRow { row: RowRecord },
 }
 

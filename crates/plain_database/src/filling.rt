@@ -2,11 +2,10 @@
 ghost use Rattle.std.specs.Prelude.{◌≡◌, ◌≤◌, length, nat_lt, vec_capacity};
 ghost use Rattle.std.specs.List.{position};
 ghost use Rattle.eeprom.specs.Slots.{put_in_order};
-ghost use Rattle.scql_model.specs.Database.{IsValid};
 ghost use Rattle.plain_database.specs.Effects.{Puts};
 
 use crate::record::Record;
-use crate::{PlainDatabase, Stamped};
+use crate::{PlainDatabase, Stamped, ValidDatabase};
 use eeprom::Heap;
 use scql_base::{Grant, Object, RowRecord, User};
 use std::alloc::AllocError;
@@ -47,18 +46,18 @@ impl PlainDatabase {
         put(&mut self.rows, row)
     }
 
-    /// Becomes the same database as another one, whose card has as many cells.
-    pub fn take_over(&mut self, other: &PlainDatabase)
-        requires valid { IsValid other.now }
-        requires cells { other.now.cells ≡ self.old.cells }
+    /// Becomes the same database as a valid one, whose card has as many cells.
+    pub fn take_over(&mut self, other: &ValidDatabase<'_>)
+        requires { other.now.cells ≡ self.old.cells }
         ensures { self.new ≡ other.now }
     {
-        self.limit = other.limit;
-        self.next = other.next;
-        refill(&mut self.users, &other.users);
-        refill(&mut self.objects, &other.objects);
-        refill(&mut self.grants, &other.grants);
-        refill(&mut self.rows, &other.rows);
+        let source = other.database();
+        self.limit = source.limit;
+        self.next = source.next;
+        refill(&mut self.users, &source.users);
+        refill(&mut self.objects, &source.objects);
+        refill(&mut self.grants, &source.grants);
+        refill(&mut self.rows, &source.rows);
     }
 }
 

@@ -58,19 +58,26 @@ pub record AreWithin (db : Database) : Type 0 where
 pub record PutsFound {X E : Type 0} (fits : X → Bool) (found : Option X) (old new : List X) (result : Result Bool E) (put' : Type 0) : Type 0 where
   -- it is said whether they are one
   pub known : IfOk result (λ known. known ≡ is_some found)
+  -- they were put
   pub put : OnOk result put'
   -- records that were within the limits of the kind are so still
   pub limits : list_all fits old ≡ true → OnOk result (list_all fits new ≡ true)
 
 -- A database was filled from slots, which have these counters.
 pub record IsFilledFrom (slots : Slots) (old new : Database) (told : Counters) : Type 0 where
+  -- it has the records that are in the slots
   pub records : new ≡ records_in old.cells old.limit slots
+  -- the counters in the slots are these
   pub counters : AreCounters told (kept counter_stamp counter_in slots)
+  -- its records are within their limits
   pub limits : AreWithin new
 
 -- A database is what is found in a store.
 pub record IsFoundIn (store : Stored) (db : Database) : Type 0 where
+  -- its rows have as many octets as those of the store
   pub limit : db.limit ≡ store.row_limit
+  -- the slots hold it
   pub holds : Holds store.slots db
+  -- its records are within their limits, and no object is too long
   pub limits : AreWithin db
   pub short : list_all is_short db.objects ≡ true

@@ -1,6 +1,7 @@
 // How many cells an image has.
 ghost use Rattle.std.specs.Prelude.{◌≡◌, ◌≤◌};
 ghost use Rattle.eeprom.specs.StoreOf.{most_cells};
+ghost use Rattle.plain_database.specs.Within.{IsAtMost};
 
 use std::marker::Model;
 
@@ -34,8 +35,7 @@ impl Cells {
 
     /// Their number.
     pub(crate) fn number(self) -> u16
-        ensures number { result ≡ self }
-        ensures few { result ≤ most_cells }
+        ensures { IsAtMost most_cells result self }
     {
         self.number
     }

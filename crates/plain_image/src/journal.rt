@@ -80,8 +80,7 @@ fn entries_at(
 // The entry in the four octets at a place.
 fn entry_at(octets: &[u8], place: usize) -> Entry
     requires near { place < 1048576 }
-    ensures slot { result.slot ≡ image.number_at octets.now place }
-    ensures first { result.first ≡ image.number_at octets.now (place + 2) }
+    ensures { result ≡ record { slot = image.number_at octets.now place; first = image.number_at octets.now (place + 2) } }
 {
     Entry {
         slot: number_at(octets, place),

@@ -9,9 +9,11 @@ use Rattle.scql_model.specs.Replies.{Reply}
 use Rattle.plain_database.specs.Effects.{ended}
 use Rattle.plain_machine.specs.Sessions.{reading_on, session_on}
 
--- A channel of some sessions is open, and its cursor, if it has one, is of a database.
+-- What is asked of the sessions where a channel reads or changes a database.
 pub record HasCursorOf (db : Database) (sessions : List (Option machine.Session)) (channel : ℕ) : Type 0 where
+  -- the channel is open
   pub is_open : is_some (session_on sessions channel) ≡ true
+  -- and its cursor, if it has one, is of the database
   pub cursor : IfSome (reading_on sessions channel).cursor (IsCursorOf db)
 
 -- A reading command was carried out, or refused, on a channel of what has sessions. What the channel reads is told of these, and what they are with another reading of it.

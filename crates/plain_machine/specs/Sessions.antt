@@ -59,6 +59,7 @@ sessions_after sessions (a_command c) = changed_on without_chain sessions c.chan
 pub record Takes (form : Form) (old new : List (Option machine.Session)) (result : Taken) (command : Command) : Type 0 where
   -- they are refused, kept, or a whole command
   pub taken : result ≡ taken_of form
+  -- the sessions keep a part, and else no part of the channel's command
   pub sessions : new ≡ sessions_after old form
   -- a whole command was read into a place, and is well formed
   pub whole : result ≡ Whole → form ≡ a_command command

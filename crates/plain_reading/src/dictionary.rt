@@ -1,13 +1,12 @@
 // The rows that a cursor shows of a dictionary.
-ghost use Rattle.std.specs.Prelude.{◌≡◌, ◌&&◌, List, filter, length, map, option_copied, option_map};
+ghost use Rattle.std.specs.Prelude.{◌≡◌, ◌&&◌, filter, length, map, option_copied, option_map};
 ghost use Rattle.std.specs.List.{find};
-ghost use Rattle.scql_model.specs.Contents.{narrowed};
 ghost use Rattle.eeprom.specs.Slots.{Rises};
 ghost use Rattle.scql_model.specs.Dictionaries.{rows_told, tells_of};
 ghost use Rattle.scql_model.specs.Matching as matching;
 ghost use Rattle.scql_model.specs.Objects as objects;
-ghost use Rattle.plain_database.specs.Sought.{admits, row_shown};
-ghost use Rattle.plain_reading.specs.Found.{AreColumnsOf};
+ghost use Rattle.plain_database.specs.Sought.{row_shown};
+ghost use Rattle.plain_reading.specs.Found.{AreColumnsOf, sought_among};
 
 use crate::texts::dictionary_columns;
 use crate::told::Told;
@@ -26,8 +25,7 @@ pub(crate) fn find_told(
     sought: Sought,
 ) -> Option<ShownRow>
     requires { AreColumnsOf (objects.dictionary_columns subject) cursor.now.columns }
-    ensures { option_map row_shown result ≡ find (λ r. admits sought r.stamp)
-        (narrowed cursor.now.columns cursor.now.conditions (record { columns = objects.dictionary_columns subject; rows = rows_told database.now owner subject })) }
+    ensures { option_map row_shown result ≡ sought_among cursor.now sought (record { columns = objects.dictionary_columns subject; rows = rows_told database.now owner subject }) }
 {
     let columns = dictionary_columns(subject);
     let records = database.database();
@@ -62,9 +60,8 @@ impl<'a> Dictionary<'a> {
         requires rises { Rises R.stamp_of records.now }
         requires wanted { AreColumnsOf self.now.columns.now cursor.now.columns }
         requires many { (entry : R) → length (R.told self.now.database.now entry).values ≡ length self.now.columns.now }
-        ensures { option_map row_shown result ≡ find (λ r. admits sought r.stamp)
-            (narrowed cursor.now.columns cursor.now.conditions
-            (record { columns = self.now.columns.now; rows = map (R.told self.now.database.now) (filter (λ r. tells_of self.now.owner (R.owned_by self.now.database.now r)) records.now) })) }
+        ensures { option_map row_shown result ≡ sought_among cursor.now sought
+            (record { columns = self.now.columns.now; rows = map (R.told self.now.database.now) (filter (λ r. tells_of self.now.owner (R.owned_by self.now.database.now r)) records.now) }) }
     {
         let found = self.find_among(sought.admitted(records), cursor)?;
         let values = found.values(self.database);
@@ -88,7 +85,12 @@ impl<'a> Dictionary<'a> {
         ensures { result ≡ (tells_of self.now.owner (R.owned_by self.now.database.now entry.now)
             && matching.matches self.now.columns.now cursor.now.conditions (R.told self.now.database.now entry.now).values) }
     {
-        self.tells_of(entry) && self.meets(entry, cursor)
+        self.tells_of(entry)
+            && matches(
+                self.columns,
+                cursor.conditions.as_slice(),
+                &entry.values(self.database),
+            )
     }
 
     // Whether it tells of a record.
@@ -96,16 +98,5 @@ impl<'a> Dictionary<'a> {
         ensures { result ≡ tells_of self.now.owner (R.owned_by self.now.database.now entry.now) }
     {
         self.owner == OWNER || entry.owner(self.database) == self.owner
-    }
-
-    // Whether the row of a record meets a cursor's conditions.
-    fn meets<R: Told>(&self, entry: &R, cursor: &Cursor) -> bool
-        ensures { result ≡ matching.matches self.now.columns.now cursor.now.conditions (R.told self.now.database.now entry.now).values }
-    {
-        matches(
-            self.columns,
-            cursor.conditions.as_slice(),
-            &entry.values(self.database),
-        )
     }
 }

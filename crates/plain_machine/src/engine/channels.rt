@@ -1,5 +1,4 @@
 // MANAGE CHANNEL: channels are opened and closed (ISO/IEC 7816-4).
-ghost use Rattle.std.specs.Prelude.{◌<◌};
 ghost use Rattle.scql_model.specs.Step as stepping;
 ghost use Rattle.plain_reading.specs.Outcomes.{Answers};
 ghost use Rattle.plain_machine.specs.Answers.{outcome_left};
@@ -20,10 +19,20 @@ impl Engine {
         ensures { Answers self.old self.new reply.new result (outcome_left (stepping.channel_opened self.old channel number)) }
     {
         if number.number() == 0 {
-            self.open_least(channel, reply)
-        } else {
-            self.open_named(channel, number, reply)
+            let Some(least) = self.sessions.least_closed() else {
+                return Err(StatusWord::FUNCTION_NOT_SUPPORTED);
+            };
+            self.sessions.open(least, None);
+            self.finish(channel, reply);
+            reply.body.push(least.number());
+            return Ok(());
         }
+        if self.sessions.is_open(number) {
+            return Err(StatusWord::CONDITIONS_NOT_SATISFIED);
+        }
+        self.sessions.open(number, None);
+        self.finish(channel, reply);
+        Ok(())
     }
 
     // Closes a channel, unless it has the open transaction.
@@ -42,37 +51,6 @@ impl Engine {
             return Err(StatusWord::CONDITIONS_NOT_SATISFIED);
         }
         self.sessions.close(number);
-        self.finish(channel, reply);
-        Ok(())
-    }
-
-    // Opens the least channel that is closed, whose number is answered.
-    fn open_least(&mut self, channel: Channel, reply: &mut Reply) -> Result<(), StatusWord>
-        ensures { Answers self.old self.new reply.new result (outcome_left (stepping.channel_opened self.old channel 0)) }
-    {
-        let Some(number) = self.sessions.least_closed() else {
-            return Err(StatusWord::FUNCTION_NOT_SUPPORTED);
-        };
-        self.sessions.open(number, None);
-        self.finish(channel, reply);
-        reply.body.push(number.number());
-        Ok(())
-    }
-
-    // Opens a channel that is closed.
-    fn open_named(
-        &mut self,
-        channel: Channel,
-        number: Channel,
-        reply: &mut Reply,
-    ) -> Result<(), StatusWord>
-        requires { 0 < number }
-        ensures { Answers self.old self.new reply.new result (outcome_left (stepping.channel_opened self.old channel number)) }
-    {
-        if self.sessions.is_open(number) {
-            return Err(StatusWord::CONDITIONS_NOT_SATISFIED);
-        }
-        self.sessions.open(number, None);
         self.finish(channel, reply);
         Ok(())
     }

@@ -19,7 +19,7 @@ impl Engine {
         if self.transaction.is_some() {
             return Err(StatusWord::CONDITIONS_NOT_SATISFIED);
         }
-        self.working.take_over(&self.committed);
+        self.working.take_over(&self.committed.as_valid());
         self.transaction = Some(channel.number());
         self.finish(channel, reply);
         Ok(())
