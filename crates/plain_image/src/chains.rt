@@ -1,5 +1,5 @@
 // Chains of cells: which cells they have, and what tells those of records.
-ghost use Rattle.std.specs.Prelude.{◌≡◌, ◌≤◌, ◌<◌, ◌*◌, ◌&&◌, IfOk, length, nat_le, option_map};
+ghost use Rattle.std.specs.Prelude.{◌≡◌, ◌<◌, ◌*◌, ◌&&◌, IfOk, length, nat_le, option_map};
 ghost use Rattle.eeprom.specs.StoreOf as image;
 
 use crate::cells::Cells;
