@@ -41,6 +41,7 @@ use Rattle.card_asking.proofs.Rows.{gives-first, gives-shown, all-given}
 use Rattle.table_copy.specs.Copy.{source_rows}
 use Rattle.table_copy.specs.Copying.{StaysAt}
 use Rattle.table_copy.specs.Filling.{Piece, UnlessSourceMute, IsFetching, GivesAll, OpensSo, fetched_by, goes_on_by, whether}
+use Rattle.table_copy.specs.Leaving.{Advances}
 use Rattle.table_copy.specs.declared.copy_end.CopyEnd.TheVariants.{SourceMute}
 use Rattle.table_copy.proofs.Ending.{unless-source_mute}
 
@@ -54,13 +55,6 @@ rows-go_on is_at s last count rows p (Done closed) now gives = ap (λ (closing :
 -- a plan that only reads leaves the source as it was
 pub gives-stays : {L : Type 0} (is_at : L → Machine → Type 0) (s last : Machine) (closing : Closing) (rows : List Values) (p : Planned) (step : Step) (now : L) → GivesRows is_at s closing last rows p step now → StaysAt is_at s now
 gives-stays is_at s last closing rows p step now gives = record { machine = gives.machine; at = gives.at; like = gives.like }
-
--- what one step of the source's plan says
-pub record Advanced {L : Type 0} (is_at : L → Machine → Type 0) (p : Planned) (step : Step) (before : Reply) (old : L) (r : Piece (Unit {0})) (q : Planned) (next : Step) (reply : Reply) (now : L) : Type 0 where
-  pub gives : (m last : Machine) (closing : Closing) (rows : List Values) → GivesRows is_at m closing last rows p step old → UnlessSourceMute r (GivesRows is_at m closing last (behind_step step rows) q next now)
-  pub goes_on : UnlessSourceMute r (r ≡ goes_on_by next)
-  pub turns : UnlessSourceMute r (turn_by p step reply ≡ record { plan = q; step = next })
-  pub heard : (m : Machine) → is_at old m → UnlessSourceMute r (reply ≡ heard_at m step before)
 
 module _ (s : Machine) (object : List ℕ) (can : CanBeSent 0 (Select object [] [])) (over : HasValidData s) where
   abbrev asked : Command
@@ -144,7 +138,7 @@ module _ (s : Machine) (object : List ℕ) (can : CanBeSent 0 (Select object [] 
             subst (λ (rows : List Values). GivesAll is_at s (length rows) rows declaring (Send asked) now) same (record { last = _; gives = gives })
 
     -- DECLARE: it is refused where nothing is shown, and else OPEN comes next
-    module _ (before : Reply) (old : L) (r : Piece (Unit {0})) (q : Planned) (next : Step) (reply : Reply) (now : L) (at : is_at old s) (a : Advanced is_at declaring (Send asked) before old r q next reply now) where
+    module _ (before : Reply) (old : L) (r : Piece (Unit {0})) (q : Planned) (next : Step) (reply : Reply) (now : L) (at : is_at old s) (a : Advances is_at declaring (Send asked) before old r q next reply now) where
       refused-first : (word : StatusWord) → source_rows s object ≡ Err word → (r ≡ Err SourceMute → ⊥) → OpensSo is_at s (Err word) q next r now
       refused-first word none heard =
           let refused = refused-so word none in
@@ -186,17 +180,17 @@ module _ (s : Machine) (object : List ℕ) (can : CanBeSent 0 (Select object [] 
           go false refusal = ap (λ (step : Step). behind_step step rows) (sym (turned false refusal))
 
     -- so by whichever names the first step goes
-    at-first : (turn : Turn) → next_of None first ≡ turn → (before : Reply) (old : L) (r : Piece (Unit {0})) (q : Planned) (next : Step) (reply : Reply) (now : L) → Advanced is_at turn.plan turn.step before old r q next reply now
-        → Advanced is_at declaring (Send asked) before old r q next reply now
-    at-first turn is before old r q next reply now a = subst (λ (turn : Turn). Advanced is_at turn.plan turn.step before old r q next reply now) (sym is) a
+    at-first : (turn : Turn) → next_of None first ≡ turn → (before : Reply) (old : L) (r : Piece (Unit {0})) (q : Planned) (next : Step) (reply : Reply) (now : L) → Advances is_at turn.plan turn.step before old r q next reply now
+        → Advances is_at declaring (Send asked) before old r q next reply now
+    at-first turn is before old r q next reply now a = subst (λ (turn : Turn). Advances is_at turn.plan turn.step before old r q next reply now) (sym is) a
 
-    pub opens-one : (turn : Turn) → next_of None first ≡ turn → (before : Reply) (old : L) (r : Piece (Unit {0})) (q : Planned) (next : Step) (reply : Reply) (now : L) → is_at old s → Advanced is_at turn.plan turn.step before old r q next reply now
+    pub opens-one : (turn : Turn) → next_of None first ≡ turn → (before : Reply) (old : L) (r : Piece (Unit {0})) (q : Planned) (next : Step) (reply : Reply) (now : L) → is_at old s → Advances is_at turn.plan turn.step before old r q next reply now
         → OpensSo is_at s (source_rows s object) q next r now
     opens-one turn is before old r q next reply now at a = opens-first before old r q next reply now at (at-first turn is before old r q next reply now a)
 
     -- OPEN behind it
-    pub opens-both : (turn : Turn) → next_of None first ≡ turn → (before : Reply) (old : L) (r : Piece (Unit {0})) (q : Planned) (next : Step) (reply : Reply) (mid : L) → is_at old s → Advanced is_at turn.plan turn.step before old r q next reply mid
-        → r ≡ Ok tt → (r₂ : Piece (Unit {0})) (q₂ : Planned) (next₂ : Step) (reply₂ : Reply) (now : L) → Advanced is_at q next reply mid r₂ q₂ next₂ reply₂ now → OpensSo is_at s (source_rows s object) q₂ next₂ r₂ now
+    pub opens-both : (turn : Turn) → next_of None first ≡ turn → (before : Reply) (old : L) (r : Piece (Unit {0})) (q : Planned) (next : Step) (reply : Reply) (mid : L) → is_at old s → Advances is_at turn.plan turn.step before old r q next reply mid
+        → r ≡ Ok tt → (r₂ : Piece (Unit {0})) (q₂ : Planned) (next₂ : Step) (reply₂ : Reply) (now : L) → Advances is_at q next reply mid r₂ q₂ next₂ reply₂ now → OpensSo is_at s (source_rows s object) q₂ next₂ r₂ now
     opens-both turn is before old r q next reply mid at a done r₂ q₂ next₂ reply₂ now b =
         let one = at-first turn is before old r q next reply mid a in
         let opened : OpensSo is_at s (source_rows s object) q next (Ok tt) mid = subst (λ (r : Piece (Unit {0})). OpensSo is_at s (source_rows s object) q next r mid) done (opens-first before old r q next reply mid at one) in

@@ -1,13 +1,22 @@
 -- What a copy and its pieces leave of the cards: over one machine of each, and whatever is told of them.
-use Rattle.std.specs.Prelude.{ℕ, ◌∷◌, Bool, List, Option}
+use Rattle.std.specs.Prelude.{◌≡◌, ℕ, ◌∷◌, Bool, List, Option, IsTrue}
 use Rattle.eeprom.specs.Chip.{Chip}
+use Rattle.scql_model.specs.Database.{Database}
 use Rattle.scql_model.specs.Machine.{Machine}
+use Rattle.scql_model.specs.Matching.{Values}
+use Rattle.scql_model.specs.Replies.{Reply}
+use Rattle.script.specs.Commands.{IsSendable}
 use Rattle.card_link.specs.Link.{Holds, IsOneOf, LeavesOpen}
+use Rattle.planner.specs.declared.closing.Closing.{Closing}
+use Rattle.planner.specs.declared.step.Step.{Step}
+use Rattle.planner.specs.Planned.{IfSent, Planned}
 use Rattle.card_asking.specs.Calls.{HasGoneOn}
+use Rattle.card_asking.specs.Following.{heard_at, turn_by}
+use Rattle.card_asking.specs.Giving.{GivesRows, behind_step}
 use Rattle.table_copy.specs.declared.copy_end.CopyEnd.{CopyEnd}
 use Rattle.table_copy.specs.Copy.{Copy}
 use Rattle.table_copy.specs.Copying.{CopiesSo, EndsBy, GoesBy, ReadsSo}
-use Rattle.table_copy.specs.Filling.{FetchesSo, IsFilling, OfDest, OfSource, Piece, UnlessDestMute}
+use Rattle.table_copy.specs.Filling.{FetchesSo, IsFilling, OfDest, OfSource, Piece, UnlessDestMute, UnlessSourceMute, goes_on_by}
 use Rattle.table_copy.specs.Progress.{ShowsCopy}
 
 -- A copy ended so on a destination that was at a machine. It is to do this there.
@@ -34,6 +43,11 @@ pub record CopyLeaves {S D P : Type 0} (s_live : S → Bool) (s_faults s_mark : 
   -- A person was shown how far it came.
   pub shows : ShowsCopy lost shown result person after
 
+-- A copy can go on that is under way: both cards answer, and the step can be sent at which the source's plan is.
+pub record CanGoOn {S D : Type 0} (s_live : S → Bool) (d_live : D → Bool) (step : Step) (source : S) (dest : D) : Type 0 where
+  pub live : IsTrue (s_live source) × IsTrue (d_live dest)
+  pub sendable : IfSent step IsSendable
+
 -- So of a piece of it: over a source that was at a machine,
 pub record FetchesOver {L A : Type 0} (is_at : L → Machine → Type 0) (mark : L → ℕ) (chip : L → Chip) (s : Machine) (result : Piece A) (then' : Type 0) (old new : L) : Type 0 where
   pub reads : FetchesSo is_at s result then' new
@@ -59,3 +73,20 @@ pub record SourceLeaves {L A : Type 0} (is_live : L → Bool) (faults mark : L �
 pub record DestLeaves {L A : Type 0} (is_live : L → Bool) (faults mark : L → ℕ) (keeps goes_on : L → L → Type 0) (result : Piece A) (old new : L) : Type 0 where
   pub ends : OfDest is_live faults result old new
   pub rest : HasGoneOn mark keeps goes_on old new
+
+-- A piece on one card that was at a machine, or of which it is known what it is still to do.
+pub record ComesTo {L : Type 0} (moment : ℕ → Database → Type 0) (chip : L → Chip) (came : Type 0) (old new : L) : Type 0 where
+  -- This came of it.
+  pub comes : came
+  -- At each moment a power loss leaves one of these databases.
+  pub moments : LeavesOpen moment (chip old) (chip new)
+
+-- The source's plan was followed by a step, unless the source is mute.
+pub record Advances {L : Type 0} (is_at : L → Machine → Type 0) (p : Planned) (step : Step) (before : Reply) (old : L) (result : Piece (Unit {0})) (q : Planned) (next : Step) (reply : Reply) (new : L) : Type 0 where
+  -- It is still to give the rows that are left behind the step.
+  pub gives : (m last : Machine) (closing : Closing) (rows : List Values) → GivesRows is_at m closing last rows p step old → UnlessSourceMute result (GivesRows is_at m closing last (behind_step step rows) q next new)
+  -- The copy ends where the plan was refused.
+  pub goes_on : UnlessSourceMute result (result ≡ goes_on_by next)
+  -- The plan goes on by the reply, which is the answer to the command that the step sends.
+  pub turns : UnlessSourceMute result (turn_by p step reply ≡ record { plan = q; step = next })
+  pub heard : (m : Machine) → is_at old m → UnlessSourceMute result (reply ≡ heard_at m step before)

@@ -4,14 +4,12 @@ ghost use Rattle.scql_base.specs.declared.words.StatusWord.{StatusWord as ModelW
 ghost use Rattle.scql_model.specs.Database.{Database};
 ghost use Rattle.scql_model.specs.Machine.{Machine};
 ghost use Rattle.scql_model.specs.Matching.{Values};
-ghost use Rattle.script.specs.Commands.{IsSendable};
-ghost use Rattle.card_link.specs.Link.{IsOneOf, LeavesOpen};
-ghost use Rattle.planner.specs.Planned.{IfSent};
+ghost use Rattle.card_link.specs.Link.{IsOneOf};
 ghost use Rattle.card_asking.specs.Following.{ComesOn};
 ghost use Rattle.table_copy.specs.Copy as model;
 ghost use Rattle.table_copy.specs.Copying.{StaysAt, UndoneSo};
 ghost use Rattle.table_copy.specs.Filling.{CopiesAt, FillsSo, GivesAll, HasRow, IsCommitted, IsFetching, IsFilled, IsFilling, PutsSo, Together, TurnsSo, commits_by, counted_by, has_row as model_has_row, with_row};
-ghost use Rattle.table_copy.specs.Leaving.{CopiesOver, CopyLeaves, DestLeaves, FetchesOver, FillsOver, PieceLeaves, ReadsOver};
+ghost use Rattle.table_copy.specs.Leaving.{CanGoOn, ComesTo, CopiesOver, CopyLeaves, DestLeaves, FetchesOver, FillsOver, PieceLeaves, ReadsOver};
 ghost use Rattle.table_copy.specs.Progress.{ShowsRows};
 
 use crate::CopyEnd;
@@ -53,8 +51,7 @@ fn turn<S: CardLink, D: CardLink>(
     table: &Name,
     fetching: &mut Fetching,
 ) -> Result<(), CopyEnd>
-    requires live { IsTrue (S.is_live source.old) × IsTrue (D.is_live dest.old) }
-    requires sendable { IfSent fetching.old.step IsSendable }
+    requires { CanGoOn S.is_live D.is_live fetching.old.step source.old dest.old }
     ensures turns { (s d : Machine) (count passed : ℕ) (total : Result Database ModelWord) → Together S.is_at D.is_at s d count passed table.now total fetching.old.plan fetching.old.step source.old dest.old
         → TurnsSo total result (λ _. Together S.is_at D.is_at s d count (with_row (model_has_row fetching.old.step) passed) table.now total fetching.new.plan fetching.new.step source.new dest.new) }
     ensures reads { (s : Machine) → IsFetching S.is_at s fetching.old.plan fetching.old.step source.old → FetchesOver S.is_at S.mark S.chip s result (IsFetching S.is_at s fetching.new.plan fetching.new.step source.new) source.old source.new }
@@ -82,8 +79,7 @@ fn insert_rows<S: CardLink, D: CardLink, P: Person>(
     fetching: &mut Fetching,
     person: &mut P,
 ) -> Result<u32, CopyEnd>
-    requires live { IsTrue (S.is_live source.old) × IsTrue (D.is_live dest.old) }
-    requires sendable { IfSent fetching.old.step IsSendable }
+    requires { CanGoOn S.is_live D.is_live fetching.old.step source.old dest.old }
     ensures turns { (s d : Machine) (count : ℕ) (total : Result Database ModelWord) → Together S.is_at D.is_at s d count 0 table.now total fetching.old.plan fetching.old.step source.old dest.old
         → TurnsSo total result (λ number. IsFilled D.is_at d count total number dest.new) }
     ensures reads { (s : Machine) → IsFetching S.is_at s fetching.old.plan fetching.old.step source.old → FetchesOver S.is_at S.mark S.chip s result (StaysAt S.is_at s source.new) source.old source.new }
@@ -115,14 +111,11 @@ fn fill<S: CardLink, D: CardLink, P: Person>(
     fetching: &mut Fetching,
     person: &mut P,
 ) -> Result<u32, CopyEnd>
-    requires live { IsTrue (S.is_live source.old) × IsTrue (D.is_live dest.old) }
-    requires sendable { IfSent fetching.old.step IsSendable }
+    requires { CanGoOn S.is_live D.is_live fetching.old.step source.old dest.old }
     ensures turns { (s d : Machine) (count : ℕ) (total : Result Database ModelWord) → Together S.is_at D.is_at s d count 0 table.now total fetching.old.plan fetching.old.step source.old dest.old
-        → TurnsSo total result (λ number. IsCommitted D.is_at d count total number dest.new) }
+        → ComesTo (IsOneOf (D.mark dest.old) (d.committed ∷ commits_by total)) D.chip (TurnsSo total result (λ number. IsCommitted D.is_at d count total number dest.new)) dest.old dest.new }
     ensures reads { (s : Machine) → IsFetching S.is_at s fetching.old.plan fetching.old.step source.old → FetchesOver S.is_at S.mark S.chip s result (StaysAt S.is_at s source.new) source.old source.new }
     ensures fills { (d : Machine) → IsFilling D.is_at d dest.old → FillsSo D.is_at d result dest.new }
-    ensures moments { (s d : Machine) (count : ℕ) (total : Result Database ModelWord) → Together S.is_at D.is_at s d count 0 table.now total fetching.old.plan fetching.old.step source.old dest.old
-        → LeavesOpen (IsOneOf (D.mark dest.old) (d.committed ∷ commits_by total)) (D.chip dest.old) (D.chip dest.new) }
     ensures leaves { PieceLeaves S.is_live S.faults S.mark S.keeps S.goes_on D.is_live D.faults D.mark D.keeps D.goes_on result source.old source.new dest.old dest.new }
     ensures shows { ShowsRows P.lost P.shown result person.old person.new }
 {
@@ -155,8 +148,7 @@ fn copy_opened<S: CardLink, D: CardLink, P: Person>(
     fetching: &mut Fetching,
     person: &mut P,
 ) -> CopyEnd
-    requires live { IsTrue (S.is_live source.old) × IsTrue (D.is_live dest.old) }
-    requires sendable { IfSent fetching.old.step IsSendable }
+    requires { CanGoOn S.is_live D.is_live fetching.old.step source.old dest.old }
     ensures copied { (s d : Machine) (rows : List Values) → GivesAll S.is_at s (length rows) rows fetching.old.plan fetching.old.step source.old → D.is_at dest.old d
         → CopiesOver D.is_at D.mark D.chip d (model.put_into d table.now (Ok rows)) result dest.old dest.new }
     ensures undone { (d : Machine) → D.is_at dest.old d → UndoneSo D.is_at d result dest.new }

@@ -8,13 +8,13 @@ ghost use Rattle.scql_model.specs.ReadingCommands.{row_octets};
 ghost use Rattle.scql_model.specs.Records.{is_row};
 ghost use Rattle.script.specs.Commands as commands;
 ghost use Rattle.script.specs.Commands.{IsSendable};
-ghost use Rattle.card_link.specs.Link.{Answered, Holds, IsOneOf, LeavesOpen};
+ghost use Rattle.card_link.specs.Link.{Answered, Holds, IsOneOf};
 ghost use Rattle.planner.specs.Meaning.{answer_to};
 ghost use Rattle.table_copy.specs.Copy.{may_begin, row_copied};
 ghost use Rattle.card_asking.specs.Calls.{HasGoneOn};
 ghost use Rattle.table_copy.specs.Copying.{StaysAt};
 ghost use Rattle.table_copy.specs.Filling.{BeginsSo, CommitsSo, CopiesAt, InsertsSo, IsFilling, IsInsertion, RollsBackSo, UnlessDestMute, done_by};
-ghost use Rattle.table_copy.specs.Leaving.{DestLeaves, FillsOver};
+ghost use Rattle.table_copy.specs.Leaving.{ComesTo, DestLeaves, FillsOver};
 ghost use Rattle.table_copy.specs.declared.copy_end.CopyEnd.TheVariants.{DestMute};
 
 use crate::CopyEnd;
@@ -49,10 +49,9 @@ fn done(word: StatusWord) -> Result<(), CopyEnd>
 fn put<L: CardLink>(dest: &mut L, command: &Command, reply: &mut Reply) -> Result<(), CopyEnd>
     requires live { IsTrue (L.is_live dest.old) }
     requires sendable { IsSendable command.now }
-    ensures answer { (m : Machine) → L.is_at dest.old m → UnlessDestMute result (Answered L.is_at (answer_to m command.now) reply.new dest.new) }
+    ensures answers { (m : Machine) → L.is_at dest.old m
+        → ComesTo (IsOneOf (L.mark dest.old) (m.committed ∷ (answer_to m command.now).commits)) L.chip (UnlessDestMute result (Answered L.is_at (answer_to m command.now) reply.new dest.new)) dest.old dest.new }
     ensures done { UnlessDestMute result (result ≡ done_by reply.new.word) }
-    ensures moments { (m : Machine) → L.is_at dest.old m
-        → LeavesOpen (IsOneOf (L.mark dest.old) (m.committed ∷ (answer_to m command.now).commits)) (L.chip dest.old) (L.chip dest.new) }
     ensures leaves { DestLeaves L.is_live L.faults L.mark L.keeps L.goes_on result dest.old dest.new }
 {
     match ask(dest, command, reply) {
@@ -64,8 +63,7 @@ fn put<L: CardLink>(dest: &mut L, command: &Command, reply: &mut Reply) -> Resul
 /// BEGIN.
 pub fn begin<L: CardLink>(dest: &mut L, reply: &mut Reply) -> Result<(), CopyEnd>
     requires live { IsTrue (L.is_live dest.old) }
-    ensures begins { (d : Machine) → L.is_at dest.old d → BeginsSo L.is_at d (may_begin d) result dest.new }
-    ensures moments { (d : Machine) → L.is_at dest.old d → LeavesOpen (Holds (L.mark dest.old) d.committed) (L.chip dest.old) (L.chip dest.new) }
+    ensures begins { (d : Machine) → L.is_at dest.old d → ComesTo (Holds (L.mark dest.old) d.committed) L.chip (BeginsSo L.is_at d (may_begin d) result dest.new) dest.old dest.new }
     ensures leaves { DestLeaves L.is_live L.faults L.mark L.keeps L.goes_on result dest.old dest.new }
 {
     put(dest, &asking(Operation::Begin), reply)
@@ -111,9 +109,8 @@ pub fn insert<L: CardLink>(
 /// COMMIT.
 pub fn commit<L: CardLink>(dest: &mut L, reply: &mut Reply) -> Result<(), CopyEnd>
     requires live { IsTrue (L.is_live dest.old) }
-    ensures commits { (d : Machine) (db : Database) → CopiesAt L.is_at d db dest.old → CommitsSo L.is_at d db result dest.new }
-    ensures moments { (d : Machine) (db : Database) → CopiesAt L.is_at d db dest.old
-        → LeavesOpen (IsOneOf (L.mark dest.old) (d.committed ∷ db ∷ [])) (L.chip dest.old) (L.chip dest.new) }
+    ensures commits { (d : Machine) (db : Database) → CopiesAt L.is_at d db dest.old
+        → ComesTo (IsOneOf (L.mark dest.old) (d.committed ∷ db ∷ [])) L.chip (CommitsSo L.is_at d db result dest.new) dest.old dest.new }
     ensures leaves { DestLeaves L.is_live L.faults L.mark L.keeps L.goes_on result dest.old dest.new }
 {
     put(dest, &asking(Operation::Commit), reply)
@@ -122,10 +119,9 @@ pub fn commit<L: CardLink>(dest: &mut L, reply: &mut Reply) -> Result<(), CopyEn
 /// ROLLBACK behind this end of the copy, unless the destination is mute. Only where it is mute then does its answer change anything.
 pub fn roll_back<L: CardLink>(dest: &mut L, end: CopyEnd, reply: &mut Reply) -> CopyEnd
     requires live { (end ≡ DestMute → ⊥) → IsTrue (L.is_live dest.old) }
-    ensures rolls { (d : Machine) → IsFilling L.is_at d dest.old → (result ≡ DestMute → ⊥) → StaysAt L.is_at d dest.new }
+    ensures rolls { (d : Machine) → IsFilling L.is_at d dest.old → ComesTo (Holds (L.mark dest.old) d.committed) L.chip ((result ≡ DestMute → ⊥) → StaysAt L.is_at d dest.new) dest.old dest.new }
     ensures same { (result ≡ DestMute → ⊥) → result ≡ end }
     ensures mute { end ≡ DestMute → (result ≡ DestMute) × (dest.new ≡ dest.old) }
-    ensures moments { (d : Machine) → IsFilling L.is_at d dest.old → LeavesOpen (Holds (L.mark dest.old) d.committed) (L.chip dest.old) (L.chip dest.new) }
     ensures ends { (end ≡ DestMute → ⊥) → RollsBackSo L.is_live L.faults result dest.old dest.new }
     ensures rest { HasGoneOn L.mark L.keeps L.goes_on dest.old dest.new }
 {

@@ -7,11 +7,11 @@ ghost use Rattle.script.specs.Commands.{CanBeSent, IsSendable};
 ghost use Rattle.card_link.specs.Link.{Holds, LeavesOpen};
 ghost use Rattle.planner.specs.declared.closing.Closing.{Closing as ModelClosing};
 ghost use Rattle.planner.specs.Planned.{IfSent, started};
-ghost use Rattle.card_asking.specs.Following.{ComesOn, heard_at, turn_by};
-ghost use Rattle.card_asking.specs.Giving.{GivesRows, behind_step};
+ghost use Rattle.card_asking.specs.Following.{ComesOn};
+ghost use Rattle.card_asking.specs.Giving.{GivesRows};
 ghost use Rattle.table_copy.specs.Copy.{source_rows};
-ghost use Rattle.table_copy.specs.Filling.{OpensSo, UnlessSourceMute, fetched_by, goes_on_by};
-ghost use Rattle.table_copy.specs.Leaving.{SourceLeaves};
+ghost use Rattle.table_copy.specs.Filling.{OpensSo, fetched_by, goes_on_by};
+ghost use Rattle.table_copy.specs.Leaving.{Advances, ComesTo, SourceLeaves};
 
 use crate::CopyEnd;
 use crate::fetching::Fetching;
@@ -61,11 +61,7 @@ pub fn goes_on(step: &Step) -> Result<(), CopyEnd>
 pub fn advance<L: CardLink>(source: &mut L, fetching: &mut Fetching) -> Result<(), CopyEnd>
     requires live { IsTrue (L.is_live source.old) }
     requires sendable { IfSent fetching.old.step IsSendable }
-    ensures gives { (m last : Machine) (closing : ModelClosing) (rows : List Values) → GivesRows L.is_at m closing last rows fetching.old.plan fetching.old.step source.old
-        → UnlessSourceMute result (GivesRows L.is_at m closing last (behind_step fetching.old.step rows) fetching.new.plan fetching.new.step source.new) }
-    ensures goes_on { UnlessSourceMute result (result ≡ goes_on_by fetching.new.step) }
-    ensures turns { UnlessSourceMute result (turn_by fetching.old.plan fetching.old.step fetching.new.reply ≡ record { plan = fetching.new.plan; step = fetching.new.step }) }
-    ensures reply { (m : Machine) → L.is_at source.old m → UnlessSourceMute result (fetching.new.reply ≡ heard_at m fetching.old.step fetching.old.reply) }
+    ensures advances { Advances L.is_at fetching.old.plan fetching.old.step fetching.old.reply source.old result fetching.new.plan fetching.new.step fetching.new.reply source.new }
     ensures still { (m last : Machine) (closing : ModelClosing) (rows : List Values) → GivesRows L.is_at m closing last rows fetching.old.plan fetching.old.step source.old
         → LeavesOpen (Holds (L.mark source.old) m.committed) (L.chip source.old) (L.chip source.new) }
     ensures comes_on { OnOk result (ComesOn fetching.old.plan fetching.old.step fetching.new.plan fetching.new.step) }
@@ -86,9 +82,7 @@ pub fn advance<L: CardLink>(source: &mut L, fetching: &mut Fetching) -> Result<(
 pub fn open<L: CardLink>(source: &mut L, fetching: &mut Fetching) -> Result<(), CopyEnd>
     requires live { IsTrue (L.is_live source.old) }
     ensures opens { (s : Machine) (object : List ℕ) → fetching.old.plan ≡ started (Select object [] []) 0 false → CanBeSent 0 (Select object [] []) → L.is_at source.old s
-        → OpensSo L.is_at s (source_rows s object) fetching.new.plan fetching.new.step result source.new }
-    ensures still { (s : Machine) (object : List ℕ) → fetching.old.plan ≡ started (Select object [] []) 0 false → CanBeSent 0 (Select object [] []) → L.is_at source.old s
-        → LeavesOpen (Holds (L.mark source.old) s.committed) (L.chip source.old) (L.chip source.new) }
+        → ComesTo (Holds (L.mark source.old) s.committed) L.chip (OpensSo L.is_at s (source_rows s object) fetching.new.plan fetching.new.step result source.new) source.old source.new }
     ensures sendable { OnOk result (IfSent fetching.new.step IsSendable) }
     ensures leaves { SourceLeaves L.is_live L.faults L.mark L.keeps L.goes_on result source.old source.new }
 {

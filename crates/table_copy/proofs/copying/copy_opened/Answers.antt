@@ -14,14 +14,14 @@ use Rattle.table_copy.proofs.copying.copy_opened.Goals as goal
 
 pub returns-in-Ok-clause-copied : goal.returns-in-Ok-clause-copied
 returns-in-Ok-clause-copied g c = λ s d rows gives at.
-    let begun = c.in_default.ensures.begins d at in
+    let begun = (c.in_default.ensures.begins d at).comes in
     let total = copy_of d.committed (actor d 0) c.args.table.now rows in
     let together = together-first g.S.CardLink.is_at g.D.CardLink.is_at s d rows c.args.table.now c.args.fetching.now.plan c.args.fetching.now.step c.args.source.now c.begin.new.dest gives begun.1 in
     record {
-      copies = copied-so g.D.CardLink.is_at d (length rows) _ total c.in-Ok.rows c.fill.new.dest (begun-total d total begun.0) (c.in-Ok.ensures.turns s d (length rows) total together);
+      copies = copied-so g.D.CardLink.is_at d (length rows) _ total c.in-Ok.rows c.fill.new.dest (begun-total d total begun.0) (c.in-Ok.ensures.turns s d (length rows) total together).comes;
       dest_moments =
           begun-moments g.D.CardLink.chip g.D.CardLink.mark d.committed _ _ c.args.dest.now c.begin.new.dest c.fill.new.dest (commits-same (length rows) _ total (begun-total d total begun.0)) c.begin.ensures.leaves.rest.marked
-          (c.begin.ensures.moments d at) (c.fill.ensures.moments s d (length rows) total together);
+          (c.begin.ensures.begins d at).moments (c.fill.ensures.turns s d (length rows) total together).moments;
     }
 
 pub returns-in-Ok-clause-read : goal.returns-in-Ok-clause-read
@@ -29,7 +29,7 @@ returns-in-Ok-clause-read g c = λ s fetching. record { reads = λ _. (c.in-Ok.e
 
 pub returns-in-Err-fill-clause-copied : goal.returns-in-Err-fill-clause-copied
 returns-in-Err-fill-clause-copied g c = λ s d rows gives at.
-    let begun = c.in_default.ensures.begins d at in
+    let begun = (c.in_default.ensures.begins d at).comes in
     let total = copy_of d.committed (actor d 0) c.args.table.now rows in
     let together = together-first g.S.CardLink.is_at g.D.CardLink.is_at s d rows c.args.table.now c.args.fetching.now.plan c.args.fetching.now.step c.args.source.now c.begin.new.dest gives begun.1 in
     record {
@@ -37,18 +37,17 @@ returns-in-Err-fill-clause-copied g c = λ s d rows gives at.
           unless-mute (λ r. CopiesSo g.D.CardLink.is_at d (put_into d c.args.table.now (Ok rows)) r c.roll_back.new.dest) c.roll_back.result tt (λ heard.
           subst (λ r. CopiesSo g.D.CardLink.is_at d (put_into d c.args.table.now (Ok rows)) r c.roll_back.new.dest) (sym (c.roll_back.ensures.same heard))
           (undone-copies g.D.CardLink.is_at d (λ number. IsCommitted g.D.CardLink.is_at d (length rows) total number c.fill.new.dest) (length rows) _ total c.in-Err-fill.end c.roll_back.new.dest (begun-total d total begun.0)
-          (c.in-Err-fill.ensures.turns s d (length rows) total together)
-          (c.roll_back.ensures.rolls d
-          (filling-ended g.D.CardLink.is_at d c.fill.result c.in-Err-fill.end c.fill.new.dest c.in-Err-fill.is (c.fill.ensures.fills d (record { db = d.committed; copies = begun.1 })) (λ mute. heard (c.roll_back.ensures.mute mute).0))
-          heard)));
+          (c.in-Err-fill.ensures.turns s d (length rows) total together).comes
+          ((c.roll_back.ensures.rolls d
+          (filling-ended g.D.CardLink.is_at d c.fill.result c.in-Err-fill.end c.fill.new.dest c.in-Err-fill.is (c.fill.ensures.fills d (record { db = d.committed; copies = begun.1 })) (λ mute. heard (c.roll_back.ensures.mute mute).0))).comes heard)));
       dest_moments =
           rolled-moments g.D.CardLink.chip g.D.CardLink.mark d.committed _ c.args.dest.now c.fill.new.dest c.roll_back.new.dest c.in-Err-fill.end (c.fill.ensures.leaves.dest_rest.marked ∙ c.begin.ensures.leaves.rest.marked)
           (λ mute. (c.roll_back.ensures.mute mute).1)
-          (λ heard. c.roll_back.ensures.moments d
-          (filling-ended g.D.CardLink.is_at d c.fill.result c.in-Err-fill.end c.fill.new.dest c.in-Err-fill.is (c.fill.ensures.fills d (record { db = d.committed; copies = begun.1 })) heard))
+          (λ heard. (c.roll_back.ensures.rolls d
+          (filling-ended g.D.CardLink.is_at d c.fill.result c.in-Err-fill.end c.fill.new.dest c.in-Err-fill.is (c.fill.ensures.fills d (record { db = d.committed; copies = begun.1 })) heard)).moments)
           (begun-moments g.D.CardLink.chip g.D.CardLink.mark d.committed _ _ c.args.dest.now c.begin.new.dest c.fill.new.dest (commits-same (length rows) _ total (begun-total d total begun.0)) c.begin.ensures.leaves.rest.marked
-          (c.begin.ensures.moments d at)
-          (c.fill.ensures.moments s d (length rows) total together));
+          (c.begin.ensures.begins d at).moments
+          (c.fill.ensures.turns s d (length rows) total together).moments);
     }
 
 pub returns-in-Err-fill-clause-read : goal.returns-in-Err-fill-clause-read
@@ -62,17 +61,16 @@ returns-in-Err-fill-clause-read g c = λ s fetching. record {
 
 pub returns-in-Err-fill-clause-undone : goal.returns-in-Err-fill-clause-undone
 returns-in-Err-fill-clause-undone g c = λ d at.
-    let begun = c.in_default.ensures.begins d at in
+    let begun = (c.in_default.ensures.begins d at).comes in
     unless-mute (λ r. UndoneSo g.D.CardLink.is_at d r c.roll_back.new.dest) c.roll_back.result tt (λ heard.
     undone-so g.D.CardLink.is_at d c.roll_back.result c.roll_back.new.dest
-    (c.roll_back.ensures.rolls d
-    (filling-ended g.D.CardLink.is_at d c.fill.result c.in-Err-fill.end c.fill.new.dest c.in-Err-fill.is (c.fill.ensures.fills d (record { db = d.committed; copies = begun.1 })) (λ mute. heard (c.roll_back.ensures.mute mute).0))
-    heard))
+    ((c.roll_back.ensures.rolls d
+    (filling-ended g.D.CardLink.is_at d c.fill.result c.in-Err-fill.end c.fill.new.dest c.in-Err-fill.is (c.fill.ensures.fills d (record { db = d.committed; copies = begun.1 })) (λ mute. heard (c.roll_back.ensures.mute mute).0))).comes heard))
 
 pub returns-in-Err-clause-copied : goal.returns-in-Err-clause-copied
 returns-in-Err-clause-copied g c = λ s d rows gives at. record {
   copies = search rules;
-  dest_moments = leaves-all g.D.CardLink.chip _ _ c.args.dest.now c.begin.new.dest (λ n left is. inl is) (c.begin.ensures.moments d at);
+  dest_moments = leaves-all g.D.CardLink.chip _ _ c.args.dest.now c.begin.new.dest (λ n left is. inl is) (c.begin.ensures.begins d at).moments;
 }
 
 pub returns-in-Err-clause-leaves : goal.returns-in-Err-clause-leaves

@@ -8,32 +8,33 @@ use Rattle.table_copy.proofs.copying.fill.Goals as goal
 pub returns-in-Ok-clause-turns : goal.returns-in-Ok-clause-turns
 returns-in-Ok-clause-turns g c = λ s d count total together.
     let f = c.in-Ok.ensures.turns s d count total together in
-    rw c.counted.ensures
-    (fill-turns g.D.CardLink.is_at d count total c.in-Ok.rows c.insert_rows.new.dest c.commit.new.dest f c.commit.result (c.commit.ensures.commits d f.db f.copies))
+    record {
+      comes =
+          rw c.counted.ensures
+          (fill-turns g.D.CardLink.is_at d count total c.in-Ok.rows c.insert_rows.new.dest c.commit.new.dest f c.commit.result (c.commit.ensures.commits d f.db f.copies).comes);
+      moments =
+          leaves-both g.D.CardLink.chip (IsOneOf (g.D.CardLink.mark c.args.dest.now) (d.committed ∷ commits_by total)) c.args.dest.now c.insert_rows.new.dest c.commit.new.dest
+          (leaves-all g.D.CardLink.chip (Holds (g.D.CardLink.mark c.args.dest.now) d.committed) (IsOneOf (g.D.CardLink.mark c.args.dest.now) (d.committed ∷ commits_by total)) c.args.dest.now c.insert_rows.new.dest (λ n left is. inl is) (c.insert_rows.ensures.fills d (record { db = together.db; copies = together.copies })).moments)
+          (leaves-all g.D.CardLink.chip (IsOneOf (g.D.CardLink.mark c.insert_rows.new.dest) (d.committed ∷ f.db ∷ [])) (IsOneOf (g.D.CardLink.mark c.args.dest.now) (d.committed ∷ commits_by total)) c.insert_rows.new.dest c.commit.new.dest
+          (λ n left is. fill-moment (g.D.CardLink.mark c.args.dest.now) (g.D.CardLink.mark c.insert_rows.new.dest) d.committed f.db total n left c.insert_rows.ensures.leaves.dest_rest.marked f.made is)
+          (c.commit.ensures.commits d f.db f.copies).moments);
+    }
 
 pub returns-in-Ok-clause-fills : goal.returns-in-Ok-clause-fills
 returns-in-Ok-clause-fills g c = λ d filling.
     let f = (c.in-Ok.ensures.fills d filling).fills (λ is. absurd cc) in
     rw c.counted.ensures
-    (fill-fills g.D.CardLink.is_at d f.db c.in-Ok.rows c.commit.new.dest c.commit.result (c.commit.ensures.commits d f.db f.copies))
-
-pub returns-in-Ok-clause-moments : goal.returns-in-Ok-clause-moments
-returns-in-Ok-clause-moments g c = λ s d count total together.
-    let f = c.in-Ok.ensures.turns s d count total together in
-    leaves-both g.D.CardLink.chip (IsOneOf (g.D.CardLink.mark c.args.dest.now) (d.committed ∷ commits_by total)) c.args.dest.now c.insert_rows.new.dest c.commit.new.dest
-    (leaves-all g.D.CardLink.chip (Holds (g.D.CardLink.mark c.args.dest.now) d.committed) (IsOneOf (g.D.CardLink.mark c.args.dest.now) (d.committed ∷ commits_by total)) c.args.dest.now c.insert_rows.new.dest (λ n left is. inl is) (c.insert_rows.ensures.fills d (record { db = together.db; copies = together.copies })).moments)
-    (leaves-all g.D.CardLink.chip (IsOneOf (g.D.CardLink.mark c.insert_rows.new.dest) (d.committed ∷ f.db ∷ [])) (IsOneOf (g.D.CardLink.mark c.args.dest.now) (d.committed ∷ commits_by total)) c.insert_rows.new.dest c.commit.new.dest
-    (λ n left is. fill-moment (g.D.CardLink.mark c.args.dest.now) (g.D.CardLink.mark c.insert_rows.new.dest) d.committed f.db total n left c.insert_rows.ensures.leaves.dest_rest.marked f.made is)
-    (c.commit.ensures.moments d f.db f.copies))
+    (fill-fills g.D.CardLink.is_at d f.db c.in-Ok.rows c.commit.new.dest c.commit.result (c.commit.ensures.commits d f.db f.copies).comes)
 
 pub returns-in-Err-clause-turns : goal.returns-in-Err-clause-turns
 returns-in-Err-clause-turns g c = λ s d count total together.
-    turns-ended (λ number. IsFilled g.D.CardLink.is_at d count total number c.insert_rows.new.dest) (λ number. IsCommitted g.D.CardLink.is_at d count total number c.insert_rows.new.dest) total c.in-Err.end
-    (c.in-Err.ensures.turns s d count total together)
-
-pub returns-in-Err-clause-moments : goal.returns-in-Err-clause-moments
-returns-in-Err-clause-moments g c = λ s d count total together.
-    leaves-all g.D.CardLink.chip (Holds (g.D.CardLink.mark c.args.dest.now) d.committed) (IsOneOf (g.D.CardLink.mark c.args.dest.now) (d.committed ∷ commits_by total)) c.args.dest.now c.insert_rows.new.dest (λ n left is. inl is) (c.insert_rows.ensures.fills d (record { db = together.db; copies = together.copies })).moments
+    record {
+      comes =
+          turns-ended (λ number. IsFilled g.D.CardLink.is_at d count total number c.insert_rows.new.dest) (λ number. IsCommitted g.D.CardLink.is_at d count total number c.insert_rows.new.dest) total c.in-Err.end
+          (c.in-Err.ensures.turns s d count total together);
+      moments =
+          leaves-all g.D.CardLink.chip (Holds (g.D.CardLink.mark c.args.dest.now) d.committed) (IsOneOf (g.D.CardLink.mark c.args.dest.now) (d.committed ∷ commits_by total)) c.args.dest.now c.insert_rows.new.dest (λ n left is. inl is) (c.insert_rows.ensures.fills d (record { db = together.db; copies = together.copies })).moments;
+    }
 
 pub returns-in-Ok-clause-reads : goal.returns-in-Ok-clause-reads
 returns-in-Ok-clause-reads g c = λ s fetching. record {

@@ -14,15 +14,15 @@ returns-in-Ok-clause-turns g c = λ s d count passed total together.
     let all = together.gives in
     let put = c.in-Ok.ensures.puts d together.db together.left together.copies (has-row S s (Rows count) all.last together.left c.args.fetching.now.plan c.args.fetching.now.step c.args.source.now all.gives) in
     unless-source_mute (λ r. TurnsSo total r (λ _. Together S D s d count (with_row (has_row c.args.fetching.now.step) passed) c.args.table.now total c.advance.new.fetching.plan c.advance.new.fetching.step c.advance.new.source c.put_row.new.dest)) c.advance.result tt (λ heard.
-    let gives = c.advance.ensures.gives s all.last (Rows count) together.left all.gives heard in
+    let gives = c.advance.ensures.advances.gives s all.last (Rows count) together.left all.gives heard in
     subst (λ r. TurnsSo total r (λ _. Together S D s d count (with_row (has_row c.args.fetching.now.step) passed) c.args.table.now total c.advance.new.fetching.plan c.advance.new.fetching.step c.advance.new.source c.put_row.new.dest))
-    (sym (c.advance.ensures.goes_on heard ∙ rows-go_on S s all.last count (behind_step c.args.fetching.now.step together.left) c.advance.new.fetching.plan c.advance.new.fetching.step c.advance.new.source gives))
+    (sym (c.advance.ensures.advances.goes_on heard ∙ rows-go_on S s all.last count (behind_step c.args.fetching.now.step together.left) c.advance.new.fetching.plan c.advance.new.fetching.step c.advance.new.source gives))
     (record { left = behind_step c.args.fetching.now.step together.left; db = put.0; gives = record { last = all.last; gives = gives }; copies = put.2; leads = sym put.1 ∙ together.leads; counted = row-counted S s all.last count passed together.left c.args.fetching.now.plan c.args.fetching.now.step c.args.source.now all.gives together.counted }))
 
 pub returns-in-Ok-clause-reads : goal.returns-in-Ok-clause-reads
 returns-in-Ok-clause-reads g c = λ s fetching. record {
   reads = fetches-on g.S.CardLink.is_at g.S.CardLink.is_live g.S.CardLink.faults s c.advance.new.fetching.plan c.advance.new.fetching.step c.advance.result c.args.source.now c.advance.new.source c.advance.ensures.leaves.ends
-      (λ heard. record { closing = fetching.closing; last = fetching.last; rows = behind_step c.args.fetching.now.step fetching.rows; gives = c.advance.ensures.gives s fetching.last fetching.closing fetching.rows fetching.gives heard });
+      (λ heard. record { closing = fetching.closing; last = fetching.last; rows = behind_step c.args.fetching.now.step fetching.rows; gives = c.advance.ensures.advances.gives s fetching.last fetching.closing fetching.rows fetching.gives heard });
   still = c.advance.ensures.still s fetching.last fetching.closing fetching.rows fetching.gives;
 }
 

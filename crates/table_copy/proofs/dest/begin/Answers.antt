@@ -12,10 +12,11 @@ put-requires-clause-sendable g c = rw c.asking.ensures begin-sent
 
 pub returns-clause-begins : goal.returns-clause-begins
 returns-clause-begins g c = λ d at.
-    unless-dest_mute (λ r. BeginsSo g.L.CardLink.is_at d (may_begin d) r c.put.new.dest) c.put.result tt (λ heard.
-    begins-so g.L.CardLink.is_at d c.put.new.reply c.put.result c.put.new.dest ((rw c.asking.ensures at c.put.ensures.answer) d at heard) (c.put.ensures.done heard) (g.met.L.CardLink.valid c.args.dest.now d at).basic)
-
-pub returns-clause-moments : goal.returns-clause-moments
-returns-clause-moments g c = λ d at.
-    leaves-all g.L.CardLink.chip _ _ c.args.dest.now c.put.new.dest (λ n left is. one-alone (g.L.CardLink.mark c.args.dest.now) d.committed d.committed _ n left (begin-silent d) refl is)
-    ((rw c.asking.ensures at c.put.ensures.moments) d at)
+    record {
+      comes =
+          unless-dest_mute (λ r. BeginsSo g.L.CardLink.is_at d (may_begin d) r c.put.new.dest) c.put.result tt (λ heard.
+          begins-so g.L.CardLink.is_at d c.put.new.reply c.put.result c.put.new.dest (((rw c.asking.ensures at c.put.ensures.answers) d at).comes heard) (c.put.ensures.done heard) (g.met.L.CardLink.valid c.args.dest.now d at).basic);
+      moments =
+          leaves-all g.L.CardLink.chip _ _ c.args.dest.now c.put.new.dest (λ n left is. one-alone (g.L.CardLink.mark c.args.dest.now) d.committed d.committed _ n left (begin-silent d) refl is)
+          ((rw c.asking.ensures at c.put.ensures.answers) d at).moments;
+    }

@@ -9,11 +9,12 @@ put-requires-clause-sendable g c = rw c.asking.ensures commit-sent
 
 pub returns-clause-commits : goal.returns-clause-commits
 returns-clause-commits g c = λ d db copies.
-    unless-dest_mute (λ r. CommitsSo g.L.CardLink.is_at d db r c.put.new.dest) c.put.result tt (λ heard.
-    commits-so d db copies.machine copies.copies g.L.CardLink.is_at c.put.new.reply c.put.new.dest c.put.result ((rw c.asking.ensures at c.put.ensures.answer) copies.machine copies.at heard)
-    (c.put.ensures.done heard))
-
-pub returns-clause-moments : goal.returns-clause-moments
-returns-clause-moments g c = λ d db copies.
-    leaves-all g.L.CardLink.chip _ _ c.args.dest.now c.put.new.dest (λ n left is. commit-moment d db copies.machine copies.copies (g.L.CardLink.mark c.args.dest.now) n left is)
-    ((rw c.asking.ensures at c.put.ensures.moments) copies.machine copies.at)
+    record {
+      comes =
+          unless-dest_mute (λ r. CommitsSo g.L.CardLink.is_at d db r c.put.new.dest) c.put.result tt (λ heard.
+          commits-so d db copies.machine copies.copies g.L.CardLink.is_at c.put.new.reply c.put.new.dest c.put.result (((rw c.asking.ensures at c.put.ensures.answers) copies.machine copies.at).comes heard)
+          (c.put.ensures.done heard));
+      moments =
+          leaves-all g.L.CardLink.chip _ _ c.args.dest.now c.put.new.dest (λ n left is. commit-moment d db copies.machine copies.copies (g.L.CardLink.mark c.args.dest.now) n left is)
+          ((rw c.asking.ensures at c.put.ensures.answers) copies.machine copies.at).moments;
+    }

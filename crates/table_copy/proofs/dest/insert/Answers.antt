@@ -16,7 +16,7 @@ returns-in-Some-clause-inserts g c = λ d db row copies octets form.
     let same : c.in-Some.command ≡ asking 0 (Insert c.args.table.now row) = cc in
     unless-dest_mute (λ r. InsertsSo g.L.CardLink.is_at d db (row_copied d.committed.limit (actor d 0) c.args.table.now db row) r c.put.new.dest) c.put.result tt (λ heard.
     inserts-so d db copies.machine copies.copies c.args.table.now row (rw same at c.in-Some.ensures.inserts.sendable) g.L.CardLink.is_at c.put.new.reply c.put.result c.put.new.dest
-    ((rw same at c.put.ensures.answer) copies.machine copies.at heard) (c.put.ensures.done heard))
+    (((rw same at c.put.ensures.answers) copies.machine copies.at).comes heard) (c.put.ensures.done heard))
 
 pub returns-in-Some-clause-fills : goal.returns-in-Some-clause-fills
 returns-in-Some-clause-fills g c = λ d filling.
@@ -26,11 +26,11 @@ returns-in-Some-clause-fills g c = λ d filling.
       fills = λ heard.
           filling-after g.L.CardLink.is_at d filling.db _ c.put.result c.put.new.dest
           (inserts-so d filling.db copies.machine copies.copies c.args.table.now inserts.row (rw inserts.is at inserts.sendable) g.L.CardLink.is_at c.put.new.reply c.put.result c.put.new.dest
-          ((rw inserts.is at c.put.ensures.answer) copies.machine copies.at heard) (c.put.ensures.done heard))
+          (((rw inserts.is at c.put.ensures.answers) copies.machine copies.at).comes heard) (c.put.ensures.done heard))
           heard;
       moments =
           leaves-all g.L.CardLink.chip _ _ c.args.dest.now c.put.new.dest
           (λ n left is. one-alone (g.L.CardLink.mark c.args.dest.now) copies.machine.committed d.committed _ n left
           (insert-silent d filling.db copies.machine copies.copies c.args.table.now inserts.row (rw inserts.is at inserts.sendable)) copies.copies.committed is)
-          ((rw inserts.is at c.put.ensures.moments) copies.machine copies.at);
+          ((rw inserts.is at c.put.ensures.answers) copies.machine copies.at).moments;
     }

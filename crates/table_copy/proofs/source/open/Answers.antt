@@ -11,26 +11,28 @@ use Rattle.table_copy.proofs.source.open.Goals as goal
 pub returns-in_err-advance-clause-opens : goal.returns-in_err-advance-clause-opens
 returns-in_err-advance-clause-opens g c = λ s object is can at.
     let same : c.from_residual.result ≡ Err c.in_err-advance.field-0.0 = search rules in
-    subst (λ r. OpensSo g.L.CardLink.is_at s (source_rows s object) c.advance.new.fetching.plan c.advance.new.fetching.step r c.advance.new.source) (c.in_err-advance.was ∙ sym same)
-    (opens-one s object can (g.met.L.CardLink.valid c.args.source.now s at) g.L.CardLink.is_at (record { plan = c.next_into.new.self; step = c.next_into.new.step }) (rw is at c.next_into.ensures.next) c.args.fetching.now.reply c.args.source.now c.advance.result c.advance.new.fetching.plan c.advance.new.fetching.step c.advance.new.fetching.reply
-    c.advance.new.source at (record { gives = c.advance.ensures.gives; goes_on = c.advance.ensures.goes_on; turns = c.advance.ensures.turns; heard = c.advance.ensures.reply }))
-
-pub returns-in_err-advance-clause-still : goal.returns-in_err-advance-clause-still
-returns-in_err-advance-clause-still g c = λ s object is can at.
     let fetching = fetching-first s object can (g.met.L.CardLink.valid c.args.source.now s at) g.L.CardLink.is_at (record { plan = c.next_into.new.self; step = c.next_into.new.step }) c.args.source.now (rw is at c.next_into.ensures.next) at in
-    c.advance.ensures.still s fetching.last fetching.closing fetching.rows fetching.gives
+    record {
+      comes =
+          subst (λ r. OpensSo g.L.CardLink.is_at s (source_rows s object) c.advance.new.fetching.plan c.advance.new.fetching.step r c.advance.new.source) (c.in_err-advance.was ∙ sym same)
+          (opens-one s object can (g.met.L.CardLink.valid c.args.source.now s at) g.L.CardLink.is_at (record { plan = c.next_into.new.self; step = c.next_into.new.step }) (rw is at c.next_into.ensures.next) c.args.fetching.now.reply c.args.source.now c.advance.result c.advance.new.fetching.plan c.advance.new.fetching.step c.advance.new.fetching.reply
+          c.advance.new.source at c.advance.ensures.advances);
+      moments =
+          c.advance.ensures.still s fetching.last fetching.closing fetching.rows fetching.gives;
+    }
 
 pub returns-clause-opens : goal.returns-clause-opens
 returns-clause-opens g c = λ s object is can at.
-    opens-both s object can (g.met.L.CardLink.valid c.args.source.now s at) g.L.CardLink.is_at (record { plan = c.next_into.new.self; step = c.next_into.new.step }) (rw is at c.next_into.ensures.next) c.args.fetching.now.reply c.args.source.now c.advance.result c.advance.new.fetching.plan c.advance.new.fetching.step c.advance.new.fetching.reply
-    c.advance.new.source at (record { gives = c.advance.ensures.gives; goes_on = c.advance.ensures.goes_on; turns = c.advance.ensures.turns; heard = c.advance.ensures.reply })
-    c.in_ok-advance.was c.advance-2.result c.advance-2.new.fetching.plan c.advance-2.new.fetching.step c.advance-2.new.fetching.reply c.advance-2.new.source
-    (record { gives = c.advance-2.ensures.gives; goes_on = c.advance-2.ensures.goes_on; turns = c.advance-2.ensures.turns; heard = c.advance-2.ensures.reply })
-
-pub returns-clause-still : goal.returns-clause-still
-returns-clause-still g c = λ s object is can at.
     let fetching = fetching-first s object can (g.met.L.CardLink.valid c.args.source.now s at) g.L.CardLink.is_at (record { plan = c.next_into.new.self; step = c.next_into.new.step }) c.args.source.now (rw is at c.next_into.ensures.next) at in
     let heard : c.advance.result ≡ Err SourceMute → ⊥ = λ mute. let no : Ok tt ≡ Err SourceMute = sym c.in_ok-advance.was ∙ mute in cc in
-    leaves-both g.L.CardLink.chip (Holds (g.L.CardLink.mark c.args.source.now) s.committed) c.args.source.now c.advance.new.source c.advance-2.new.source (c.advance.ensures.still s fetching.last fetching.closing fetching.rows fetching.gives)
-    (leaves-all g.L.CardLink.chip (Holds (g.L.CardLink.mark c.advance.new.source) s.committed) (Holds (g.L.CardLink.mark c.args.source.now) s.committed) c.advance.new.source c.advance-2.new.source (λ n left is. (is.0 ∙ c.advance.ensures.leaves.rest.marked, is.1))
-    (c.advance-2.ensures.still s fetching.last fetching.closing (behind_step c.next_into.new.step fetching.rows) (c.advance.ensures.gives s fetching.last fetching.closing fetching.rows fetching.gives heard)))
+    record {
+      comes =
+          opens-both s object can (g.met.L.CardLink.valid c.args.source.now s at) g.L.CardLink.is_at (record { plan = c.next_into.new.self; step = c.next_into.new.step }) (rw is at c.next_into.ensures.next) c.args.fetching.now.reply c.args.source.now c.advance.result c.advance.new.fetching.plan c.advance.new.fetching.step c.advance.new.fetching.reply
+          c.advance.new.source at c.advance.ensures.advances
+          c.in_ok-advance.was c.advance-2.result c.advance-2.new.fetching.plan c.advance-2.new.fetching.step c.advance-2.new.fetching.reply c.advance-2.new.source
+          c.advance-2.ensures.advances;
+      moments =
+          leaves-both g.L.CardLink.chip (Holds (g.L.CardLink.mark c.args.source.now) s.committed) c.args.source.now c.advance.new.source c.advance-2.new.source (c.advance.ensures.still s fetching.last fetching.closing fetching.rows fetching.gives)
+          (leaves-all g.L.CardLink.chip (Holds (g.L.CardLink.mark c.advance.new.source) s.committed) (Holds (g.L.CardLink.mark c.args.source.now) s.committed) c.advance.new.source c.advance-2.new.source (λ n left is. (is.0 ∙ c.advance.ensures.leaves.rest.marked, is.1))
+          (c.advance-2.ensures.still s fetching.last fetching.closing (behind_step c.next_into.new.step fetching.rows) (c.advance.ensures.advances.gives s fetching.last fetching.closing fetching.rows fetching.gives heard)));
+    }
