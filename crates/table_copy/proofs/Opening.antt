@@ -34,13 +34,12 @@ use Rattle.planner.specs.Words.{is_refusal}
 use Rattle.planner.proofs.Asking.{who, moved_answer, answer-read}
 use Rattle.planner.proofs.Selected.{declared_from, declares, in_session-same}
 use Rattle.planner.proofs.SelectsShown.{select-reads}
-use Rattle.card_asking.specs.Following.{heard_at, turn_by}
 use Rattle.card_asking.specs.Giving.{GivesRows, behind_step}
 use Rattle.card_asking.proofs.Meant.{base-valid}
 use Rattle.card_asking.proofs.Rows.{gives-first, gives-shown, all-given}
 use Rattle.table_copy.specs.Copy.{source_rows}
 use Rattle.table_copy.specs.Copying.{StaysAt}
-use Rattle.table_copy.specs.Filling.{Piece, UnlessSourceMute, IsFetching, GivesAll, OpensSo, fetched_by, goes_on_by, whether}
+use Rattle.table_copy.specs.Filling.{Piece, IsFetching, GivesAll, OpensSo, fetched_by, goes_on_by, whether}
 use Rattle.table_copy.specs.Leaving.{Advances}
 use Rattle.table_copy.specs.declared.copy_end.CopyEnd.TheVariants.{SourceMute}
 use Rattle.table_copy.proofs.Ending.{unless-source_mute}
