@@ -222,6 +222,11 @@ pub insert-count : {L : Type 0} (faults : L → ℕ) (readers : List (Reader L))
     → count_at faults (slice_set readers place new) number ≡ faults link
 insert-count faults readers number place new link same within is = of-set (count faults) 0 readers number place new same within ∙ ap (count faults) is
 
+pub insert-link : {L : Type 0} (P : L → Type 0) (readers : List (Reader L)) (number place : ℕ) (new : Reader L) (link : L) → place + 1 ≡ number → place < length readers → new ≡ taking link → P link
+    → IsSomeAnd (link_at (slice_set readers place new) number) P
+insert-link {L} P readers number place new link same within is has =
+    subst (λ (inside : Option L). IsSomeAnd inside P) (sym (of-set (λ r. r.link) None readers number place new same within ∙ ap (λ (r : Reader L). r.link) is)) has
+
 -- What is done to the link of one reader.
 
 pub rack-holds : {L : Type 0} (is_at : L → Machine → Type 0) (is_live : L → Bool) (readers : List (Reader L)) (current number place : ℕ) (d : Reader L) (state : RackState) (held : Held) → IsReader number → place + 1 ≡ number → place < length readers

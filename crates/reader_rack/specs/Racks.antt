@@ -1,15 +1,20 @@
 -- A rack: its readers, and how they become what a line makes of them.
 use Rattle.std.specs.Prelude.{◌≡◌, ◌≢◌, ℕ, ◌-◌, ◌≤◌, Bool, true, false, IsTrue, List, Option, Some, None, is_some, IsSomeAnd, slice_get}
 use Rattle.std.specs.Option.{option_map_or}
+use Rattle.eeprom.specs.Chip.{Chip}
 use Rattle.eeprom.specs.Fault.{Rose}
 use Rattle.scql_model.specs.Machine.{Machine}
+use Rattle.scql_model.specs.Replies.{Reply}
+use Rattle.scql_model.specs.Step as stepping
+use Rattle.planner.specs.StatementLines.{TerminalState}
+use Rattle.terminal.specs.Holding.{terminal_at}
 use Rattle.reader_rack.specs.declared.rack_end.RackEnd.{RackEnd}
 use Rattle.reader_rack.specs.declared.rack.Rack.{Rack}
 use Rattle.reader_rack.specs.declared.reader.Reader.{Reader}
 use Rattle.reader_rack.specs.declared.statement.RackStatement.{RackStatement}
 use Rattle.reader_rack.specs.declared.statement.RackStatement.TheVariants.{Select, Eject}
 use Rattle.reader_rack.specs.declared.rack_end.RackEnd.TheVariants as ends
-use Rattle.reader_rack.specs.RackText.{Held, nothing, RackEffect, RackState}
+use Rattle.reader_rack.specs.RackText.{Held, nothing, RackEffect, RackState, sits, with_reader}
 use Rattle.reader_rack.specs.Readers.{EndsBy, EndsEffect, Holds, answers, count, set_aside}
 use Rattle.reader_rack.specs.Statements.{IsReader, names_reader}
 
@@ -51,6 +56,20 @@ OthersStay number old new = (other : ℕ) → IsReader other → other ≢ numbe
 pub record HoldsCard {L : Type 0} (is_live : L → Bool) (readers : List (Reader L)) (number : ℕ) : Type 0 where
   pub reader : IsReader number
   pub live : IsTrue (answers_at is_live readers number)
+
+-- A command to a reader's card was answered as the machine's step is, and the rack holds the next state.
+pub record RepliesAt {L : Type 0} (is_at : L → Machine → Type 0) (is_live : L → Bool) (state : RackState) (number : ℕ) (at : TerminalState) (command : List ℕ) (heard : Reply) (readers : List (Reader L)) (current : ℕ) : Type 0 where
+  pub reply : heard ≡ (stepping.step at.machine command).reply
+  pub step : IsRack is_at is_live readers current (with_reader state number (sits (terminal_at (stepping.step at.machine command).machine at.channel)))
+
+-- A reader took in a link, which is at these machines, was counted so many faults, and has this EEPROM.
+pub record TakesIn {L : Type 0} (is_at : L → Machine → Type 0) (is_live : L → Bool) (faults : L → ℕ) (chip_of : L → Chip) (number : ℕ) (at : Machine → Type 0) (counted : ℕ) (its : Chip) (old new : List (Reader L)) (current current' : ℕ) : Type 0 where
+  -- Its card is at the link's machine, and its terminal is new.
+  pub inserts : (state : RackState) (m : Machine) → IsRack is_at is_live old current state → at m → IsRack is_at is_live new current' (with_reader state number (sits (terminal_at m 0)))
+  -- The link in it is as the one that was taken in.
+  pub count : count_at faults new number ≡ counted
+  pub chip : IsSomeAnd (link_at new number) (λ inside. chip_of inside ≡ its)
+  pub machine : IsSomeAnd (link_at new number) (λ inside. (m : Machine) → at m → is_at inside m)
 
 -- What a call on one reader leaves of a rack: all other readers, which one is current, and the outlet.
 pub record LeavesRest {O L : Type 0} (number : ℕ) (old new : Rack O L) : Type 0 where

@@ -3,7 +3,9 @@ use Rattle.std.specs.Prelude.{◌≡◌, ◌⊎◌, ℕ, ◌≤◌, Bool, true, 
 use Rattle.std.specs.Option.{option_map_or}
 use Rattle.eeprom.specs.Fault.{Rose}
 use Rattle.eeprom.specs.Output.{Prints}
+use Rattle.scql_base.specs.Words.{memory_failure}
 use Rattle.scql_model.specs.Machine.{Machine}
+use Rattle.scql_model.specs.Replies.{Reply, said}
 use Rattle.terminal.specs.Failing.{IsStart}
 use Rattle.terminal.specs.Holding.{Holding, Sits}
 use Rattle.reader_rack.specs.declared.reader.Reader.{Reader}
@@ -61,6 +63,17 @@ EndsEffect at effect ends.Answered given now = IsDone at (effect None) given now
 EndsEffect at effect (ends.Refused why) given now = IsDone at (effect None) given now × ((effect None).refusal ≡ Some why)
 EndsEffect at effect ends.Mute given now = (rows : ℕ) × IsDone at (effect (Some rows)) given now × ((effect (Some rows)).muted ≡ true)
 EndsEffect at effect ends.SinkFault given now = (fails : Option ℕ) × IsStart (effect fails).text given now
+
+-- A card that was asked answers still: no fault of it was counted.
+pub record AnswersStill (live' : Bool) (faults faults' : ℕ) : Type 0 where
+  pub live : live' ≡ true
+  pub count : faults' ≡ faults
+
+-- Or it went mute: the reply is 6581, it answers no more, and its count rose.
+pub record GoesMute (reply : Reply) (live' : Bool) (faults faults' : ℕ) : Type 0 where
+  pub says : reply ≡ said memory_failure
+  pub gone : live' ≡ false
+  pub cause : Rose faults faults'
 
 -- no device failed
 pub record Works (live live' : Bool) (faults faults' sink sink' : ℕ) : Type 0 where

@@ -1,19 +1,17 @@
 // A rack: its readers, and what it does with a line.
-ghost use Rattle.std.specs.Prelude.{◌≡◌, ◌≤◌, ◌∷◌, ℕ, [], length, option_map, None, Some, IfSome, IsSomeAnd, IfErr, OnOk, OnErr, IsTrue, is_err, true, false};
-ghost use Rattle.eeprom.specs.Fault.{Counts, Rose};
+ghost use Rattle.std.specs.Prelude.{◌≡◌, ◌≤◌, ◌∷◌, ℕ, [], length, option_map, None, Some, IfSome, IfErr, OnOk, OnErr, IsTrue, is_err, true, false};
+ghost use Rattle.eeprom.specs.Fault.{Counts};
 ghost use Rattle.eeprom.specs.Output.{Follows};
 ghost use Rattle.scql_model.specs.Lines.{longest_line};
-ghost use Rattle.scql_base.specs.Words.{memory_failure};
 ghost use Rattle.scql_model.specs.Machine as machine;
 ghost use Rattle.scql_model.specs.Machine.{Machine};
-ghost use Rattle.scql_model.specs.Replies.{said};
 ghost use Rattle.scql_model.specs.Step.{step};
 ghost use Rattle.card_link.specs.Link.{Holds, IsOneOf, LeavesOpen};
 ghost use Rattle.planner.specs.StatementLines.{TerminalState};
 ghost use Rattle.terminal.specs.Holding.{terminal_at};
 ghost use Rattle.reader_rack.specs.RackText.{RackState, mute, sits, asked, ejected, rack_effect, stated, to_reader, with_reader};
-ghost use Rattle.reader_rack.specs.Racks.{Asks, EndsInAnyState, HoldsCard, IsPrintedBy, IsRack, IsSetAside, LeavesRest, States, answers_at, count_at, holds_at, is_held, link_at, reader_at};
-ghost use Rattle.reader_rack.specs.Readers.{empty, lending, with_link};
+ghost use Rattle.reader_rack.specs.Racks.{Asks, EndsInAnyState, HoldsCard, IsPrintedBy, IsRack, IsSetAside, LeavesRest, RepliesAt, States, TakesIn, answers_at, count_at, holds_at, is_held, link_at, reader_at};
+ghost use Rattle.reader_rack.specs.Readers.{AnswersStill, GoesMute, empty, lending, with_link};
 ghost use Rattle.reader_rack.specs.Statements as statements;
 ghost use Rattle.reader_rack.specs.Statements.{IsReader, names_reader, selected};
 
@@ -60,12 +58,9 @@ impl<O: Outlet> Rack<O> {
         ensures held { is_err result ≡ holds_at self.old.readers reader }
         ensures back { IfErr result (λ back. back ≡ link) }
         ensures stays { OnErr result (self.new ≡ self.old) }
-        ensures inserts { OnOk result ((state : RackState) (m : Machine) → IsRack ⟦<BoxedLink as CardLink>⟧.is_at ⟦<BoxedLink as CardLink>⟧.is_live self.old.readers self.old.current.number state → is_at link m
-            → IsRack ⟦<BoxedLink as CardLink>⟧.is_at ⟦<BoxedLink as CardLink>⟧.is_live self.new.readers self.new.current.number (with_reader state reader (sits (terminal_at m 0)))) }
+        ensures inserts { OnOk result (TakesIn ⟦<BoxedLink as CardLink>⟧.is_at ⟦<BoxedLink as CardLink>⟧.is_live ⟦<BoxedLink as CardLink>⟧.faults ⟦<BoxedLink as CardLink>⟧.chip
+            reader (is_at link) (faults link) (chip link) self.old.readers self.new.readers self.old.current.number self.new.current.number) }
         ensures live { OnOk result (answers_at ⟦<BoxedLink as CardLink>⟧.is_live self.new.readers reader ≡ true) }
-        ensures count { OnOk result (count_at ⟦<BoxedLink as CardLink>⟧.faults self.new.readers reader ≡ faults link) }
-        ensures chip { OnOk result (IsSomeAnd (link_at self.new.readers reader) (λ inside. ⟦<BoxedLink as CardLink>⟧.chip inside ≡ chip link)) }
-        ensures machine { OnOk result (IsSomeAnd (link_at self.new.readers reader) (λ inside. (m : Machine) → is_at link m → ⟦<BoxedLink as CardLink>⟧.is_at inside m)) }
         ensures leaves { LeavesRest reader self.old self.new }
     {
         let place = usize::from(reader) - 1;
@@ -179,13 +174,10 @@ impl<O: Outlet, L: CardLink> Rack<O, L> {
     /// Sends a command to a reader's card. The reader's terminal is told how it was answered.
     pub fn exchange(&mut self, reader: u8, command: &[u8], reply: &mut Reply) -> Outcome
         requires { HoldsCard L.is_live self.old.readers reader }
-        ensures reply { (state : RackState) (at : TerminalState) → IsRack L.is_at L.is_live self.old.readers self.old.current.number state → state.reader reader ≡ sits at → result ≡ Outcome.Replied
-            → reply.new ≡ (step at.machine command.now).reply }
-        ensures step { (state : RackState) (at : TerminalState) → IsRack L.is_at L.is_live self.old.readers self.old.current.number state → state.reader reader ≡ sits at → result ≡ Outcome.Replied
-            → IsRack L.is_at L.is_live self.new.readers self.new.current.number (with_reader state reader (sits (terminal_at (step at.machine command.now).machine at.channel))) }
-        ensures replied { result ≡ Outcome.Replied → (answers_at L.is_live self.new.readers reader ≡ true) × (count_at L.faults self.new.readers reader ≡ count_at L.faults self.old.readers reader) }
-        ensures mute { result ≡ Outcome.Mute → (reply.new ≡ said memory_failure) × (answers_at L.is_live self.new.readers reader ≡ false) }
-        ensures cause { result ≡ Outcome.Mute → Rose (count_at L.faults self.old.readers reader) (count_at L.faults self.new.readers reader) }
+        ensures replies { (state : RackState) (at : TerminalState) → IsRack L.is_at L.is_live self.old.readers self.old.current.number state → state.reader reader ≡ sits at → result ≡ Outcome.Replied
+            → RepliesAt L.is_at L.is_live state reader at command.now reply.new self.new.readers self.new.current.number }
+        ensures replied { result ≡ Outcome.Replied → AnswersStill (answers_at L.is_live self.new.readers reader) (count_at L.faults self.old.readers reader) (count_at L.faults self.new.readers reader) }
+        ensures mute { result ≡ Outcome.Mute → GoesMute reply.new (answers_at L.is_live self.new.readers reader) (count_at L.faults self.old.readers reader) (count_at L.faults self.new.readers reader) }
         ensures mutes { (state : RackState) → IsRack L.is_at L.is_live self.old.readers self.old.current.number state → result ≡ Outcome.Mute
             → IsRack L.is_at L.is_live self.new.readers self.new.current.number (with_reader state reader mute) }
         ensures never_falls { count_at L.faults self.old.readers reader ≤ count_at L.faults self.new.readers reader }
@@ -201,8 +193,7 @@ impl<O: Outlet, L: CardLink> Rack<O, L> {
         requires { HoldsCard L.is_live self.old.readers reader }
         ensures step { (state : RackState) (at : TerminalState) → IsRack L.is_at L.is_live self.old.readers self.old.current.number state → state.reader reader ≡ sits at
             → IsRack L.is_at L.is_live self.new.readers self.new.current.number (with_reader state reader (sits (terminal_at (machine.reset at.machine) 0))) }
-        ensures live { answers_at L.is_live self.new.readers reader ≡ true }
-        ensures count { count_at L.faults self.new.readers reader ≡ count_at L.faults self.old.readers reader }
+        ensures live { AnswersStill (answers_at L.is_live self.new.readers reader) (count_at L.faults self.old.readers reader) (count_at L.faults self.new.readers reader) }
         ensures moments { IfSome (link_at self.old.readers reader) (λ link. IfSome (link_at self.new.readers reader) (λ later. (m : Machine) → L.is_at link m
             → LeavesOpen (Holds (L.mark link) m.committed) (L.chip link) (L.chip later))) }
         ensures leaves { LeavesRest reader self.old self.new }

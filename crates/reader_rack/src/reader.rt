@@ -1,11 +1,8 @@
 // A reader of a rack.
 ghost use Rattle.std.specs.Prelude.{◌≡◌, ◌≤◌, ◌∷◌, ℕ, Bool, true, false, IfSome, length, IsTrue, None, Some, is_some, if◌then◌else◌, codes};
 ghost use Rattle.scql_model.specs.Lines.{line_effect, longest_line};
-ghost use Rattle.eeprom.specs.Fault.{Rose};
-ghost use Rattle.scql_base.specs.Words.{memory_failure};
 ghost use Rattle.scql_model.specs.Machine as machine;
 ghost use Rattle.scql_model.specs.Machine.{Machine};
-ghost use Rattle.scql_model.specs.Replies.{said};
 ghost use Rattle.scql_model.specs.Step.{step};
 ghost use Rattle.card_link.specs.Link as links;
 ghost use Rattle.card_link.specs.Link.{IsOneOf, LeavesOpen};
@@ -15,7 +12,7 @@ ghost use Rattle.terminal.specs.Holding.{Knows, Sits, terminal_at};
 ghost use Rattle.terminal.specs.Line as lines;
 ghost use Rattle.terminal.specs.Line.{EndsSo, refusal_in, rows_in};
 ghost use Rattle.reader_rack.specs.RackText.{Held, mute, sits, asked, heard, unheard};
-ghost use Rattle.reader_rack.specs.Readers.{EndsBy, EndsEffect, Holds, IsHeld, IsSaidOrCut, answers, count, lending, with_link};
+ghost use Rattle.reader_rack.specs.Readers.{AnswersStill, EndsBy, EndsEffect, GoesMute, Holds, IsHeld, IsSaidOrCut, answers, count, lending, with_link};
 
 use crate::desk::RackDesk;
 use crate::{RackEnd, RackRefusal};
@@ -107,16 +104,21 @@ impl<L: CardLink> Reader<L> {
         requires live { IsTrue (answers L.is_live self.old) }
         ensures step { (state : TerminalState) → Holds L.is_at L.is_live self.old (sits state) → result ≡ Outcome.Replied
             → (reply.new ≡ (step state.machine command.now).reply) × Holds L.is_at L.is_live self.new (sits (terminal_at (step state.machine command.now).machine state.channel)) }
-        ensures replied { result ≡ Outcome.Replied → (answers L.is_live self.new ≡ true) × (count L.faults self.new ≡ count L.faults self.old) }
-        ensures mute { result ≡ Outcome.Mute → (reply.new ≡ said memory_failure) × (answers L.is_live self.new ≡ false) × Rose (count L.faults self.old) (count L.faults self.new) }
-        ensures mutes { result ≡ Outcome.Mute → Holds L.is_at L.is_live self.new mute }
+        ensures replied { result ≡ Outcome.Replied → AnswersStill (answers L.is_live self.new) (count L.faults self.old) (count L.faults self.new) }
+        ensures mute { result ≡ Outcome.Mute → GoesMute reply.new (answers L.is_live self.new) (count L.faults self.old) (count L.faults self.new) × Holds L.is_at L.is_live self.new mute }
         ensures never_falls { count L.faults self.old ≤ count L.faults self.new }
         ensures moments { (link : L) → self.old.link ≡ Some link → IfSome self.new.link (λ later. (m : Machine) → L.is_at link m
             → LeavesOpen (IsOneOf (L.mark link) (m.committed ∷ (step m command.now).commits)) (L.chip link) (L.chip later)) }
         ensures aside { self.new.aside ≡ self.old.aside }
     {
         match &mut self.link {
-            Some(link) => exchange_at(&mut self.terminal, link, command, reply),
+            Some(link) => match link.exchange(command, reply) {
+                Outcome::Replied => {
+                    self.terminal.note(command, reply.word);
+                    Outcome::Replied
+                }
+                Outcome::Mute => Outcome::Mute,
+            },
             None => unreachable!(),
         }
     }
@@ -125,7 +127,7 @@ impl<L: CardLink> Reader<L> {
     pub(crate) fn reset(&mut self)
         requires live { IsTrue (answers L.is_live self.old) }
         ensures step { (state : TerminalState) → Holds L.is_at L.is_live self.old (sits state) → Holds L.is_at L.is_live self.new (sits (terminal_at (machine.reset state.machine) 0)) }
-        ensures live { (answers L.is_live self.new ≡ true) × (count L.faults self.new ≡ count L.faults self.old) }
+        ensures live { AnswersStill (answers L.is_live self.new) (count L.faults self.old) (count L.faults self.new) }
         ensures moments { (link : L) → self.old.link ≡ Some link → IfSome self.new.link (λ later. (m : Machine) → L.is_at link m → LeavesOpen (links.Holds (L.mark link) m.committed) (L.chip link) (L.chip later)) }
         ensures aside { self.new.aside ≡ self.old.aside }
     {
@@ -150,30 +152,6 @@ impl<L: CardLink> Reader<L> {
             Some(link) if link.live() => answer_at(&mut self.terminal, link, outlet, line),
             _ => answer_unheard(outlet, line),
         }
-    }
-}
-
-// A command to a link, of which its terminal is told.
-fn exchange_at<L: CardLink>(
-    terminal: &mut Terminal,
-    link: &mut L,
-    command: &[u8],
-    reply: &mut Reply,
-) -> Outcome
-    requires live { IsTrue (L.is_live link.old) }
-    ensures step { (state : TerminalState) → Sits L.is_at state terminal.old link.old → result ≡ Outcome.Replied
-        → (reply.new ≡ (step state.machine command.now).reply) × Sits L.is_at (terminal_at (step state.machine command.now).machine state.channel) terminal.new link.new }
-    ensures replied { result ≡ Outcome.Replied → IsTrue (L.is_live link.new) × (L.faults link.new ≡ L.faults link.old) }
-    ensures mute { result ≡ Outcome.Mute → (reply.new ≡ said memory_failure) × (L.is_live link.new ≡ false) × Rose (L.faults link.old) (L.faults link.new) }
-    ensures never_falls { L.faults link.old ≤ L.faults link.new }
-    ensures moments { (m : Machine) → L.is_at link.old m → LeavesOpen (IsOneOf (L.mark link.old) (m.committed ∷ (step m command.now).commits)) (L.chip link.old) (L.chip link.new) }
-{
-    match link.exchange(command, reply) {
-        Outcome::Replied => {
-            terminal.note(command, reply.word);
-            Outcome::Replied
-        }
-        Outcome::Mute => Outcome::Mute,
     }
 }
 

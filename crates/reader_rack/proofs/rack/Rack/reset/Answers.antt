@@ -8,10 +8,10 @@ returns-clause-step g c = λ state at rack is. rack-set _ _ c.args.self.now.read
     (c.reset.ensures.step at (rack-holds _ _ c.args.self.now.readers c.args.self.now.current.number c.args.reader (c.from.result - 1) c.index-self-from.result state (sits at) c.requires.reader (omega (arith, c.from.ensures, c.requires.reader.0)) (omega arith) rack is))
 
 pub returns-clause-live : goal.returns-clause-live
-returns-clause-live g c = answers-set _ c.args.self.now.readers c.args.reader (c.from.result - 1) c.reset.new.self (omega (arith, c.from.ensures, c.requires.reader.0)) (omega arith) ∙ c.reset.ensures.live.0
-
-pub returns-clause-count : goal.returns-clause-count
-returns-clause-count g c = counts-set (λ (was becomes : ℕ). becomes ≡ was) _ c.args.self.now.readers c.args.reader (c.from.result - 1) c.index-self-from.result c.reset.new.self (omega (arith, c.from.ensures, c.requires.reader.0)) (omega arith) c.reset.ensures.live.1
+returns-clause-live g c = record {
+  live = answers-set _ c.args.self.now.readers c.args.reader (c.from.result - 1) c.reset.new.self (omega (arith, c.from.ensures, c.requires.reader.0)) (omega arith) ∙ c.reset.ensures.live.live;
+  count = counts-set (λ (was becomes : ℕ). becomes ≡ was) _ c.args.self.now.readers c.args.reader (c.from.result - 1) c.index-self-from.result c.reset.new.self (omega (arith, c.from.ensures, c.requires.reader.0)) (omega arith) c.reset.ensures.live.count;
+}
 
 pub returns-clause-moments : goal.returns-clause-moments
 returns-clause-moments g c = links-set c.args.self.now.readers c.args.reader (c.from.result - 1) c.index-self-from.result c.reset.new.self _ (omega (arith, c.from.ensures, c.requires.reader.0)) (omega arith) c.reset.ensures.moments
