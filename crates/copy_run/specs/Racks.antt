@@ -4,7 +4,7 @@ use Rattle.eeprom.specs.Chip.{Chip}
 use Rattle.scql_model.specs.Database.{Database}
 use Rattle.scql_model.specs.Lives.{after_all}
 use Rattle.scql_model.specs.Machine.{Machine}
-use Rattle.card_link.specs.Link.{Holds, IsOneOf, LeavesOpen}
+use Rattle.card_link.specs.Link.{IsOneOf, LeavesOpen}
 use Rattle.planner.specs.Held.{transaction_channel}
 use Rattle.planner.specs.StatementLines.{TerminalState}
 use Rattle.reader_rack.specs.declared.rack.Rack.{Rack}
@@ -13,7 +13,8 @@ use Rattle.reader_rack.specs.RackText.{Held, mute, sits, RackState, with_reader}
 use Rattle.reader_rack.specs.Racks.{HoldsCard, IsRack, answers_at, count_at, link_at, reader_at}
 use Rattle.reader_rack.specs.Statements.{IsReader}
 use Rattle.table_copy.specs.Copy.{Copy}
-use Rattle.table_copy.specs.Copying.{EndsBy, ReadsSo, UndoneSo}
+use Rattle.table_copy.specs.Copying.{EndsBy, UndoneSo}
+use Rattle.table_copy.specs.Leaving.{ReadsOver}
 use Rattle.table_copy.specs.declared.copy_end.CopyEnd.{CopyEnd}
 use Rattle.table_copy.specs.declared.copy_end.CopyEnd.TheVariants.{SourceMute, DestMute}
 
@@ -75,11 +76,11 @@ pub record CopiesBetween {O L : Type 0} (is_at : L → Machine → Type 0) (is_l
   -- It ended as it is to of the machines of both terminals, and the rack is one behind it.
   pub ends : (state : RackState) (s d : TerminalState) → IsRack is_at is_live old.readers old.current.number state → state.reader from ≡ sits s → state.reader to ≡ sits d
       → IsCopied is_at is_live new.readers new.current.number state from to s d (copy s.machine d.machine) end
-  -- A source that still answers stays as it was, and where the copy wasn't done so does a destination.
-  pub reads : LinkBecomes from old.readers new.readers (λ link later. (s : Machine) → is_at link s → ReadsSo is_at is_live s later)
+  -- A source that still answers stays as it was, and a power loss leaves the database that it had.
+  pub read : LinkBecomes from old.readers new.readers (λ link later. (s : Machine) → is_at link s → ReadsOver is_at is_live mark chip s link later)
+  -- Where the copy wasn't done a destination stays as it was,
   pub undone : LinkBecomes to old.readers new.readers (λ link later. (d : Machine) → is_at link d → UndoneSo is_at d end later)
-  -- A power loss leaves the database that the source had, and on the destination the one that it had, or one that the copy commits.
-  pub source_moments : LinkBecomes from old.readers new.readers (λ link later. (s : Machine) → is_at link s → LeavesOpen (Holds (mark link) s.committed) (chip link) (chip later))
+  -- and a power loss leaves the database that it had, or one that the copy commits.
   pub dest_moments : IsSomeAnd (link_at old.readers from) (λ source. LinkBecomes to old.readers new.readers (λ link later. (s d : Machine) → is_at source s → is_at link d
       → LeavesOpen (IsOneOf (mark link) (d.committed ∷ (copy s d).commits)) (chip link) (chip later)))
   -- It ended so since that card failed, or none did.

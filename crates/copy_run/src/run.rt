@@ -2,9 +2,9 @@
 ghost use Rattle.std.specs.Prelude.{◌≡◌, ◌↔◌, ◌∷◌, map, IfSome, IsSomeAnd, IsTrue, None};
 ghost use Rattle.std.specs.String.{string_bytes};
 ghost use Rattle.scql_model.specs.Machine.{Machine};
-ghost use Rattle.card_link.specs.Link.{Holds, IsOneOf, LeavesOpen};
+ghost use Rattle.card_link.specs.Link.{IsOneOf, LeavesOpen};
 ghost use Rattle.reader_rack.specs.Racks.{answers_at, link_at};
-ghost use Rattle.table_copy.specs.Copying.{ReadsSo};
+ghost use Rattle.table_copy.specs.Leaving.{ReadsOver};
 ghost use Rattle.table_copy.specs.declared.copy_end.CopyEnd.{CopyEnd as ModelEnd};
 ghost use Rattle.copy_run.specs.Copies as model;
 ghost use Rattle.copy_run.specs.Racks.{LinkBecomes, LinksChange};
@@ -32,9 +32,7 @@ pub fn run_copy<O: Outlet, L: CardLink, P: Person>(
     ensures runs { IfSome (model.names_in (map string_bytes words.now)) (λ names. (end : ModelEnd)
         × IsRun L.is_at L.is_live L.faults P.lost P.shown names rack.old.readers rack.new.readers rack.old.current.number person.old person.new end
         × Says end result (O.given rack.old.outlet) (O.given rack.new.outlet) (O.sink_faults rack.old.outlet) (O.sink_faults rack.new.outlet)) }
-    ensures reads { LinkBecomes 1 rack.old.readers rack.new.readers (λ link later. (s : Machine) → L.is_at link s → ReadsSo L.is_at L.is_live s later) }
-    ensures source_moments { LinkBecomes 1 rack.old.readers rack.new.readers (λ link later. (s : Machine) → L.is_at link s
-        → LeavesOpen (Holds (L.mark link) s.committed) (L.chip link) (L.chip later)) }
+    ensures read { LinkBecomes 1 rack.old.readers rack.new.readers (λ link later. (s : Machine) → L.is_at link s → ReadsOver L.is_at L.is_live L.mark L.chip s link later) }
     ensures dest_moments { IfSome (model.names_in (map string_bytes words.now)) (λ names. IsSomeAnd (link_at rack.old.readers 1) (λ source. LinkBecomes 2 rack.old.readers rack.new.readers (λ link later.
         (s d : Machine) → L.is_at source s → L.is_at link d
         → LeavesOpen (IsOneOf (L.mark link) (d.committed ∷ (model.copy_for s d names).commits)) (L.chip link) (L.chip later)))) }

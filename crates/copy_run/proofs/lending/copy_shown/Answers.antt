@@ -38,9 +38,8 @@ returns-clause-copies g c =
           others
           rack is_s is_d
           (λ at. (c.copy-end.ensures.read s.machine at).reads) (λ source_at dest_at. (c.copy-end.ensures.copied s.machine d.machine source_at dest_at).copies) c.copy-end.ensures.leaves.causes);
-      reads = becomes _ first (λ s at. (c.copy-end.ensures.read s at).reads);
+      read = becomes _ first c.copy-end.ensures.read;
       undone = becomes _ second c.copy-end.ensures.undone;
-      source_moments = becomes _ first (λ s at. (c.copy-end.ensures.read s at).source_moments);
       dest_moments =
           subst (λ (o : Option g.row.L.Denot). IsSomeAnd o (λ (source : g.row.L.Denot). LinkBecomes to r0 r4 (P source))) (sym c.take-source.ensures.link)
           (becomes (P c.take-source.result) second (λ s d source_at dest_at. (c.copy-end.ensures.copied s d source_at dest_at).dest_moments));
