@@ -74,11 +74,11 @@ pub record DestLeaves {L A : Type 0} (is_live : L → Bool) (faults mark : L →
   pub ends : OfDest is_live faults result old new
   pub rest : HasGoneOn mark keeps goes_on old new
 
--- A piece on one card that was at a machine, or of which it is known what it is still to do.
+-- What came of a piece of a copy on one card of which it is told what it was at before, and what a power loss leaves meanwhile.
 pub record ComesTo {L : Type 0} (moment : ℕ → Database → Type 0) (chip : L → Chip) (came : Type 0) (old new : L) : Type 0 where
   -- This came of it.
   pub comes : came
-  -- At each moment a power loss leaves one of these databases.
+  -- At each moment the database is one of these.
   pub moments : LeavesOpen moment (chip old) (chip new)
 
 -- The source's plan was followed by a step, unless the source is mute.
