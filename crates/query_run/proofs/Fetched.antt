@@ -90,11 +90,15 @@ fetching-ended is_at m closing last all fetched p step closed r now at ends f =
 
 -- What becomes of the card.
 
--- where a card reads as it did, the same database is committed
+-- where a card reads as a machine does, that one's database is committed
+pub reads-held : {L : Type 0} (is_at : L → Machine → Type 0) (chip : L → Chip) (mark : L → ℕ) (m : Machine) (old new : L) → (r : ReadsAs is_at m old) → LeavesOpen (Holds (mark old) r.machine.committed) (chip old) (chip new)
+    → LeavesOpen (Holds (mark old) m.committed) (chip old) (chip new)
+reads-held is_at chip mark m old new r moments = subst (λ (db : Database). LeavesOpen (Holds (mark old) db) (chip old) (chip new)) r.committed moments
+
 pub reads-moments : {L : Type 0} (is_at : L → Machine → Type 0) (chip : L → Chip) (mark : L → ℕ) (m : Machine) (old mid new : L) → (r : ReadsAs is_at m mid) → mark mid ≡ mark old → LeavesOpen (Holds (mark old) m.committed) (chip old) (chip mid)
     → ((m : Machine) → is_at mid m → LeavesOpen (Holds (mark mid) m.committed) (chip mid) (chip new)) → LeavesOpen (Holds (mark old) m.committed) (chip old) (chip new)
 reads-moments is_at chip mark m old mid new r marked first second =
-    holds-both chip mark m.committed old mid new marked first (subst (λ (db : Database). LeavesOpen (Holds (mark mid) db) (chip mid) (chip new)) r.committed (second r.machine r.at))
+    holds-both chip mark m.committed old mid new marked first (reads-held is_at chip mark m mid new r (second r.machine r.at))
 
 -- before any call
 pub holds-same : {L : Type 0} (chip : L → Chip) (mark : L → ℕ) (db now : Database) (l : L) → mark l ≡ (chip l).still.mark → IfSome (chip l).image (λ image. Opens image now) → now ≡ db → LeavesOpen (Holds (mark l) db) (chip l) (chip l)

@@ -1,6 +1,6 @@
 -- What a query gives of the rows of its objects, and what is printed of it.
 use Rattle.std.proofs.Common.{Vec, Global, ◌≡◌, ℕ, suc, ◌≤◌, nat_lt, Bool, true, false, List, [], ◌∷◌, ◌++◌, length, Option, Some, None, Result, Ok, Err, IfOk, if◌then◌else◌, codes, refl, sym, ◌∙◌, ap, subst, arith}
-use Rattle.std.specs.Prelude.{IfErr}
+use Rattle.std.specs.Prelude.{MatchResult}
 use Rattle.std.proofs.lemmas.Bool.{ltb-false}
 use Rattle.std.proofs.lemmas.List.{length-map}
 use Rattle.scql_base.specs.declared.words.StatusWord.{StatusWord}
@@ -118,25 +118,17 @@ module _ {L : Type 0} (is_at : L → Machine → Type 0) (m : Machine) (query : 
       go unfetched.Mute fetched = tt
       go unfetched.NoMemory fetched = tt
 
-pub refusal-printable : (end : Unfetched) (result : Result Answer Unfetched) → result ≡ refused_by end → IfOk result IsPrintable
-refusal-printable end result by = subst (λ (result : Result Answer Unfetched). IfOk result IsPrintable) (sym by) (go end)
+pub refusal-ends : (end : Unfetched) (result : Result Answer Unfetched) → result ≡ refused_by end → MatchResult result IsPrintable IsStopped
+refusal-ends end result by = subst (λ (result : Result Answer Unfetched). MatchResult result IsPrintable IsStopped) (sym by) (go end)
   where
-    go : (end : Unfetched) → IfOk (refused_by end) IsPrintable
+    go : (end : Unfetched) → MatchResult (refused_by end) IsPrintable IsStopped
     go (unfetched.Refused word) = tt
     go unfetched.Mute = tt
     go unfetched.NoMemory = tt
 
-pub refusal-stops : (end : Unfetched) (result : Result Answer Unfetched) → result ≡ refused_by end → IfErr result IsStopped
-refusal-stops end result by = subst (λ (result : Result Answer Unfetched). IfErr result IsStopped) (sym by) (go end)
-  where
-    go : (end : Unfetched) → IfErr (refused_by end) IsStopped
-    go (unfetched.Refused word) = tt
-    go unfetched.Mute = tt
-    go unfetched.NoMemory = tt
-
-pub refusal-ends : {L : Type 0} (A : Type 0) (is_live : L → Bool) (faults : L → ℕ) (old new : L) (end : Unfetched) (result : Result Answer Unfetched) → result ≡ refused_by end → EndsFetching {A = A} is_live faults (Err end) old new
+pub refusal-leaves : {L : Type 0} (A : Type 0) (is_live : L → Bool) (faults : L → ℕ) (old new : L) (end : Unfetched) (result : Result Answer Unfetched) → result ≡ refused_by end → EndsFetching {A = A} is_live faults (Err end) old new
     → EndsFetching is_live faults result old new
-refusal-ends A is_live faults old new end result by ends = subst (λ (result : Result Answer Unfetched). EndsFetching is_live faults result old new) (sym by) (go end ends)
+refusal-leaves A is_live faults old new end result by ends = subst (λ (result : Result Answer Unfetched). EndsFetching is_live faults result old new) (sym by) (go end ends)
   where
     go : (end : Unfetched) → EndsFetching {A = A} is_live faults (Err end) old new → EndsFetching is_live faults (refused_by end) old new
     go (unfetched.Refused word) ends = ends

@@ -1,6 +1,6 @@
 -- Texts that are printed one after another, and where the outlet fails in one.
 use Rattle.std.proofs.Common.{Vec, Global, ◌≡◌, ℕ, suc, ◌+◌, ◌≤◌, ◌<◌, Bool, List, [], ◌∷◌, ◌++◌, length, map, take, drop, get_or, take-append-drop, Option, Some, Result, Ok, Err, IfSome, refl, sym, ◌∙◌, ap, subst, arith, add-one, append_assoc, append-nil, zero, ◌-◌}
-use Rattle.std.specs.Prelude.{OnErr, slice_get}
+use Rattle.std.specs.Prelude.{OnErr, OnOk, slice_get}
 use Rattle.std.specs.List.{concat}
 use Rattle.std.proofs.Math.Seq.{take-length, take-suc}
 use Rattle.std.proofs.lemmas.List.{map-append, length-map}
@@ -212,3 +212,13 @@ pub given-cuts : {L E : Type 0} (given : L → Option (List ℕ)) (sink_faults :
     → OnErr r ((count : ℕ) × Follows count text (given old) (given new)) → Counts (sink_faults old) (sink_faults new) r → leads old new → OnErr r (Cuts given sink_faults leads text old new)
 given-cuts given sink_faults leads text (Ok x) old new went counts led = tt
 given-cuts given sink_faults leads text (Err e) old new went counts led = record { start = start-of text text (given old) (given new) refl went; rose = counts.1; later = counts.0; led = led }
+
+-- one that takes it whole
+pub given-says : {L E : Type 0} (given : L → Option (List ℕ)) (sink_faults : L → ℕ) (leads : L → L → Type 0) (text : List ℕ) (r : Result (Unit {0}) E) (old new : L) → OnOk r (Follows (length text) text (given old) (given new))
+    → Counts (sink_faults old) (sink_faults new) r → leads old new → OnOk r (Says given sink_faults leads text old new)
+given-says given sink_faults leads text (Ok x) old new went counts led = record {
+  printed = λ after told. let at = went after told in (at.0, at.1, at.2 ∙ ap (λ (piece : List ℕ). at.0 ++ piece) (take-length text));
+  same = counts.1;
+  led = led;
+}
+given-says given sink_faults leads text (Err e) old new went counts led = tt

@@ -1,26 +1,32 @@
 -- A run for a user: the database stays one at each of its moments, and what went before a part of it leaves what was printed and counted.
-use Rattle.std.proofs.Common.{◌≡◌, ℕ, zero, suc, false, List, [], ◌∷◌, Option, Some, None, refl, sym, ◌∙◌, ap, subst, inl, inr}
+use Rattle.std.proofs.Common.{◌≡◌, ℕ, zero, suc, true, false, List, [], ◌∷◌, Option, Some, None, refl, sym, ◌∙◌, ap, subst, inl, inr}
 use Rattle.std.specs.Prelude.{IsSome}
-use Rattle.eeprom.specs.Chip.{Becomes, Chip}
+use Rattle.eeprom.specs.Chip.{Becomes, Chip, Still}
+use Rattle.eeprom.specs.Fault.{Rose}
 use Rattle.eeprom.specs.StoreOf.{store_of}
 use Rattle.eeprom.proofs.Moments.{throughout-then, throughout-weaker}
+use Rattle.scql_base.specs.declared.words.StatusWord.{StatusWord}
 use Rattle.scql_model.specs.Database.{Database}
 use Rattle.scql_model.specs.Heard.{after_commits, commits_of}
 use Rattle.scql_model.specs.Lines.{line_step}
-use Rattle.scql_model.specs.Machine.{Machine}
+use Rattle.scql_model.specs.Machine.{Machine, start}
 use Rattle.scql_model.specs.Opens.{Opens}
 use Rattle.scql_model.specs.Step.{Answer}
 use Rattle.card_link.specs.Link.{Holds, LeavesOpen}
 use Rattle.program.specs.declared.status.Status.{Status}
-use Rattle.program.specs.Ends.{AllFaults, EndsBy, RunsTo}
+use Rattle.program.specs.Ends.{AllFaults, EndsBy, RunsTo, reads_all}
 use Rattle.program.proofs.Ended.{through}
 use Rattle.record_store.specs.declared.refusal.OpenRefusal.{OpenRefusal}
 use Rattle.record_store.specs.declared.refusal.OpenRefusal.TheVariants as refusals
 use Rattle.record_store.specs.Recovery.{KeepsStore}
 use Rattle.card.proofs.Starting.{opens-same}
+use Rattle.card.specs.Opened.{IsOpenTo}
+use Rattle.card_asking.specs.Presenting.{presented}
 use Rattle.query_run.specs.QueryLines.{Asking, query_lines}
 use Rattle.query_run.specs.Statuses.{program_status, status_of}
-use Rattle.query_run.specs.UserRuns.{AnswersFor, IsWithout, StaysOpen}
+use Rattle.query_run.specs.UserRuns.{AnswersFor, AnswersUser, IsWithout, PrintsFor, RunsUser, StaysOpen, TellsRefusal}
+use Rattle.query_run.specs.declared.status.QueryStatus.{QueryStatus}
+use Rattle.query_run.specs.declared.status.QueryStatus.TheVariants.{TooLong}
 
 -- no line commits anything
 none-committed : (state : Asking) (lines : List (List ℕ)) → commits_of query_lines state lines ≡ []
@@ -75,12 +81,47 @@ answers-through bench chip eeprom answer status source after start end old new (
   runs = λ left told. let ran = p.runs left told in (ran.0, ran.1, through p.first new bench chip eeprom query_lines (record { machine = answer.machine; refused = false }) status ran.0 left ran.2);
 }))
 
+-- A card was opened at the database, nothing was given or counted meanwhile, and the run on it ended so.
+pub user-opened : {X Y T : Type 0} (bench : X → Y) (chip : Y → Chip) (eeprom : Y → ℕ) (left : T → Option (List ℕ)) (db : Database) (user : List ℕ) (status : Status) (source after : T) (old : Y) (opened new : X) (is : IsOpenTo (chip old) db)
+    → (chip (bench opened)).still ≡ (chip old).still → eeprom (bench opened) ≡ eeprom old → KeepsStore (chip old) (chip (bench opened))
+    → AnswersUser (λ (x : X). chip (bench x)) (λ (x : X). eeprom (bench x)) left (start db) user status source after opened new → RunsUser chip eeprom left db user status source after old (bench new)
+user-opened bench chip eeprom left db user status source after old opened new is still quiet keeps ran = record {
+  runs = inr (record { opened = bench opened; still = still; quiet = quiet; keeps = keeps; answers = answers-through bench chip eeprom (presented (start db) user) status source after (left source) (left after) opened new ran.runs });
+  prints = λ whole.
+      subst (λ (before : Option (List ℕ)). PrintsFor (presented (start db) user) status source after (left source) (left after) before (chip (bench new)).still.given) (ap (λ (still : Still). still.given) still) (ran.prints whole);
+  stays = λ given end. opens-then db (chip old) (chip (bench opened)) (chip (bench new)) (keeps-open is.0 db (chip old) (chip (bench opened)) is.1 is.2 keeps) (ran.stays given end);
+}
+
 -- what was counted before it
 pub ends-from : (status : Status) (now : AllFaults) (a b c d s : ℕ) → a ≡ c → b ≡ d → EndsBy status (record { eeprom = a; source = s; outlet = b }) now → EndsBy status (record { eeprom = c; source = s; outlet = d }) now
 ends-from status now a b c d s same also ends = rw (sym same, sym also) ends
+
+counts-same : (a b c d s : ℕ) → b ≡ a → d ≡ c → ◌≡◌ {A = AllFaults} (record { eeprom = b; source = s; outlet = d }) (record { eeprom = a; source = s; outlet = c })
+counts-same a b c d s first second = cc
 
 -- why a card isn't opened whose image opens to a database
 pub without-of : (refusal : OpenRefusal) → (refusal ≡ refusals.NotACard → ⊥) → IsWithout (program_status (status_of refusal))
 without-of refusals.NoMemory there = inl refl
 without-of refusals.NotACard there = absurd (there refl)
 without-of refusals.Fault there = inr refl
+
+-- of its input nothing was read then, and no fault of the outlet was counted
+pub unopened-short : (refusal : OpenRefusal) → reads_all (program_status (status_of refusal)) ≡ true → ⊥
+unopened-short refusals.NoMemory whole = absurd cc
+unopened-short refusals.NotACard whole = absurd cc
+unopened-short refusals.Fault whole = absurd cc
+
+pub unopened-few : (refusal : OpenRefusal) → status_of refusal ≡ TooLong → ⊥
+unopened-few refusals.NoMemory long = absurd cc
+unopened-few refusals.NotACard long = absurd cc
+unopened-few refusals.Fault long = absurd cc
+
+pub unopened-ends : (refusal : OpenRefusal) (a b c d s : ℕ) → (refusal ≡ refusals.Fault → Rose a b) → ((refusal ≡ refusals.Fault → ⊥) → b ≡ a) → d ≡ c
+    → EndsBy (program_status (status_of refusal)) (record { eeprom = a; source = s; outlet = c }) (record { eeprom = b; source = s; outlet = d })
+unopened-ends refusals.NoMemory a b c d s rose quiet same = counts-same a b c d s (quiet (λ is. absurd cc)) same
+unopened-ends refusals.NotACard a b c d s rose quiet same = counts-same a b c d s (quiet (λ is. absurd cc)) same
+unopened-ends refusals.Fault a b c d s rose quiet same = (rose refl, refl, same)
+
+-- a refusal that is told isn't of an input that is too long
+pub refused-few : (word : StatusWord) (status : QueryStatus) (before now : Option (List ℕ)) → TellsRefusal word (program_status status) before now → status ≡ TooLong → ⊥
+refused-few word status before now tells long = subst (λ (status : QueryStatus). TellsRefusal word (program_status status) before now) long tells

@@ -1,12 +1,13 @@
 -- A card whose rows are fetched: what is there of them, and what becomes of the card.
-use Rattle.std.specs.Prelude.{◌≡◌, ◌⊎◌, ℕ, suc, Bool, true, false, List, [], ◌∷◌, ◌++◌, Result, Ok, Err}
+use Rattle.std.specs.Prelude.{◌≡◌, ◌⊎◌, ℕ, suc, Bool, true, false, List, [], ◌∷◌, ◌++◌, length, Result, Ok, Err, IsTrue}
 use Rattle.std.specs.Option.{option_map_or}
+use Rattle.eeprom.specs.Chip.{Chip}
 use Rattle.scql_base.specs.Row.{row_from}
 use Rattle.scql_base.specs.declared.words.StatusWord.{StatusWord}
 use Rattle.scql_model.specs.Machine.{Machine}
 use Rattle.scql_model.specs.Matching.{Values}
 use Rattle.scql_model.specs.Shown.{shown_on}
-use Rattle.card_link.specs.Link.{Mutes}
+use Rattle.card_link.specs.Link.{Holds, LeavesOpen, Mutes}
 use Rattle.script.specs.Commands.{CanBeSent}
 use Rattle.script.specs.declared.statement.Statement.TheVariants.{Select}
 use Rattle.planner.specs.declared.closing.Closing.{Closing}
@@ -14,7 +15,8 @@ use Rattle.planner.specs.declared.closing.Closing.TheVariants.{Refused}
 use Rattle.planner.specs.declared.step.Step.{Step}
 use Rattle.planner.specs.declared.step.Step.TheVariants.{Row}
 use Rattle.planner.specs.Planned.{Planned}
-use Rattle.card_asking.specs.Calls.{StillAnswers}
+use Rattle.card_asking.specs.Calls.{HasGoneOn, StillAnswers}
+use Rattle.card_asking.specs.Following.{ComesOn}
 use Rattle.card_asking.specs.Giving.{GivesRows}
 use Rattle.query.specs.declared.query.AskedObject.{AskedObject}
 use Rattle.query_run.specs.declared.unfetched.Unfetched.{Unfetched}
@@ -23,6 +25,11 @@ use Rattle.query_run.specs.declared.unfetched.Unfetched.TheVariants as unfetched
 -- the SELECT of an object's rows can be sent
 abbrev pub CanBeAsked : AskedObject → Type 0
 CanBeAsked asked = CanBeSent 0 (Select asked.object asked.columns [])
+
+-- A card answers still, and what it is to be asked for can be asked for.
+pub record CanAsk {L : Type 0} (is_live : L → Bool) (can_be : Type 0) (link : L) : Type 0 where
+  pub live : IsTrue (is_live link)
+  pub askable : can_be
 
 -- A link is at a machine on which queries read what they read on this one: the committed database is the same, and channel 0 is shown the same objects.
 pub record ReadsAs {L : Type 0} (is_at : L → Machine → Type 0) (m : Machine) (now : L) : Type 0 where
@@ -42,6 +49,20 @@ abbrev pub EndsFetching : {L A : Type 0} → (L → Bool) → (L → ℕ) → Re
 EndsFetching is_live faults (Err unfetched.Mute) old new = Mutes is_live faults old new
 EndsFetching is_live faults result old new = StillAnswers is_live faults old new
 
+-- Rows were fetched over a card that was at a machine, or are still being fetched.
+pub record FetchesOver {L : Type 0} (mark : L → ℕ) (chip : L → Chip) (m : Machine) (came : Type 0) (old new : L) : Type 0 where
+  -- This came of it.
+  pub fetches : came
+  -- A power loss leaves the database that it had.
+  pub moments : LeavesOpen (Holds (mark old) m.committed) (chip old) (chip new)
+
+-- What fetching leaves of a link, whatever is told of its card.
+pub record FetchingLeaves {L A : Type 0} (is_live : L → Bool) (faults mark : L → ℕ) (keeps goes_on : L → L → Type 0) (result : Result A Unfetched) (old new : L) : Type 0 where
+  -- It ended so since the card failed, or it didn't.
+  pub ends : EndsFetching is_live faults result old new
+  -- Nothing was printed, and the link goes on.
+  pub rest : HasGoneOn mark keeps goes_on old new
+
 -- how a plan ended: with all rows, or by a refusal
 abbrev pub fetched_by : Closing → Result (Unit {0}) Unfetched
 fetched_by (Refused word) = Err (unfetched.Refused word)
@@ -60,6 +81,11 @@ row_at step octets = []
 -- there is one more, or as many as there were
 abbrev pub GrowsByOne : ℕ → ℕ → Type 0
 GrowsByOne before now = (now ≡ before) ⊎ (now ≡ suc before)
+
+-- The row of a plan's step was taken, if the step has one, and the plan comes on to its next step.
+pub record TakesRow (before : List Values) (p : Planned) (step : Step) (after : List Values) (q : Planned) (next : Step) : Type 0 where
+  pub grows : GrowsByOne (length before) (length after)
+  pub comes_on : ComesOn p step q next
 
 -- Some rows were fetched, and on a link that was at this machine a plan is still to give the others.
 pub record IsFetching {L : Type 0} (is_at : L → Machine → Type 0) (m : Machine) (closing : Closing) (last : Machine) (all fetched : List Values) (p : Planned) (step : Step) (now : L) : Type 0 where

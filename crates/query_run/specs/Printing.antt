@@ -1,5 +1,5 @@
 -- A desk that prints: what went out, and what becomes of its card.
-use Rattle.std.specs.Prelude.{◌≡◌, ℕ, ◌≤◌, Bool, List, Option}
+use Rattle.std.specs.Prelude.{◌≡◌, ℕ, ◌≤◌, Bool, List, Option, Result, OnOk, OnErr}
 use Rattle.eeprom.specs.Chip.{Chip}
 use Rattle.eeprom.specs.Fault.{Rose}
 use Rattle.eeprom.specs.Output.{Prints}
@@ -24,3 +24,10 @@ pub record Cuts {L : Type 0} (given : L → Option (List ℕ)) (sink_faults : L 
   pub rose : Rose (sink_faults old) (sink_faults new)
   pub later : sink_faults old ≤ sink_faults new
   pub led : leads old new
+
+-- How the printing of a text ended on a desk.
+pub record EndsSaying {L E : Type 0} (is_at : L → Machine → Type 0) (is_live : L → Bool) (faults mark : L → ℕ) (chip : L → Chip) (goes_on : L → L → Type 0) (given : L → Option (List ℕ)) (sink_faults : L → ℕ) (text : List ℕ) (result : Result (Unit {0}) E) (old new : L) : Type 0 where
+  -- It was printed;
+  pub says : OnOk result (Says given sink_faults (Leads is_at is_live faults mark chip goes_on) text old new)
+  -- or the outlet failed in it, and a start of it was printed.
+  pub cuts : OnErr result (Cuts given sink_faults (Leads is_at is_live faults mark chip goes_on) text old new)

@@ -1,10 +1,10 @@
 -- A run over the queries of a user: the user is presented, and then the lines are answered, or the refusal is told.
-use Rattle.std.specs.Prelude.{◌≡◌, ◌⊎◌, ℕ, ◌≤◌, true, false, List, [], length, Option}
+use Rattle.std.specs.Prelude.{◌≡◌, ◌⊎◌, ℕ, ◌≤◌, true, false, List, [], length, Option, IsSome}
 use Rattle.eeprom.specs.Chip.{Becomes, Chip, Throughout}
 use Rattle.eeprom.specs.Output.{Prints}
 use Rattle.scql_base.specs.declared.words.StatusWord.{StatusWord}
 use Rattle.scql_model.specs.Database.{Database}
-use Rattle.scql_model.specs.Machine.{start}
+use Rattle.scql_model.specs.Machine.{Machine, start}
 use Rattle.scql_model.specs.Opens.{Opens}
 use Rattle.scql_model.specs.Step.{Answer}
 use Rattle.line_input.specs.Reading.{longest_input}
@@ -16,7 +16,7 @@ use Rattle.terminal.specs.Failing.{IsStart}
 use Rattle.record_store.specs.Recovery.{KeepsStore}
 use Rattle.program.specs.declared.status.Status.{Status}
 use Rattle.program.specs.declared.status.Status.TheVariants.{Refused, Eeprom, WriteFault, NoMemory}
-use Rattle.program.specs.Ends.{RunsTo}
+use Rattle.program.specs.Ends.{RunsTo, reads_all}
 use Rattle.query_run.specs.QueryLines.{query_lines}
 use Rattle.query_run.specs.Running.{PrintsQueries}
 
@@ -68,6 +68,15 @@ ReadsAll status source after start end before now =
 abbrev pub StaysOpen : Database → Chip → Chip → Type 0
 StaysOpen db old new = Throughout old new (λ g image. Opens image db)
 
+-- A run ended so for a user who was presented on a card at this machine.
+pub record AnswersUser {X T : Type 0} (chip : X → Chip) (eeprom : X → ℕ) (left : T → Option (List ℕ)) (m : Machine) (user : List ℕ) (status : Status) (source after : T) (old new : X) : Type 0 where
+  -- From there on the lines were answered; or the card failed before, or the refusal was told.
+  pub runs : AnswersFor chip eeprom (presented m user) status source after (left source) (left after) old new
+  -- Where it read its input to its end, or the user was refused, each line printed what follows from what the user's channel is shown; or that refusal alone was printed.
+  pub prints : reads_all status ≡ true → PrintsFor (presented m user) status source after (left source) (left after) (chip old).still.given (chip new).still.given
+  -- At each moment the image opens to what it opened to, where it is told what was given and what is left of the input.
+  pub stays : IsSome (chip new).still.given → IsSome (left after) → StaysOpen m.committed (chip old) (chip new)
+
 -- The card wasn't opened: no line was read, nothing was given, and the image has the store that it had.
 pub record IsUnopened {T : Type 0} (source after : T) (old new : Chip) : Type 0 where
   pub unread : after ≡ source
@@ -90,3 +99,12 @@ pub record OpensAndAnswers {X T : Type 0} (chip : X → Chip) (eeprom : X → �
 abbrev pub RunsFor : {X T : Type 0} → (X → Chip) → (X → ℕ) → Database → List ℕ → Status → T → T → Option (List ℕ) → Option (List ℕ) → X → X → Type 0
 RunsFor chip eeprom db user status source after start end old new =
     (IsWithout status × IsUnopened source after (chip old) (chip new)) ⊎ OpensAndAnswers chip eeprom db user status source after start end old new
+
+-- So it ended for a user over an EEPROM that opens to this database.
+pub record RunsUser {X T : Type 0} (chip : X → Chip) (eeprom : X → ℕ) (left : T → Option (List ℕ)) (db : Database) (user : List ℕ) (status : Status) (source after : T) (old new : X) : Type 0 where
+  -- The card was opened at that database, the user presented, and from there on the lines answered; or it wasn't opened, for a fault or want of memory.
+  pub runs : RunsFor chip eeprom db user status source after (left source) (left after) old new
+  -- Where it read its input to its end, or the user was refused, each line printed what follows from what the user's channel is shown; or that refusal alone was printed.
+  pub prints : reads_all status ≡ true → PrintsFor (presented (start db) user) status source after (left source) (left after) (chip old).still.given (chip new).still.given
+  -- At each moment, however the run ends, the image opens to what it opened to, where it is told what was given and what is left of the input.
+  pub stays : IsSome (chip new).still.given → IsSome (left after) → StaysOpen db (chip old) (chip new)

@@ -1,20 +1,16 @@
 // The rows of a query's objects, fetched from a card.
-ghost use Rattle.std.specs.Prelude.{◌≡◌, ◌<◌, ◌∷◌, ◌++◌, List, [], IsTrue, OnOk, OnErr, IfOk, IfErr, length};
+ghost use Rattle.std.specs.Prelude.{◌≡◌, ◌∷◌, ◌++◌, List, [], OnOk, OnErr, IfOk, IfErr, length};
 ghost use Rattle.std.specs.List.{AllByRecursion};
 ghost use Rattle.scql_model.specs.Machine.{Machine};
 ghost use Rattle.scql_model.specs.Matching.{Values};
 ghost use Rattle.scql_model.specs.Shown.{shown_on};
 ghost use Rattle.script.specs.declared.statement.Statement.TheVariants.{Select};
 ghost use Rattle.script.specs.Commands.{IsSendable};
-ghost use Rattle.card_link.specs.Link.{Holds, LeavesOpen};
 ghost use Rattle.planner.specs.declared.closing.Closing.{Closing as ModelClosing};
 ghost use Rattle.planner.specs.Planned.{IfSent};
-ghost use Rattle.planner.specs.Turns.{IfGoesOn};
-ghost use Rattle.card_asking.specs.Following.{to_go};
 ghost use Rattle.card_asking.specs.Giving.{GivesRows};
 ghost use Rattle.query_run.specs.Fetching as model;
-ghost use Rattle.card_asking.specs.Calls.{HasGoneOn};
-ghost use Rattle.query_run.specs.Fetching.{CanBeAsked, EndsFetching, FetchesSo, GrowsByOne, IsFetched, IsFetching, IsStopped, UnlessStopped};
+ghost use Rattle.query_run.specs.Fetching.{CanAsk, CanBeAsked, FetchesOver, FetchesSo, FetchingLeaves, IsFetched, IsFetching, IsStopped, TakesRow, UnlessStopped};
 ghost use Rattle.query_run.specs.Progress.{ShowsAllFetched, ShowsFetched};
 ghost use Rattle.query_run.specs.QueryText.{rows_shown, tables_shown};
 
@@ -83,18 +79,12 @@ fn take_row<L: CardLink>(
     reply: &mut Reply,
     rows: &mut Vec<Row, Heap>,
 ) -> Result<(), Unfetched>
-    requires live { IsTrue (L.is_live link.old) }
-    requires sendable { IfSent step.old IsSendable }
-    ensures fetches { (m last : Machine) (closing : ModelClosing) (all : List Values) → IsFetching L.is_at m closing last all rows.old.items plan.old step.old link.old
-        → OnOk result (IsFetching L.is_at m closing last all rows.new.items plan.new step.new link.new) }
-    ensures still { (m last : Machine) (closing : ModelClosing) (all : List Values) → IsFetching L.is_at m closing last all rows.old.items plan.old step.old link.old
-        → LeavesOpen (Holds (L.mark link.old) m.committed) (L.chip link.old) (L.chip link.new) }
-    ensures grows { OnOk result (GrowsByOne (length rows.old.items) (length rows.new.items)) }
-    ensures stops { IfErr result (λ end. IsStopped end) }
-    ensures ends { EndsFetching L.is_live L.faults result link.old link.new }
-    ensures next_sendable { OnOk result (IfSent step.new IsSendable) }
-    ensures less { OnOk result (IfGoesOn step.old (to_go plan.new step.new < to_go plan.old step.old)) }
-    ensures rest { HasGoneOn L.mark L.keeps L.goes_on link.old link.new }
+    requires { CanAsk L.is_live (IfSent step.old IsSendable) link.old }
+    ensures over { (m last : Machine) (closing : ModelClosing) (all : List Values) → IsFetching L.is_at m closing last all rows.old.items plan.old step.old link.old
+        → FetchesOver L.mark L.chip m (OnOk result (IsFetching L.is_at m closing last all rows.new.items plan.new step.new link.new)) link.old link.new }
+    ensures takes { OnOk result (TakesRow rows.old.items plan.old step.old rows.new.items plan.new step.new) }
+    ensures stops { IfErr result IsStopped }
+    ensures leaves { FetchingLeaves L.is_live L.faults L.mark L.keeps L.goes_on result link.old link.new }
 {
     match add_row(plan, step, rows) {
         Ok(()) => {}
@@ -114,15 +104,11 @@ fn fetch_rows<L: CardLink, P: Person>(
     rows: &mut Vec<Row, Heap>,
     person: &mut P,
 ) -> Result<(), Unfetched>
-    requires live { IsTrue (L.is_live link.old) }
-    requires sendable { IfSent step.old IsSendable }
+    requires can_ask { CanAsk L.is_live (IfSent step.old IsSendable) link.old }
     requires none { rows.old.items ≡ [] }
-    ensures fetches { (m last : Machine) (closing : ModelClosing) (all : List Values) → GivesRows L.is_at m closing last all plan.old step.old link.old
-        → UnlessStopped result (IsFetched L.is_at closing last all rows.new.items result link.new) }
-    ensures still { (m last : Machine) (closing : ModelClosing) (all : List Values) → GivesRows L.is_at m closing last all plan.old step.old link.old
-        → LeavesOpen (Holds (L.mark link.old) m.committed) (L.chip link.old) (L.chip link.new) }
-    ensures ends { EndsFetching L.is_live L.faults result link.old link.new }
-    ensures rest { HasGoneOn L.mark L.keeps L.goes_on link.old link.new }
+    ensures over { (m last : Machine) (closing : ModelClosing) (all : List Values) → GivesRows L.is_at m closing last all plan.old step.old link.old
+        → FetchesOver L.mark L.chip m (UnlessStopped result (IsFetched L.is_at closing last all rows.new.items result link.new)) link.old link.new }
+    ensures leaves { FetchingLeaves L.is_live L.faults L.mark L.keeps L.goes_on result link.old link.new }
     ensures shows { ShowsFetched P.lost P.shown (λ _. rows.new.items) result person.old person.new }
 {
     let mut reply = Reply {
@@ -150,12 +136,10 @@ pub(crate) fn fetch_object<L: CardLink, P: Person>(
     asked: &AskedObject,
     person: &mut P,
 ) -> Result<Fetched, Unfetched>
-    requires live { IsTrue (L.is_live link.old) }
-    requires sendable { CanBeAsked asked.now }
-    ensures fetches { (m : Machine) → L.is_at link.old m → FetchesSo L.is_at m (λ fetched. fetched) (rows_shown (shown_on m 0) asked.now) result link.new }
-    ensures moments { (m : Machine) → L.is_at link.old m → LeavesOpen (Holds (L.mark link.old) m.committed) (L.chip link.old) (L.chip link.new) }
-    ensures ends { EndsFetching L.is_live L.faults result link.old link.new }
-    ensures rest { HasGoneOn L.mark L.keeps L.goes_on link.old link.new }
+    requires { CanAsk L.is_live (CanBeAsked asked.now) link.old }
+    ensures over { (m : Machine) → L.is_at link.old m
+        → FetchesOver L.mark L.chip m (FetchesSo L.is_at m (λ fetched. fetched) (rows_shown (shown_on m 0) asked.now) result link.new) link.old link.new }
+    ensures leaves { FetchingLeaves L.is_live L.faults L.mark L.keeps L.goes_on result link.old link.new }
     ensures shows { ShowsFetched P.lost P.shown (λ fetched. fetched) result person.old person.new }
 {
     let mut plan = Plan::start(selection(asked), 0, false);
@@ -183,13 +167,11 @@ pub(crate) fn fetch_all<L: CardLink, P: Person>(
     objects: &[AskedObject],
     person: &mut P,
 ) -> Result<Vec<Fetched, Heap>, Unfetched>
-    requires live { IsTrue (L.is_live link.old) }
-    requires sendable { AllByRecursion CanBeAsked objects.now }
-    ensures fetches { (m : Machine) → L.is_at link.old m → FetchesSo L.is_at m (λ tables. tables.items) (tables_shown (shown_on m 0) objects.now) result link.new }
+    requires { CanAsk L.is_live (AllByRecursion CanBeAsked objects.now) link.old }
+    ensures over { (m : Machine) → L.is_at link.old m
+        → FetchesOver L.mark L.chip m (FetchesSo L.is_at m (λ tables. tables.items) (tables_shown (shown_on m 0) objects.now) result link.new) link.old link.new }
     ensures count { IfOk result (λ tables. length tables.items ≡ length objects.now) }
-    ensures moments { (m : Machine) → L.is_at link.old m → LeavesOpen (Holds (L.mark link.old) m.committed) (L.chip link.old) (L.chip link.new) }
-    ensures ends { EndsFetching L.is_live L.faults result link.old link.new }
-    ensures rest { HasGoneOn L.mark L.keeps L.goes_on link.old link.new }
+    ensures leaves { FetchingLeaves L.is_live L.faults L.mark L.keeps L.goes_on result link.old link.new }
     ensures shows { ShowsAllFetched P.lost P.shown (λ tables. tables.items) result person.old person.new }
 {
     let mut tables = Vec::new(alloc);

@@ -1,13 +1,10 @@
 // What a query gives: the rows of its objects are fetched, joined and put in order.
-ghost use Rattle.std.specs.Prelude.{◌≡◌, ◌≤◌, IsTrue, IfOk, IfErr, length};
-ghost use Rattle.std.specs.List.{AllByRecursion};
+ghost use Rattle.std.specs.Prelude.{◌≡◌, ◌≤◌, IfOk, MatchResult, length};
 ghost use Rattle.scql_model.specs.Machine.{Machine};
-ghost use Rattle.card_link.specs.Link.{Holds, LeavesOpen};
 ghost use Rattle.row_join.specs.Links.{AreWithin};
-ghost use Rattle.query_run.specs.Answering.{FindsSo, JoinsSo, ShowsCounts};
+ghost use Rattle.query_run.specs.Answering.{FindsSo, IsAnswerable, JoinsSo, ShowsCounts};
 ghost use Rattle.query_run.specs.Answers.{IsPrintable, refused_by};
-ghost use Rattle.card_asking.specs.Calls.{HasGoneOn};
-ghost use Rattle.query_run.specs.Fetching.{CanBeAsked, EndsFetching, IsStopped, ReadsAs};
+ghost use Rattle.query_run.specs.Fetching.{CanAsk, FetchesOver, FetchingLeaves, IsStopped, ReadsAs};
 
 use crate::Unfetched;
 use crate::answer::Answer;
@@ -55,16 +52,10 @@ pub(crate) fn find_answer<L: CardLink, P: Person>(
     query: &Query,
     person: &mut P,
 ) -> Result<Answer, Unfetched>
-    requires live { IsTrue (L.is_live link.old) }
-    requires sendable { AllByRecursion CanBeAsked query.now.objects }
-    requires few { length query.now.objects ≤ 3 }
-    requires within { AreWithin (length query.now.objects) query.now.equalities }
-    ensures finds { (m : Machine) → ReadsAs L.is_at m link.old → IfOk result (λ answer. FindsSo L.is_at m query.now answer link.new) }
-    ensures printable { IfOk result IsPrintable }
-    ensures stops { IfErr result IsStopped }
-    ensures moments { (m : Machine) → ReadsAs L.is_at m link.old → LeavesOpen (Holds (L.mark link.old) m.committed) (L.chip link.old) (L.chip link.new) }
-    ensures ends { EndsFetching L.is_live L.faults result link.old link.new }
-    ensures rest { HasGoneOn L.mark L.keeps L.goes_on link.old link.new }
+    requires { CanAsk L.is_live (IsAnswerable query.now) link.old }
+    ensures over { (m : Machine) → ReadsAs L.is_at m link.old → FetchesOver L.mark L.chip m (IfOk result (λ answer. FindsSo L.is_at m query.now answer link.new)) link.old link.new }
+    ensures ends { MatchResult result IsPrintable IsStopped }
+    ensures leaves { FetchingLeaves L.is_live L.faults L.mark L.keeps L.goes_on result link.old link.new }
     ensures shows { ShowsCounts P.lost P.shown person.old person.new }
 {
     match fetch_all(alloc, link, &query.objects, person) {

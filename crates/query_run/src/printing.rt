@@ -1,11 +1,11 @@
 // What is printed of a query's answer.
-ghost use Rattle.std.specs.Prelude.{◌≡◌, ◌≤◌, ◌++◌, length, codes, OnOk, OnErr};
+ghost use Rattle.std.specs.Prelude.{◌≡◌, ◌≤◌, ◌++◌, length, codes};
 ghost use Rattle.planner.specs.Text as texts;
 ghost use Rattle.row_join.specs.Joins.{values_at};
 ghost use Rattle.row_join.specs.Places.{all_rows, rows_of};
 ghost use Rattle.terminal.specs.Printed.{lead};
 ghost use Rattle.query_run.specs.Answers.{IsPrintable, found_text};
-ghost use Rattle.query_run.specs.Printing.{Cuts, Leads, Says};
+ghost use Rattle.query_run.specs.Printing.{EndsSaying};
 ghost use Rattle.query_run.specs.QueryText as model;
 
 use crate::answer::Answer;
@@ -18,8 +18,7 @@ use terminal::{closing_text, give_value};
 
 /// Prints a text.
 pub(crate) fn say<L: Desk>(desk: &mut L, text: &[u8]) -> Result<(), SinkFault>
-    ensures says { OnOk result (Says L.given L.sink_faults (Leads L.is_at L.is_live L.faults L.mark L.chip L.goes_on) text.now desk.old desk.new) }
-    ensures cuts { OnErr result (Cuts L.given L.sink_faults (Leads L.is_at L.is_live L.faults L.mark L.chip L.goes_on) text.now desk.old desk.new) }
+    ensures { EndsSaying L.is_at L.is_live L.faults L.mark L.chip L.goes_on L.given L.sink_faults text.now result desk.old desk.new }
 {
     desk.give(text)
 }
@@ -27,16 +26,14 @@ pub(crate) fn say<L: Desk>(desk: &mut L, text: &[u8]) -> Result<(), SinkFault>
 // Prints a value.
 fn say_value<L: Desk>(desk: &mut L, value: &[u8]) -> Result<(), SinkFault>
     requires { length value.now ≤ 200 }
-    ensures says { OnOk result (Says L.given L.sink_faults (Leads L.is_at L.is_live L.faults L.mark L.chip L.goes_on) (texts.value_text value.now) desk.old desk.new) }
-    ensures cuts { OnErr result (Cuts L.given L.sink_faults (Leads L.is_at L.is_live L.faults L.mark L.chip L.goes_on) (texts.value_text value.now) desk.old desk.new) }
+    ensures { EndsSaying L.is_at L.is_live L.faults L.mark L.chip L.goes_on L.given L.sink_faults (texts.value_text value.now) result desk.old desk.new }
 {
     give_value(desk, value)
 }
 
 // Between values stand a comma and a space.
 fn say_between<L: Desk>(desk: &mut L, place: usize) -> Result<(), SinkFault>
-    ensures says { OnOk result (Says L.given L.sink_faults (Leads L.is_at L.is_live L.faults L.mark L.chip L.goes_on) (lead place) desk.old desk.new) }
-    ensures cuts { OnErr result (Cuts L.given L.sink_faults (Leads L.is_at L.is_live L.faults L.mark L.chip L.goes_on) (lead place) desk.old desk.new) }
+    ensures { EndsSaying L.is_at L.is_live L.faults L.mark L.chip L.goes_on L.given L.sink_faults (lead place) result desk.old desk.new }
 {
     if place == 0 {
         return say(desk, b"");
@@ -52,10 +49,7 @@ fn print_values<L: Desk>(
     combination: &Combination,
 ) -> Result<(), SinkFault>
     requires { length tables.now ≤ 3 }
-    ensures says { OnOk result (Says L.given L.sink_faults (Leads L.is_at L.is_live L.faults L.mark L.chip L.goes_on)
-        (texts.values_text (values_at selected.now (rows_of tables.now combination.now.places))) desk.old desk.new) }
-    ensures cuts { OnErr result (Cuts L.given L.sink_faults (Leads L.is_at L.is_live L.faults L.mark L.chip L.goes_on)
-        (texts.values_text (values_at selected.now (rows_of tables.now combination.now.places))) desk.old desk.new) }
+    ensures { EndsSaying L.is_at L.is_live L.faults L.mark L.chip L.goes_on L.given L.sink_faults (texts.values_text (values_at selected.now (rows_of tables.now combination.now.places))) result desk.old desk.new }
 {
     for place in 0..selected.len() {
         say_between(desk, place)?;
@@ -72,10 +66,7 @@ fn print_row<L: Desk>(
     combination: &Combination,
 ) -> Result<(), SinkFault>
     requires { length tables.now ≤ 3 }
-    ensures says { OnOk result (Says L.given L.sink_faults (Leads L.is_at L.is_live L.faults L.mark L.chip L.goes_on)
-        (texts.row_text (values_at selected.now (rows_of tables.now combination.now.places))) desk.old desk.new) }
-    ensures cuts { OnErr result (Cuts L.given L.sink_faults (Leads L.is_at L.is_live L.faults L.mark L.chip L.goes_on)
-        (texts.row_text (values_at selected.now (rows_of tables.now combination.now.places))) desk.old desk.new) }
+    ensures { EndsSaying L.is_at L.is_live L.faults L.mark L.chip L.goes_on L.given L.sink_faults (texts.row_text (values_at selected.now (rows_of tables.now combination.now.places))) result desk.old desk.new }
 {
     print_values(desk, tables, selected, combination)?;
     say(desk, b"\n")?;
@@ -90,8 +81,7 @@ fn print_rows<L: Desk>(
     combinations: &[Combination],
 ) -> Result<(), SinkFault>
     requires { length tables.now ≤ 3 }
-    ensures says { OnOk result (Says L.given L.sink_faults (Leads L.is_at L.is_live L.faults L.mark L.chip L.goes_on) (model.row_texts query.now (all_rows tables.now combinations.now)) desk.old desk.new) }
-    ensures cuts { OnErr result (Cuts L.given L.sink_faults (Leads L.is_at L.is_live L.faults L.mark L.chip L.goes_on) (model.row_texts query.now (all_rows tables.now combinations.now)) desk.old desk.new) }
+    ensures { EndsSaying L.is_at L.is_live L.faults L.mark L.chip L.goes_on L.given L.sink_faults (model.row_texts query.now (all_rows tables.now combinations.now)) result desk.old desk.new }
 {
     let selected = query.selected.as_slice();
     for combination in combinations {
@@ -107,8 +97,7 @@ pub(crate) fn print_answer<L: Desk>(
     answer: &Answer,
 ) -> Result<(), SinkFault>
     requires { IsPrintable answer.now }
-    ensures says { OnOk result (Says L.given L.sink_faults (Leads L.is_at L.is_live L.faults L.mark L.chip L.goes_on) (found_text query.now answer.now) desk.old desk.new) }
-    ensures cuts { OnErr result (Cuts L.given L.sink_faults (Leads L.is_at L.is_live L.faults L.mark L.chip L.goes_on) (found_text query.now answer.now) desk.old desk.new) }
+    ensures { EndsSaying L.is_at L.is_live L.faults L.mark L.chip L.goes_on L.given L.sink_faults (found_text query.now answer.now) result desk.old desk.new }
 {
     match answer {
         Answer::Refused { word } => say(desk, &closing_text(Closing::Refused { word: *word })),

@@ -1,20 +1,15 @@
 // A run over queries for a user, and the card that it opens.
-ghost use Rattle.std.specs.Prelude.{◌≡◌, ◌⊎◌, ◌<◌, ℕ, List, true, IsTrue, IfOk, IfErr, IfSome, OnOk, Some, IsSome, length};
-ghost use Rattle.eeprom.specs.Chip.{Becomes};
-ghost use Rattle.line_input.specs.Reading.{longest_input};
+ghost use Rattle.std.specs.Prelude.{◌≡◌, ◌⊎◌, ℕ, List, true, IsTrue, IfSome, Some};
 ghost use Rattle.scql_model.specs.Database.{Database};
-ghost use Rattle.scql_model.specs.Machine.{Machine, start};
-ghost use Rattle.scql_model.specs.Opens.{Opens};
-ghost use Rattle.card.specs.Card.{IsAt, IsReady};
+ghost use Rattle.scql_model.specs.Machine.{Machine};
 ghost use Rattle.card.specs.Making.{OpensToNone};
-ghost use Rattle.card_asking.specs.Presenting.{presented};
-ghost use Rattle.person.specs.Showing.{ShowsSome};
+ghost use Rattle.card.specs.Opened.{IsOpenTo};
 ghost use Rattle.program.specs.Ends.{AllFaults, EndsBy, reads_all};
-ghost use Rattle.query_run.specs.Answering.{ShowsCounts};
 ghost use Rattle.query_run.specs.Printing.{Leads};
+ghost use Rattle.query_run.specs.Running.{RunLeaves};
 ghost use Rattle.query_run.specs.Statuses as model;
 ghost use Rattle.query_run.specs.Statuses.{program_status};
-ghost use Rattle.query_run.specs.UserRuns.{AnswersFor, IsUnopened, IsWithout, PrintsFor, ReadsAll, RunsFor, StaysOpen, TellsRefusal};
+ghost use Rattle.query_run.specs.UserRuns.{AnswersUser, IsUnopened, IsWithout, ReadsAll, RunsUser, TellsRefusal};
 
 use crate::printing::say;
 use crate::queries::user_refused;
@@ -53,21 +48,12 @@ fn answer_for<S: Source, D: ToldDesk, P: Person, N: Person>(
     mut notices: N,
 ) -> (QueryStatus, D, P, N)
     requires { IsTrue (D.is_live desk) }
-    ensures runs { (m : Machine) → D.is_at desk m
-        → AnswersFor D.chip D.faults (presented m user.now) (program_status result.0) source.old source.new (S.left source.old) (S.left source.new) desk result.1 }
-    ensures prints { (m : Machine) → D.is_at desk m → reads_all (program_status result.0) ≡ true
-        → PrintsFor (presented m user.now) (program_status result.0) source.old source.new (S.left source.old) (S.left source.new) (D.chip desk).still.given (D.chip result.1).still.given }
-    ensures stays { (m : Machine) → D.is_at desk m → IsSome (D.chip result.1).still.given → IsSome (S.left source.new) → StaysOpen m.committed (D.chip desk) (D.chip result.1) }
+    ensures runs { (m : Machine) → D.is_at desk m → AnswersUser D.chip D.faults S.left m user.now (program_status result.0) source.old source.new desk result.1 }
     ensures whole { reads_all (program_status result.0) ≡ true
         → ReadsAll (program_status result.0) source.old source.new (S.left source.old) (S.left source.new) (D.chip desk).still.given (D.chip result.1).still.given }
-    ensures too_long { result.0 ≡ QueryStatus.TooLong → Becomes (λ input left. longest_input < length input) (S.left source.old) (S.left source.new) }
-    ensures ends { EndsBy (program_status result.0)
-        (record { eeprom = D.faults desk; source = S.source_faults source.old; outlet = D.sink_faults desk })
-        (record { eeprom = D.faults result.1; source = S.source_faults source.new; outlet = D.sink_faults result.1 }) }
     ensures opened { ¬ (result.0 ≡ QueryStatus.NotACard) }
     ensures goes_on { D.goes_on desk result.1 }
-    ensures shows { ShowsCounts P.lost P.shown person result.2 }
-    ensures told { ShowsSome N.lost N.shown notices result.3 }
+    ensures leaves { RunLeaves D.faults D.sink_faults S.source_faults S.left P.lost P.shown N.lost N.shown result.0 source.old source.new desk result.1 person result.2 notices result.3 }
 {
     let guide = Guide::new(Queries::new(user), notices.presence());
     match present(&mut desk, user) {
@@ -79,38 +65,6 @@ fn answer_for<S: Source, D: ToldDesk, P: Person, N: Person>(
         }
         Err(Unpresented::Mute) => (QueryStatus::Eeprom, desk, person, notices),
     }
-}
-
-// The same on a card that is open.
-fn answer_on<S: Source, B: Bench, P: Person, N: Person>(
-    alloc: Heap,
-    user: &Name,
-    source: &mut S,
-    card: Card,
-    bench: &mut B,
-    person: P,
-    notices: N,
-) -> (QueryStatus, P, N)
-    requires { IsReady card (B.chip bench.old) }
-    ensures runs { (m : Machine) → IsAt card (B.chip bench.old) m
-        → AnswersFor B.chip B.faults (presented m user.now) (program_status result.0) source.old source.new (S.left source.old) (S.left source.new) bench.old bench.new }
-    ensures prints { (m : Machine) → IsAt card (B.chip bench.old) m → reads_all (program_status result.0) ≡ true
-        → PrintsFor (presented m user.now) (program_status result.0) source.old source.new (S.left source.old) (S.left source.new) (B.chip bench.old).still.given (B.chip bench.new).still.given }
-    ensures stays { (m : Machine) → IsAt card (B.chip bench.old) m → IsSome (B.chip bench.new).still.given → IsSome (S.left source.new) → StaysOpen m.committed (B.chip bench.old) (B.chip bench.new) }
-    ensures whole { reads_all (program_status result.0) ≡ true
-        → ReadsAll (program_status result.0) source.old source.new (S.left source.old) (S.left source.new) (B.chip bench.old).still.given (B.chip bench.new).still.given }
-    ensures too_long { result.0 ≡ QueryStatus.TooLong → Becomes (λ input left. longest_input < length input) (S.left source.old) (S.left source.new) }
-    ensures ends { EndsBy (program_status result.0)
-        (record { eeprom = B.faults bench.old; source = S.source_faults source.old; outlet = B.sink_faults bench.old })
-        (record { eeprom = B.faults bench.new; source = S.source_faults source.new; outlet = B.sink_faults bench.new }) }
-    ensures opened { ¬ (result.0 ≡ QueryStatus.NotACard) }
-    ensures shows { ShowsCounts P.lost P.shown person result.1 }
-    ensures told { ShowsSome N.lost N.shown notices result.2 }
-{
-    let desk = LiveCard::new(card, bench);
-    let (status, desk, person, notices) = answer_for(alloc, user, source, desk, person, notices);
-    desk.into_bench();
-    (status, person, notices)
 }
 
 // How a run ends whose card doesn't open.
@@ -134,15 +88,7 @@ pub fn run_query<S: Source, B: Bench, P: Person, N: Person>(
     person: P,
     notices: N,
 ) -> (QueryStatus, P, N)
-    // The card was opened at the database to which the image opens, the user presented, and from there on the lines answered; or it wasn't opened, for a fault or want of memory.
-    ensures runs { (image : List ℕ) (db : Database) → (B.chip bench.old).image ≡ Some image → Opens image db
-        → RunsFor B.chip B.faults db user (program_status result.0) source.old source.new (S.left source.old) (S.left source.new) bench.old bench.new }
-    // Where it read its input to its end, or the user was refused, each line printed what follows from what the user's channel is shown; or that refusal alone was printed.
-    ensures prints { (image : List ℕ) (db : Database) → (B.chip bench.old).image ≡ Some image → Opens image db → reads_all (program_status result.0) ≡ true
-        → PrintsFor (presented (start db) user) (program_status result.0) source.old source.new (S.left source.old) (S.left source.new) (B.chip bench.old).still.given (B.chip bench.new).still.given }
-    // At each moment, however the run ends, the image opens to what it opened to, where it is told what was given and what is left of the input.
-    ensures stays { (image : List ℕ) (db : Database) → (B.chip bench.old).image ≡ Some image → Opens image db → IsSome (B.chip bench.new).still.given → IsSome (S.left source.new)
-        → StaysOpen db (B.chip bench.old) (B.chip bench.new) }
+    ensures runs { (db : Database) → IsOpenTo (B.chip bench.old) db → RunsUser B.chip B.faults S.left db user (program_status result.0) source.old source.new bench.old bench.new }
     // There is no card: no line is read and nothing is given,
     ensures not_a_card { result.0 ≡ QueryStatus.NotACard → IfSome (B.chip bench.old).image OpensToNone × IsUnopened source.old source.new (B.chip bench.old) (B.chip bench.new) }
     // and so it ends wherever the image opens to no database, unless the EEPROM fails or there is no memory.
@@ -150,16 +96,17 @@ pub fn run_query<S: Source, B: Bench, P: Person, N: Person>(
         → ((result.0 ≡ QueryStatus.NotACard) ⊎ IsWithout (program_status result.0)) × IsUnopened source.old source.new (B.chip bench.old) (B.chip bench.new) }
     ensures whole { reads_all (program_status result.0) ≡ true
         → ReadsAll (program_status result.0) source.old source.new (S.left source.old) (S.left source.new) (B.chip bench.old).still.given (B.chip bench.new).still.given }
-    ensures too_long { result.0 ≡ QueryStatus.TooLong → Becomes (λ input left. longest_input < length input) (S.left source.old) (S.left source.new) }
-    // Each fault has its cause, and without one the counts stay.
-    ensures ends { EndsBy (program_status result.0)
-        (record { eeprom = B.faults bench.old; source = S.source_faults source.old; outlet = B.sink_faults bench.old })
-        (record { eeprom = B.faults bench.new; source = S.source_faults source.new; outlet = B.sink_faults bench.new }) }
-    ensures shows { ShowsCounts P.lost P.shown person result.1 }
-    ensures told { ShowsSome N.lost N.shown notices result.2 }
+    ensures leaves { RunLeaves B.faults B.sink_faults S.source_faults S.left P.lost P.shown N.lost N.shown result.0 source.old source.new bench.old bench.new person result.1 notices result.2 }
 {
     match Card::open(alloc, bench) {
-        Ok(card) => answer_on(alloc, &user, source, card, bench, person, notices),
+        Ok(card) => {
+            let desk = LiveCard::new(card, bench);
+            let (status, desk, person, notices) = answer_for(
+                alloc, &user, source, desk, person, notices,
+            );
+            desk.into_bench();
+            (status, person, notices)
+        }
         Err(refusal) => (status_of(refusal), person, notices),
     }
 }

@@ -1,16 +1,17 @@
+use Rattle.guide.proofs.Told.{told-then}
 use Rattle.query_run.proofs.Responded.{heard-answered, heard-failed, heard-refused}
 use Rattle.query_run.proofs.responding.respond.Goals as goal
 
-pub returns-clause-answered : goal.returns-clause-answered
-returns-clause-answered g c = λ asking r.
-    heard-answered g.D.CardLink.is_at g.D.Outlet.given g.D.CardLink.mark g.D.CardLink.chip g.met.D.ToldDesk.output g.met.D.CardLink.marks g.met.D.ToldDesk.counted asking _ c.args.desk.now c.answer_line.new.desk
-    (c.answer_line.ensures.moments asking.machine r) _ c.answer_line.result (c.answer_line.ensures.answers asking.machine r)
+pub returns-clause-hears : goal.returns-clause-hears
+returns-clause-hears g c = λ asking r.
+    let over = c.answer_line-result.ensures.answers asking.machine r in
+    record {
+      answered = heard-answered g.D.CardLink.is_at g.D.Outlet.given g.D.CardLink.mark g.D.CardLink.chip g.met.D.ToldDesk.output g.met.D.CardLink.marks g.met.D.ToldDesk.counted asking _ c.args.desk.now c.answer_line-result.new.desk over.moments _
+          c.answer_line-result.result over.answers;
+      refused = heard-refused g.D.CardLink.is_at g.D.Outlet.given asking.machine _ _ c.answer_line-result.result c.args.desk.now c.answer_line-result.new.desk over.answers;
+      failed = heard-failed g.D.CardLink.is_at g.D.Outlet.given g.D.CardLink.mark g.D.CardLink.chip g.met.D.ToldDesk.output g.met.D.CardLink.marks g.met.D.ToldDesk.counted asking _ c.args.desk.now c.answer_line-result.new.desk over.moments _
+          c.answer_line-result.result over.answers c.answer_line-result.ensures.leaves.unmarked;
+    }
 
-pub returns-clause-refused : goal.returns-clause-refused
-returns-clause-refused g c = λ asking r.
-    heard-refused g.D.CardLink.is_at g.D.Outlet.given asking.machine _ _ c.answer_line.result c.args.desk.now c.answer_line.new.desk (c.answer_line.ensures.answers asking.machine r)
-
-pub returns-clause-failed : goal.returns-clause-failed
-returns-clause-failed g c = λ asking r.
-    heard-failed g.D.CardLink.is_at g.D.Outlet.given g.D.CardLink.mark g.D.CardLink.chip g.met.D.ToldDesk.output g.met.D.CardLink.marks g.met.D.ToldDesk.counted asking _ c.args.desk.now c.answer_line.new.desk
-    (c.answer_line.ensures.moments asking.machine r) _ c.answer_line.result (c.answer_line.ensures.answers asking.machine r) c.answer_line.ensures.unmarked
+pub returns-clause-told : goal.returns-clause-told
+returns-clause-told g c = told-then g.N.Person.lost g.N.Person.shown c.args.notices.now c.before-2.new.person c.behind.new.person c.before-2.ensures c.behind.ensures
