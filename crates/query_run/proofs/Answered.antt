@@ -27,7 +27,7 @@ use Rattle.query.specs.Line.{query_of}
 use Rattle.query_run.specs.QueryLines.{asked_refused, asked_text, read_refused, read_text}
 use Rattle.query.specs.declared.query.AskedObject.{AskedObject}
 use Rattle.query.specs.Facts as facts
-use Rattle.query_run.specs.Answering.{AnsweringLeaves, AnswersOver, AnswersSo, IsAnswered, IsUnmarked, ShowsCounts, stop_of, told_as}
+use Rattle.query_run.specs.Answering.{AnsweringLeaves, AnswersOver, AnswersSo, IsUnmarked, ShowsCounts, stop_of, told_as}
 use Rattle.query_run.specs.declared.unfetched.Unfetched.{Unfetched}
 use Rattle.query_run.specs.declared.unfetched.Unfetched.TheVariants as unfetched
 use Rattle.query_run.specs.Fetching.{CanBeAsked, EndsFetching, IsStopped, ReadsAs}
