@@ -1,5 +1,5 @@
 -- What an EEPROM in memory tells that keeps a log of its writes and a text.
-use Rattle.std.specs.Prelude.{◌≡◌, ℕ, ◌-◌, ◌<◌, ◌^◌, suc, List, [], ◌∷◌, ◌++◌, length, min, vec_len, vec_capacity, Option, Some, None}
+use Rattle.std.specs.Prelude.{◌≡◌, ℕ, ◌-◌, ◌<◌, ◌≤◌, ◌^◌, suc, List, [], ◌∷◌, ◌++◌, length, min, vec_len, vec_capacity, Option, Some, None, Result, IsOk, OnOk, OnErr}
 use Rattle.eeprom.specs.Chip.{Chip, Stretch, giving}
 use Rattle.log_bench.specs.Log as logs
 use Rattle.log_bench.specs.LogBench as log
@@ -91,3 +91,30 @@ pub record IsAsBefore (old new : LineBench) : Type 0 where
 pub record KeepsFaults (old new : LineBench) : Type 0 where
   pub writes : faults_of new ≡ faults_of old
   pub texts : text_faults_of new ≡ text_faults_of old
+
+-- A new one over an image, with room for so many writes and so many octets of them.
+pub record IsNew (of : List ℕ) (writes octets : ℕ) (bench : LineBench) : Type 0 where
+  pub image : image_of bench ≡ of
+  -- Nothing was written or given yet, and no memory was wanting.
+  pub none : (writes_of bench ≡ []) × (text_of bench ≡ [])
+  pub faults : (faults_of bench ≡ 0) × (text_faults_of bench ≡ 0)
+  pub room : (room_for_writes bench ≡ writes) × (room_for_octets bench ≡ octets)
+
+-- Log and text were begun anew, with room for a text of so many octets.
+pub record IsBegun (octets : ℕ) (old new : LineBench) : Type 0 where
+  -- The image stays,
+  pub image : image_of new ≡ image_of old
+  -- there is neither a write nor a text,
+  pub none : (writes_of new ≡ []) × (text_of new ≡ [])
+  -- and the counts of faults stay.
+  pub faults : KeepsFaults old new
+  pub room : room_for_text new ≡ octets
+
+-- A write was done, or there was no memory for it.
+pub record WritesOrWants {E : Type 0} (at : ℕ) (octets : List ℕ) (old new : LineBench) (result : Result (Unit {0}) E) : Type 0 where
+  pub done : OnOk result (Enters at octets old new)
+  pub wanting : OnErr result (IsAsBefore old new)
+  -- Where the log has room for it, it was done.
+  pub fits : 1 ≤ room_for_writes old → length octets ≤ room_for_octets old → IsOk result
+  -- The text stays.
+  pub text : new.text ≡ old.text

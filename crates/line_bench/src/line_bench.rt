@@ -22,8 +22,8 @@ pub struct LineBench {
 }
 
 impl LineBench {
-    ghost use Rattle.std.specs.Prelude.{◌≡◌, ◌+◌, ◌≤◌, [], length, slice_get, option_map, vec_capacity, IsOk, IfOk, OnOk, OnErr};
-    ghost use Rattle.line_bench.specs.LineBench.{Enters, IsAsBefore, KeepsFaults, faults_of, image_of, room_for_octets, room_for_text, room_for_writes, text_faults_of, text_of, writes_of};
+    ghost use Rattle.std.specs.Prelude.{◌≡◌, ◌+◌, ◌≤◌, length, slice_get, option_map, vec_capacity, IfOk};
+    ghost use Rattle.line_bench.specs.LineBench.{IsBegun, IsNew, KeepsFaults, WritesOrWants, image_of, room_for_text, text_of, writes_of};
 
     /// Begins a log with room for so many writes, and for so many octets of them. There is no text, nor room for one.
     pub fn new(
@@ -32,10 +32,7 @@ impl LineBench {
         writes: usize,
         octets: usize,
     ) -> Result<LineBench, AllocError>
-        ensures image { IfOk result (λ bench. image_of bench ≡ image.items) }
-        ensures none { IfOk result (λ bench. (writes_of bench ≡ []) × (text_of bench ≡ [])) }
-        ensures faults { IfOk result (λ bench. (faults_of bench ≡ 0) × (text_faults_of bench ≡ 0)) }
-        ensures room { IfOk result (λ bench. (room_for_writes bench ≡ writes) × (room_for_octets bench ≡ octets)) }
+        ensures { IfOk result (λ bench. IsNew image.items writes octets bench) }
     {
         Ok(LineBench {
             log: LogBench::new(alloc, image, writes, octets)?,
@@ -76,10 +73,7 @@ impl LineBench {
 
     /// Begins log and text anew. The image stays.
     pub fn begin(&mut self)
-        ensures image { image_of self.new ≡ image_of self.old }
-        ensures none { (writes_of self.new ≡ []) × (text_of self.new ≡ []) }
-        ensures faults { KeepsFaults self.old self.new }
-        ensures room { room_for_text self.new ≡ room_for_text self.old + length (text_of self.old) }
+        ensures { IsBegun (room_for_text self.old + length (text_of self.old)) self.old self.new }
     {
         self.log.begin();
         self.marks.clear();
@@ -88,10 +82,7 @@ impl LineBench {
 
     /// The same, with this room for the text.
     pub fn begin_in(&mut self, room: Vec<u8, Heap>)
-        ensures image { image_of self.new ≡ image_of self.old }
-        ensures none { (writes_of self.new ≡ []) × (text_of self.new ≡ []) }
-        ensures faults { KeepsFaults self.old self.new }
-        ensures room { room_for_text self.new ≡ vec_capacity room }
+        ensures { IsBegun (vec_capacity room) self.old self.new }
     {
         let mut text = room;
         text.clear();
@@ -103,10 +94,7 @@ impl LineBench {
     // Writes, where there is memory for the log.
     fn enter(&mut self, at: usize, from: &[u8]) -> Result<(), EepromFault>
         requires { at + length from.now ≤ length (image_of self.old) }
-        ensures done { OnOk result (Enters at from.now self.old self.new) }
-        ensures wanting { OnErr result (IsAsBefore self.old self.new) }
-        ensures fits { 1 ≤ room_for_writes self.old → length from.now ≤ room_for_octets self.old → IsOk result }
-        ensures text { self.new.text ≡ self.old.text }
+        ensures entered { WritesOrWants at from.now self.old self.new result }
         ensures faults { KeepsFaults self.old self.new }
     {
         if self.marks.reserve(1).is_err() {
@@ -119,12 +107,12 @@ impl LineBench {
 }
 
 impl Eeprom for LineBench {
-    ghost use Rattle.std.specs.Prelude.{◌≡◌, ◌+◌, ◌≤◌, length, slice_range, option_map, IfSome, OnOk, OnErr, IsOk, refl};
+    ghost use Rattle.std.specs.Prelude.{◌≡◌, ◌+◌, ◌≤◌, length, slice_range, option_map, IfSome, OnOk, IsOk, refl};
     ghost use Rattle.eeprom.specs.Chip.{Becomes, RisesBy, Writes};
     ghost use Rattle.eeprom.specs.Fault.{Counts, each_error};
     ghost use Rattle.eeprom.specs.Frame.{Reads};
     ghost use Rattle.eeprom.specs.Image.{overwrite};
-    ghost use Rattle.line_bench.specs.LineBench.{Enters, IsAsBefore, chip_of, faults_of, octets_read_of, room_for_octets, room_for_writes, small_of};
+    ghost use Rattle.line_bench.specs.LineBench.{WritesOrWants, chip_of, faults_of, octets_read_of, small_of};
 
     ghost chip = { chip_of };
 
@@ -149,9 +137,7 @@ impl Eeprom for LineBench {
 
     fn write(&mut self, at: usize, from: &[u8]) -> Result<(), EepromFault>
         requires { at + length from.now ≤ (chip_of self.old).still.size }
-        ensures done { OnOk result (Enters at from.now self.old self.new) }
-        ensures wanting { OnErr result (IsAsBefore self.old self.new) }
-        ensures fits { 1 ≤ room_for_writes self.old → length from.now ≤ room_for_octets self.old → IsOk result }
+        ensures entered { WritesOrWants at from.now self.old self.new result }
         ensures written { OnOk result ((chip_of self.new).image ≡ option_map (λ image. overwrite image at from.now) (chip_of self.old).image) }
         ensures writes { Writes at from.now (chip_of self.old) (chip_of self.new) }
         ensures read { octets_read_of self.new ≡ octets_read_of self.old }
