@@ -1,5 +1,5 @@
 -- What a host has that makes the writes of a command's or a line's log.
-use Rattle.std.proofs.Common.{Box, Result, Ok, Err, IfOk, ◌≡◌, ◌≤◌, inl, inr, ℕ, suc, List, [], ◌∷◌, ap, length, refl, subst, sym, ◌∙◌, arith}
+use Rattle.std.proofs.Common.{Box, Result, Ok, Err, IfOk, OnErr, IsErrOf, ◌≡◌, ◌⊎◌, ◌≤◌, inl, inr, ℕ, suc, List, [], ◌∷◌, ap, length, refl, subst, sym, ◌∙◌, arith}
 use Rattle.std.proofs.lemmas.Option.{same_Some}
 use Rattle.eeprom.specs.Chip.{Keeps, Throughout}
 use Rattle.eeprom.specs.StoreOf.{store_of}
@@ -17,6 +17,7 @@ use Rattle.scql_model.specs.Opens.{Opens, OpensToOneOf}
 use Rattle.terminal.specs.Line.{IsMoment}
 use Rattle.card_c.specs.HeldCard.{HeldCard, KeepsCuts, OpensByCuts}
 use Rattle.card_c.specs.OnLog.{IsBegun, IsDeskAt, OnLog, desk_chip, mark_of}
+use Rattle.card_c.specs.declared.status.TheConstants.{NOT_A_CARD, NO_MEMORY}
 
 -- a moment of a line: its mark is no earlier than the line's start, and the image opens to the database of before or to one that the line commits
 abbrev OfMoment : ℕ → Database → List Database → ℕ → List ℕ → Type 0
@@ -54,14 +55,14 @@ pub of-command : (m : Machine) (commits : List Database) (old new : OnLog) → L
 of-command m commits old new moments = throughout-weaker (desk_chip old) (desk_chip new) _ _ moments (λ g left is. (is.0, is.1, inl is.2))
 
 -- whoever makes the writes has the database of before, or one that is committed meanwhile
-pub keeps-cuts : (m : Machine) (commits : List Database) (old begun new : OnLog) → IsDeskAt old m → IsBegun old begun → LeavesOpen (IsMoment (mark_of begun) m.committed commits) (desk_chip begun) (desk_chip new)
+pub keeps-cuts : {octets : ℕ} (m : Machine) (commits : List Database) (old begun new : OnLog) → IsDeskAt old m → IsBegun octets old begun → LeavesOpen (IsMoment (mark_of begun) m.committed commits) (desk_chip begun) (desk_chip new)
     → KeepsCuts (m.committed ∷ commits) (image_of old.bench) new.bench
 keeps-cuts m commits old begun new at begins moments =
     let mark = length (text_of begun.bench) in
     let later = moment-later mark m.committed commits in
     record {
-      all = all-begun (OfMoment (suc mark) m.committed commits) later (image_of old.bench) begun.bench new.bench begins.image begins.none moments;
-      cuts = λ left cut. elim (cut-begun (OfMoment (suc mark) m.committed commits) later (image_of old.bench) begun.bench new.bench begins.image begins.none moments left cut) [
+      all = all-begun (OfMoment (suc mark) m.committed commits) later (image_of old.bench) begun.bench new.bench begins.bench.image begins.bench.none moments;
+      cuts = λ left cut. elim (cut-begun (OfMoment (suc mark) m.committed commits) later (image_of old.bench) begun.bench new.bench begins.bench.image begins.bench.none moments left cut) [
         | inl was ↦ inl (subst (λ (image : List ℕ). Opens image m.committed) (sym was) (Opens-at old.card (chip_of old.bench) m at.ready at.at (image_of old.bench) refl))
         | inr moment ↦ moment-opens (suc mark) m.committed commits moment.0 left moment.1
       ];
@@ -107,3 +108,8 @@ opening-cuts image begun new db same none keeps opens =
 pub boxed-so : {A : Type 0} (boxed : Result (Box HeldCard A) ℕ) (held made : HeldCard) (P : HeldCard → Type 0) → held ≡ made → IfOk boxed (λ b. b.value ≡ held) → P made → IfOk boxed (λ b. P b.value)
 boxed-so (Ok b) held made P same is so = subst P (sym (is ∙ same)) so
 boxed-so (Err e) held made P same is so = tt
+
+-- and where it wasn't, there was no memory
+pub unboxed : {A : Type 0} (boxed : Result (Box HeldCard A) ℕ) → OnErr boxed (IsErrOf boxed NO_MEMORY) → OnErr boxed (IsErrOf boxed NOT_A_CARD ⊎ IsErrOf boxed NO_MEMORY)
+unboxed (Ok b) is = tt
+unboxed (Err e) is = inr is

@@ -2,25 +2,27 @@
 use Rattle.std.proofs.Common.{◌≡◌, ◌⊎◌, inl, inr, List, [], ◌∷◌, ◌++◌, ℕ, Option, Some, None, false, option_map, ap, refl, sym, subst, ◌∙◌}
 use Rattle.std.proofs.lemmas.Option.{same_Some}
 use Rattle.eeprom.specs.Output.{Prints}
-use Rattle.card_link.specs.Link.{LeavesOpen}
-use Rattle.line_bench.specs.LineBench.{given_line, text_of}
+use Rattle.card_link.specs.Link.{IsOneOf, LeavesOpen}
+use Rattle.line_bench.specs.LineBench.{given_line, image_of, text_of}
 use Rattle.planner.specs.Held.{held_after_octets, transaction_channel}
 use Rattle.planner.specs.StatementLines.{TerminalState, statement_lines}
 use Rattle.scql_model.specs.Lines.{Effect, line_effect}
 use Rattle.scql_model.specs.Lives.{after_all}
 use Rattle.scql_model.specs.Machine.{Machine, reset}
-use Rattle.scql_model.specs.Step.{step}
+use Rattle.scql_model.specs.Step.{Answer, step}
 use Rattle.scql_base.specs.declared.words.StatusWord.{StatusWord}
 use Rattle.planner.proofs.OctetsTell.{octets-tell}
 use Rattle.terminal.specs.declared.line_end.LineEnd.{LineEnd}
 use Rattle.terminal.specs.declared.line_end.LineEnd.TheVariants as ends
 use Rattle.terminal.specs.Holding.{Holding, Knows, Sits, terminal_at}
-use Rattle.terminal.specs.Line.{IsAnswered, IsMoment}
-use Rattle.card_c.specs.HeldCard.{HeldCard, IsCardAt, IsSeated, IsSeatedWith}
-use Rattle.card_c.specs.Lines.{EndsLine, status_in}
+use Rattle.terminal.specs.Line.{IsAnswered}
+use Rattle.card_c.specs.Calls.{GivesAnswer, GivesLine}
+use Rattle.card_c.specs.HeldCard.{AnswersInto, HeldCard, IsCardAt, IsSeated, IsSeatedWith}
+use Rattle.card_c.specs.Lines.{EndsLine, SaysLine, status_in}
 use Rattle.card_c.specs.OnLog.{IsBegun, IsDeskAt, OnLog, desk_chip, given_by, mark_of}
 use Rattle.card_c.specs.declared.status.TheConstants.{DONE, NO_MEMORY}
 use Rattle.card_c.proofs.Begun.{at-begun}
+use Rattle.card_c.proofs.Cuts.{keeps-cuts, logs-to, of-command}
 
 -- what a handle holds as a desk, and the other way round
 abbrev pub desk_in : HeldCard → OnLog
@@ -40,7 +42,7 @@ sits-new : (now : Holding) (next : TerminalState) (new : OnLog) → Sits IsDeskA
 sits-new now next new sits = record { holding = now; there = refl; sits = record { at = sits.at; channel = sits.channel; knows = sits.knows } }
 
 -- A line from a state on, as the terminal tells of it over a desk that was just begun.
-module _ (old : HeldCard) (begun : OnLog) (state : TerminalState) (holding : Holding) (line : List ℕ) (seated : IsSeated old state) (there : old.terminal ≡ Some holding) (begins : IsBegun (desk_in old) begun) where
+module _ {octets : ℕ} (old : HeldCard) (begun : OnLog) (state : TerminalState) (holding : Holding) (line : List ℕ) (seated : IsSeated old state) (there : old.terminal ≡ Some holding) (begins : IsBegun octets (desk_in old) begun) where
   same : holding ≡ seated.holding
   same = same_Some holding seated.holding (sym there ∙ seated.there)
 
@@ -53,15 +55,9 @@ module _ (old : HeldCard) (begun : OnLog) (state : TerminalState) (holding : Hol
   here : terminal_at state.machine holding.channel ≡ state
   here = ap (terminal_at state.machine) (ap (λ (h : Holding). h.channel) same ∙ seated.sits.channel)
 
-  pub line-ends : (now : Holding) (end : LineEnd) (new : OnLog) → ((m : Machine) → IsDeskAt begun m → Knows holding.transaction m → EndsLine m (line_effect statement_lines (terminal_at m holding.channel) line) now end begun new)
-      → EndsLine state.machine (line_effect statement_lines state line) now end begun new
-  line-ends now end new ends = subst (λ (s : TerminalState). EndsLine state.machine (line_effect statement_lines s line) now end begun new) here (ends state.machine starts knows)
-
-  pub line-moments : (new : OnLog)
-      → ((m : Machine) → IsDeskAt begun m → Knows holding.transaction m → LeavesOpen (IsMoment (mark_of begun) m.committed (line_effect statement_lines (terminal_at m holding.channel) line).commits) (desk_chip begun) (desk_chip new))
-      → LeavesOpen (IsMoment (mark_of begun) state.machine.committed (line_effect statement_lines state line).commits) (desk_chip begun) (desk_chip new)
-  line-moments new moments =
-      subst (λ (s : TerminalState). LeavesOpen (IsMoment (mark_of begun) state.machine.committed (line_effect statement_lines s line).commits) (desk_chip begun) (desk_chip new)) here (moments state.machine starts knows)
+  pub line-said : (now : Holding) (end : LineEnd) (new : OnLog) → ((m : Machine) → IsDeskAt begun m → Knows holding.transaction m → SaysLine m (line_effect statement_lines (terminal_at m holding.channel) line) now end begun new)
+      → SaysLine state.machine (line_effect statement_lines state line) now end begun new
+  line-said now end new said = subst (λ (s : TerminalState). SaysLine state.machine (line_effect statement_lines s line) now end begun new) here (said state.machine starts knows)
 
 -- what the call says of it
 pub answered : (m : Machine) (does : Effect TerminalState) (now : Holding) (end : LineEnd) (begun new : OnLog) → EndsLine m does now end begun new → status_in end ≡ DONE → IsAnswered IsDeskAt given_by does now begun new
@@ -83,6 +79,28 @@ wanting m does now (ends.Refused why) begun new end is = absurd cc
 wanting m does now ends.Mute begun new end is = inl end
 wanting m does now ends.SinkFault begun new end is =
     inr (terminal_at end.machine now.channel, sits-new now (terminal_at end.machine now.channel) new (record { at = end.at; channel = refl; knows = end.knows }), end.committed)
+
+-- all that comes of a line
+pub gives-line : {octets : ℕ} (old : HeldCard) (begun new : OnLog) (state : TerminalState) (does : Effect TerminalState) (now : Holding) (end : LineEnd) (status : ℕ) → IsSeated old state → IsBegun octets (desk_in old) begun
+    → SaysLine state.machine does now end begun new → status ≡ status_in end → GivesLine state does old (held_with new now) status
+gives-line old begun new state does now end status seated begins said is =
+    let kept = keeps-cuts state.machine does.commits (desk_in old) begun new seated.sits.at begins said.moments in
+    let whole = λ (done : status ≡ DONE). answered state.machine does now end begun new said.ends (sym is ∙ done) in
+    record {
+      text = λ done. answered-text does now begun new begins.bench.none.1 (whole done);
+      next = λ done. answered-next does now begun new (whole done);
+      cuts = λ ends. kept;
+      last = λ done. logs-to (state.machine.committed ∷ does.commits) (image_of old.bench) new does.next.machine kept (whole done).sits.at;
+      wanting = λ wants. wanting state.machine does now end begun new said.ends (sym is ∙ wants);
+    }
+
+-- and all that comes of a command, where it is answered and where memory is wanting
+pub gives-answer : {octets : ℕ} (m : Machine) (answer : Answer) (place : List ℕ) (count : ℕ) (old : HeldCard) (begun : OnLog) (new : HeldCard) (status : ℕ) → IsCardAt old m → IsBegun octets (desk_in old) begun
+    → LeavesOpen (IsOneOf (mark_of begun) (m.committed ∷ answer.commits)) (desk_chip begun) (desk_chip (desk_in new)) → (status ≡ DONE → AnswersInto answer.reply count place × IsCardAt new answer.machine)
+    → GivesAnswer m answer place count old new status
+gives-answer m answer place count old begun new status at begins moments step =
+    let kept = keeps-cuts m answer.commits (desk_in old) begun (desk_in new) at begins (of-command m answer.commits begun (desk_in new) moments) in
+    record { step = step; cuts = λ ends. kept; last = λ done. logs-to (m.committed ∷ answer.commits) (image_of old.bench) (desk_in new) answer.machine kept (step done).1 }
 
 -- what a terminal holds that is there
 pub is-there : {B : Type 0} (value : B → Holding) (o : Option B) (b : B) (holding : Holding) → o ≡ Some b → holding ≡ value b → option_map value o ≡ Some holding

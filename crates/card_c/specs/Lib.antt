@@ -1,3 +1,4 @@
+pub mod Calls
 pub mod DeskLaws
 pub mod HeldCard
 pub mod Lines

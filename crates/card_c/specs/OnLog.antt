@@ -1,5 +1,5 @@
 -- A card together with its EEPROM that has a log and a text.
-use Rattle.std.specs.Prelude.{◌≡◌, ℕ, Bool, List, [], Option}
+use Rattle.std.specs.Prelude.{◌≡◌, ℕ, Bool, List, Option}
 use Rattle.std.proofs.Common.{refl}
 use Rattle.std.specs.Coded.{Coded, code_by, coded×}
 use Rattle.eeprom.specs.Chip.{Chip}
@@ -9,7 +9,7 @@ use Rattle.card.specs.Card.{Kept}
 use Rattle.card.specs.LiveCard.{IsReadyAt}
 use Rattle.line_bench.specs.contracts.line_bench.LineBench as bench
 use Rattle.line_bench.specs.LineBench as line_bench
-use Rattle.line_bench.specs.LineBench.{KeepsFaults, LeavesLog, chip_of, given_of, image_of, text_of, writes_of}
+use Rattle.line_bench.specs.LineBench.{LeavesLog, chip_of, given_of}
 use Rattle.line_bench.specs.declared.line_bench.LineBench.{LineBench}
 
 pub record OnLog : Type 0 where
@@ -46,9 +46,7 @@ text_faults_of d = line_bench.text_faults_of d.bench
 abbrev pub LeavesCard : OnLog → OnLog → Type 0
 LeavesCard old new = (new.card ≡ old.card) × LeavesLog old.bench new.bench
 
--- log and text are begun anew, and card, image and counts of faults stay
-pub record IsBegun (old new : OnLog) : Type 0 where
+-- log and text are begun anew, with room for a text of so many octets, and the card stays
+pub record IsBegun (octets : ℕ) (old new : OnLog) : Type 0 where
   pub card : new.card ≡ old.card
-  pub image : image_of new.bench ≡ image_of old.bench
-  pub none : (writes_of new.bench ≡ []) × (text_of new.bench ≡ [])
-  pub faults : KeepsFaults old.bench new.bench
+  pub bench : line_bench.IsBegun octets old.bench new.bench

@@ -33,8 +33,8 @@ impl Model for CardDesk {
 }
 
 impl CardDesk {
-    ghost use Rattle.std.specs.Prelude.{vec_capacity};
-    ghost use Rattle.line_bench.specs.LineBench.{room_for_text};
+    ghost use Rattle.std.specs.Prelude.{◌+◌, length, vec_capacity};
+    ghost use Rattle.line_bench.specs.LineBench.{room_for_text, text_of};
     ghost use Rattle.card_c.specs.OnLog.{IsBegun};
 
     pub fn new(card: Card, bench: LineBench) -> CardDesk
@@ -52,15 +52,14 @@ impl CardDesk {
 
     /// Begins log and text anew.
     pub fn begin(&mut self)
-        ensures { IsBegun self.old self.new }
+        ensures { IsBegun (room_for_text self.old.bench + length (text_of self.old.bench)) self.old self.new }
     {
         self.bench.begin();
     }
 
     /// The same, with this room for the text.
     pub fn begin_in(&mut self, room: Vec<u8, Heap>)
-        ensures begun { IsBegun self.old self.new }
-        ensures room { room_for_text self.new.bench ≡ vec_capacity room }
+        ensures { IsBegun (vec_capacity room) self.old self.new }
     {
         self.bench.begin_in(room);
     }

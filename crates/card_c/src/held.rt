@@ -34,19 +34,10 @@ impl Model for Held {
 }
 
 impl Held {
-    ghost use Rattle.std.specs.Prelude.{◌≡◌, ◌≢◌, ◌⊎◌, ◌↔◌, ◌<◌, ◌≤◌, ◌∷◌, ℕ, List, length, false, None, slice_get};
+    ghost use Rattle.std.specs.Prelude.{◌≡◌, length, None};
     ghost use Rattle.card.specs.Card.{IsReady};
-    ghost use Rattle.line_bench.specs.LineBench.{chip_of, image_of, room_for_text, text_of, writes_of};
-    ghost use Rattle.planner.specs.StatementLines.{TerminalState, statement_lines};
-    ghost use Rattle.scql_model.specs.Lines.{line_effect};
-    ghost use Rattle.scql_model.specs.Lives.{after_all};
-    ghost use Rattle.scql_model.specs.Machine.{Machine, reset};
-    ghost use Rattle.scql_model.specs.Opens.{Opens};
-    ghost use Rattle.scql_model.specs.Step.{step};
-    ghost use Rattle.log_bench.specs.Writes.{applied};
-    ghost use Rattle.terminal.specs.Holding.{terminal_at};
-    ghost use Rattle.card_c.specs.HeldCard.{AnswersInto, GivesText, GivesWrite, IsLongerThan, IsCardAt, IsSeated, IsSeatedWith, KeepsCuts, LacksLog, LacksText};
-    ghost use Rattle.card_c.specs.declared.status.TheConstants.{DONE, WRONG_HANDLE, TOO_SHORT, NO_MEMORY, MUTE, NO_WRITE, NO_TERMINAL};
+    ghost use Rattle.line_bench.specs.LineBench.{chip_of, image_of, text_of, writes_of};
+    ghost use Rattle.card_c.specs.Calls.{Answers, CarriesOut, CopiesImage, CopiesText, CopiesWrite, Resets, SitsDown};
 
     /// A card that was opened over this EEPROM. It has no terminal.
     pub fn new(card: Card, bench: LineBench) -> Held
@@ -61,18 +52,7 @@ impl Held {
 
     /// Answers a command. A terminal that is there goes on behind it.
     pub fn answer(&mut self, command: &[u8], reply: &mut [u8], count: &mut usize) -> u32
-        ensures step { (m : Machine) → IsCardAt self.old m → result ≡ DONE → AnswersInto (step m command.now).reply count.new reply.new × IsCardAt self.new (step m command.now).machine }
-        ensures seat { (state : TerminalState) → IsSeated self.old state → result ≡ DONE → IsSeated self.new (terminal_at (step state.machine command.now).machine state.channel) }
-        ensures cuts { (m : Machine) → IsCardAt self.old m → (result ≡ DONE) ⊎ (result ≡ NO_MEMORY) → KeepsCuts (m.committed ∷ (step m command.now).commits) (image_of self.old.bench) self.new.bench }
-        ensures last { (m : Machine) → IsCardAt self.old m → result ≡ DONE → Opens (applied (writes_of self.new.bench) (image_of self.old.bench)) (step m command.now).machine.committed }
-        ensures length { length reply.new ≡ length reply.old }
-        ensures too_short { (result ≡ TOO_SHORT) ↔ (length reply.old < 258) }
-        ensures mute { result ≡ MUTE → self.old.card.live ≡ false }
-        ensures wanting { result ≡ NO_MEMORY → self.new.card.live ≡ false }
-        ensures cause { result ≡ NO_MEMORY → LacksLog self.old.bench self.new.bench }
-        ensures refused { (result ≡ TOO_SHORT) ⊎ (result ≡ MUTE) → (self.new ≡ self.old) × (reply.new ≡ reply.old) × (count.new ≡ count.old) }
-        ensures unanswered { result ≡ NO_MEMORY → (reply.new ≡ reply.old) × (count.new ≡ count.old) }
-        ensures ends { (result ≡ DONE) ⊎ ((result ≡ TOO_SHORT) ⊎ ((result ≡ MUTE) ⊎ (result ≡ NO_MEMORY))) }
+        ensures { Answers command.now reply.old reply.new count.old count.new self.old self.new result }
     {
         if reply.len() < LONGEST_REPLY {
             return TOO_SHORT;
@@ -95,12 +75,7 @@ impl Held {
 
     /// Ends all sessions, and undoes an open transaction. A terminal that is there begins anew.
     pub fn reset(&mut self) -> u32
-        ensures done { (m : Machine) → IsCardAt self.old m → result ≡ DONE → IsCardAt self.new (reset m) }
-        ensures seat { (state : TerminalState) → IsSeated self.old state → result ≡ DONE → IsSeated self.new (terminal_at (reset state.machine) 0) }
-        ensures image { image_of self.new.bench ≡ image_of self.old.bench }
-        ensures mute { (result ≡ MUTE) ↔ (self.old.card.live ≡ false) }
-        ensures refused { result ≡ MUTE → self.new ≡ self.old }
-        ensures ends { (result ≡ DONE) ⊎ (result ≡ MUTE) }
+        ensures { Resets self.old self.new result }
     {
         if !self.desk.live() {
             return MUTE;
@@ -113,12 +88,7 @@ impl Held {
 
     /// Resets the card, and gives it a terminal, with room for so many octets of text.
     pub fn sit(&mut self, alloc: Heap, room: usize) -> u32
-        ensures done { (m : Machine) → IsCardAt self.old m → result ≡ DONE → IsSeated self.new (terminal_at (reset m) 0) }
-        ensures room { result ≡ DONE → room_for_text self.new.bench ≡ room }
-        ensures image { image_of self.new.bench ≡ image_of self.old.bench }
-        ensures mute { (result ≡ MUTE) ↔ (self.old.card.live ≡ false) }
-        ensures refused { (result ≡ DONE) ⊎ (self.new ≡ self.old) }
-        ensures ends { (result ≡ DONE) ⊎ ((result ≡ MUTE) ⊎ (result ≡ NO_MEMORY)) }
+        ensures { SitsDown room self.old self.new result }
     {
         if !self.desk.live() {
             return MUTE;
@@ -137,19 +107,7 @@ impl Held {
 
     /// Carries out a line as a statement.
     pub fn line(&mut self, line: &[u8]) -> u32
-        ensures text { (state : TerminalState) → IsSeated self.old state → result ≡ DONE → text_of self.new.bench ≡ (line_effect statement_lines state line.now).text }
-        ensures next { (state : TerminalState) → IsSeated self.old state → result ≡ DONE → IsSeated self.new (line_effect statement_lines state line.now).next }
-        ensures cuts { (state : TerminalState) → IsSeated self.old state → (result ≡ DONE) ⊎ (result ≡ NO_MEMORY)
-            → KeepsCuts (state.machine.committed ∷ (line_effect statement_lines state line.now).commits) (image_of self.old.bench) self.new.bench }
-        ensures last { (state : TerminalState) → IsSeated self.old state → result ≡ DONE
-            → Opens (applied (writes_of self.new.bench) (image_of self.old.bench)) (line_effect statement_lines state line.now).next.machine.committed }
-        ensures wanting { (state : TerminalState) → IsSeated self.old state → result ≡ NO_MEMORY
-            → (self.new.card.live ≡ false) ⊎ IsSeatedWith self.new (after_all state.machine.committed (line_effect statement_lines state line.now).commits) }
-        ensures cause { result ≡ NO_MEMORY → ((self.new.card.live ≡ false) × LacksLog self.old.bench self.new.bench) ⊎ LacksText self.old.bench self.new.bench }
-        ensures mute { result ≡ MUTE → self.old.card.live ≡ false }
-        ensures none { (result ≡ NO_TERMINAL) ↔ (self.old.terminal ≡ None) }
-        ensures refused { (result ≡ NO_TERMINAL) ⊎ (result ≡ MUTE) → self.new ≡ self.old }
-        ensures ends { (result ≡ DONE) ⊎ ((result ≡ NO_TERMINAL) ⊎ ((result ≡ MUTE) ⊎ (result ≡ NO_MEMORY))) }
+        ensures { CarriesOut line.now self.old self.new result }
     {
         let Some(terminal) = &mut self.terminal else {
             return NO_TERMINAL;
@@ -170,10 +128,7 @@ impl Held {
 
     /// The text of the last line, into what is lent.
     pub fn copy_text(&self, into: &mut [u8], count: &mut usize) -> u32
-        ensures done { result ≡ DONE → GivesText (text_of self.now.bench) count.new into.new }
-        ensures too_short { (result ≡ TOO_SHORT) ↔ (length into.old < length (text_of self.now.bench)) }
-        ensures refused { (result ≡ DONE) ⊎ ((into.new ≡ into.old) × (count.new ≡ count.old)) }
-        ensures ends { (result ≡ DONE) ⊎ (result ≡ TOO_SHORT) }
+        ensures { CopiesText into.old into.new count.old count.new self.now result }
     {
         let text = self.desk.bench().text();
         if into.len() < text.len() {
@@ -193,10 +148,7 @@ impl Held {
 
     /// Copies the image into as many octets as it has.
     pub fn copy_image(&self, image: &mut [u8]) -> u32
-        ensures done { result ≡ DONE → image.new ≡ image_of self.now.bench }
-        ensures too_short { (result ≡ TOO_SHORT) ↔ (length image.old ≢ length (image_of self.now.bench)) }
-        ensures refused { (result ≡ DONE) ⊎ (image.new ≡ image.old) }
-        ensures ends { (result ≡ DONE) ⊎ (result ≡ TOO_SHORT) }
+        ensures { CopiesImage image.old image.new self.now result }
     {
         let octets = self.desk.bench().image();
         if image.len() != octets.len() {
@@ -215,11 +167,7 @@ impl Held {
 
     /// The write of that number, the first being 0: its place, and its octets into what is lent.
     pub fn write(&self, write: usize, at: &mut usize, into: &mut [u8], count: &mut usize) -> u32
-        ensures done { result ≡ DONE → GivesWrite (slice_get (writes_of self.now.bench) write) at.new count.new into.new }
-        ensures too_short { result ≡ TOO_SHORT → IsLongerThan (length into.old) (slice_get (writes_of self.now.bench) write) }
-        ensures none { (result ≡ NO_WRITE) ↔ (length (writes_of self.now.bench) ≤ write) }
-        ensures refused { (result ≡ DONE) ⊎ ((at.new ≡ at.old) × (into.new ≡ into.old) × (count.new ≡ count.old)) }
-        ensures ends { (result ≡ DONE) ⊎ ((result ≡ NO_WRITE) ⊎ (result ≡ TOO_SHORT)) }
+        ensures { CopiesWrite write at.old at.new into.old into.new count.old count.new self.now result }
     {
         let Some((place, octets)) = self.desk.bench().write_at(write) else {
             return NO_WRITE;

@@ -1,11 +1,11 @@
 // A card made, or opened, in a box of its own.
-ghost use Rattle.std.specs.Prelude.{◌≡◌, ◌⊎◌, ◌≤◌, ℕ, IfOk, OnErr, IfSome, IsErrOf};
+ghost use Rattle.std.specs.Prelude.{◌≡◌, ◌≤◌, IfOk, OnErr, IfSome, IsErrOf};
 ghost use Rattle.eeprom.specs.StoreOf.{fewest_cells, most_cells};
-ghost use Rattle.scql_model.specs.Database.{Database, fresh};
+ghost use Rattle.scql_model.specs.Database.{fresh};
 ghost use Rattle.scql_model.specs.Machine.{start};
-ghost use Rattle.scql_model.specs.Opens.{Opens};
-ghost use Rattle.card_c.specs.HeldCard.{IsCardAt, OpensByCuts};
-ghost use Rattle.card_c.specs.declared.status.TheConstants.{NO_MEMORY, NOT_A_CARD};
+ghost use Rattle.card_c.specs.Calls.{OpensImage};
+ghost use Rattle.card_c.specs.HeldCard.{IsCardAt};
+ghost use Rattle.card_c.specs.declared.status.TheConstants.{NO_MEMORY};
 
 use crate::held::Held;
 use crate::status::{NO_MEMORY, NOT_A_CARD};
@@ -43,11 +43,7 @@ pub fn made(alloc: Heap, cells: u16) -> Option<Box<Held, Heap>>
 
 /// The card of an image, or the status that says why there is none.
 pub fn opened(alloc: Heap, image: &[u8]) -> Result<Box<Held, Heap>, u32>
-    ensures opens { IfOk result (λ held. (db : Database) × Opens image.now db) }
-    ensures done { IfOk result (λ held. (db : Database) → Opens image.now db → IsCardAt held.value (start db)) }
-    ensures cuts { IfOk result (λ held. (db : Database) → Opens image.now db → OpensByCuts db image.now held.value.bench) }
-    ensures not_a_card { IsErrOf result NOT_A_CARD → (db : Database) → Opens image.now db → ⊥ }
-    ensures ends { OnErr result (IsErrOf result NOT_A_CARD ⊎ IsErrOf result NO_MEMORY) }
+    ensures { OpensImage image.now result }
 {
     let Ok(octets) = Vec::from_slice(alloc, image) else {
         return Err(NO_MEMORY);
@@ -57,11 +53,7 @@ pub fn opened(alloc: Heap, image: &[u8]) -> Result<Box<Held, Heap>, u32>
 
 // The same of an image that the card takes for its own.
 fn opened_over(alloc: Heap, image: Vec<u8, Heap>) -> Result<Box<Held, Heap>, u32>
-    ensures opens { IfOk result (λ held. (db : Database) × Opens image.items db) }
-    ensures done { IfOk result (λ held. (db : Database) → Opens image.items db → IsCardAt held.value (start db)) }
-    ensures cuts { IfOk result (λ held. (db : Database) → Opens image.items db → OpensByCuts db image.items held.value.bench) }
-    ensures not_a_card { IsErrOf result NOT_A_CARD → (db : Database) → Opens image.items db → ⊥ }
-    ensures ends { OnErr result (IsErrOf result NOT_A_CARD ⊎ IsErrOf result NO_MEMORY) }
+    ensures { OpensImage image.items result }
 {
     let Ok(mut bench) = LineBench::new(alloc, image, WRITES, OCTETS) else {
         return Err(NO_MEMORY);

@@ -12,8 +12,7 @@ pub const LONGEST_REPLY: usize = 258;
 /// Writes the data and then the status word, and answers how many octets these are.
 pub fn write_octets(reply: &Reply, into: &mut [u8]) -> usize
     requires { 258 ≤ length into.old }
-    ensures octets { AnswersInto reply.now result into.new }
-    ensures length { length into.new ≡ length into.old }
+    ensures { AnswersInto reply.now result into.new }
 {
     let body = reply.body.as_slice();
     write_over(into, 0, body);
@@ -31,8 +30,7 @@ fn octets_of(number: u16) -> [u8; 2]
 // The octets of the range are these, and all else stays.
 fn write_over(into: &mut [u8], at: usize, octets: &[u8])
     requires { at + length octets.now ≤ length into.old }
-    ensures octets { into.new ≡ overwrite into.old at octets.now }
-    ensures length { length into.new ≡ length into.old }
+    ensures { into.new ≡ overwrite into.old at octets.now }
 {
     into[at..at + octets.len()].copy_from_slice(octets);
 }

@@ -2,13 +2,12 @@
 ghost use Rattle.std.specs.Prelude.{◌≡◌, IsTrue, Some, None, option_map};
 ghost use Rattle.scql_model.specs.Lines.{line_effect};
 ghost use Rattle.scql_model.specs.Machine.{Machine};
-ghost use Rattle.card_link.specs.Link.{LeavesOpen};
 ghost use Rattle.planner.specs.Held.{held_after_octets};
 ghost use Rattle.planner.specs.StatementLines.{statement_lines};
 ghost use Rattle.terminal.specs.Holding.{Knows, terminal_at};
-ghost use Rattle.terminal.specs.Line.{EndsBy, IsMoment};
-ghost use Rattle.card_c.specs.Lines.{EndsLine, status_in};
-ghost use Rattle.card_c.specs.OnLog.{IsDeskAt, desk_chip, faults_of, is_live, mark_of, text_faults_of};
+ghost use Rattle.terminal.specs.Line.{EndsBy};
+ghost use Rattle.card_c.specs.Lines.{SaysLine, status_in};
+ghost use Rattle.card_c.specs.OnLog.{IsDeskAt, faults_of, is_live, text_faults_of};
 
 use crate::card_desk::CardDesk;
 use crate::status::{DONE, NO_MEMORY};
@@ -40,11 +39,9 @@ pub fn begin_anew(seat: &mut Option<Box<Terminal, Heap>>)
 /// Carries out a line of any length.
 pub fn say(terminal: &mut Terminal, desk: &mut CardDesk, line: &[u8]) -> LineEnd
     requires { IsTrue (is_live desk.old) }
-    ensures ends { (m : Machine) → IsDeskAt desk.old m → Knows terminal.old.transaction m
-        → EndsLine m (line_effect statement_lines (terminal_at m terminal.old.channel) line.now) terminal.new result desk.old desk.new }
+    ensures said { (m : Machine) → IsDeskAt desk.old m → Knows terminal.old.transaction m
+        → SaysLine m (line_effect statement_lines (terminal_at m terminal.old.channel) line.now) terminal.new result desk.old desk.new }
     ensures ends_by { EndsBy is_live faults_of text_faults_of result desk.old desk.new }
-    ensures moments { (m : Machine) → IsDeskAt desk.old m → Knows terminal.old.transaction m
-        → LeavesOpen (IsMoment (mark_of desk.old) m.committed (line_effect statement_lines (terminal_at m terminal.old.channel) line.now).commits) (desk_chip desk.old) (desk_chip desk.new) }
 {
     if line.len() > LONGEST_LINE {
         terminal.refuse_long_line(desk)

@@ -1,11 +1,9 @@
-use Rattle.std.proofs.Common.{Some, ap, sym, ◌∙◌}
+use Rattle.std.proofs.Common.{Some, ap, rules, ◌∙◌}
+use Rattle.card_c.proofs.Handles.{looked-at, none-looked-at}
 use Rattle.card_c.proofs.huwapire_write.Goals as goal
 
-pub returns-in-Some-clause-done : goal.returns-in-Some-clause-done
-returns-in-Some-clause-done c is = (_, sym (ap Some c.deref.ensures ∙ c.in-Some.ensures.was), c.write-status.ensures.done is)
+pub returns-in-Some : goal.returns-in-Some
+returns-in-Some c = looked-at _ _ _ _ _ _ (ap Some c.deref.ensures ∙ c.in-Some.ensures.was) (search rules) (search rules) c.write-status.ensures
 
-pub returns-in-Some-clause-none : goal.returns-in-Some-clause-none
-returns-in-Some-clause-none c is = (_, sym (ap Some c.deref.ensures ∙ c.in-Some.ensures.was), c.write-status.ensures.none.0 is)
-
-pub returns-in-Some-clause-too_short : goal.returns-in-Some-clause-too_short
-returns-in-Some-clause-too_short c is = (_, sym (ap Some c.deref.ensures ∙ c.in-Some.ensures.was), c.write-status.ensures.too_short is)
+pub returns-in-None : goal.returns-in-None
+returns-in-None c = none-looked-at _ _ _ _ c.in-None.ensures.was c.in-None.ensures.none (search rules)

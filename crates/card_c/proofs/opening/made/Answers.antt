@@ -5,4 +5,4 @@ use Rattle.card_c.proofs.opening.made.Goals as goal
 
 pub returns-in-Ok-opened_over : goal.returns-in-Ok-opened_over
 returns-in-Ok-opened_over c =
-    c.in-Ok-opened_over.ensures.done (fresh c.args.cells) (subst (λ (image : List ℕ). Opens image (fresh c.args.cells)) (sym c.into_image.ensures) c.in-Ok-format.ensures.fresh)
+    c.in-Ok-opened_over.ensures.opened.done (fresh c.args.cells) (subst (λ (image : List ℕ). Opens image (fresh c.args.cells)) (sym c.into_image.ensures) c.in-Ok-format.ensures.fresh)
