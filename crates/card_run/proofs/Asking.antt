@@ -119,6 +119,18 @@ not-wanting form status ends is = of (may_end form NoMemory) (subst (λ (s : Sta
 pub lines-not-wanting : (status : Status) → is_of_opened status ≡ true → status ≡ NoMemory → ⊥
 lines-not-wanting status opened is = false≢true (subst (λ (s : Status). is_of_opened s ≡ true) is opened)
 
+-- no more is it unread
+pub lines-not-unread : (status : Status) → is_of_opened status ≡ true → (status ≡ NoMemory) ⊎ (status ≡ NotACard) → ⊥
+lines-not-unread status opened (inl is) = false≢true (subst (λ (s : Status). is_of_opened s ≡ true) is opened)
+lines-not-unread status opened (inr is) = false≢true (subst (λ (s : Status). is_of_opened s ≡ true) is opened)
+
+pub not-unread : (form : Form) (status : Status) → ends_opened form status ≡ true → (status ≡ NoMemory) ⊎ (status ≡ NotACard) → ⊥
+not-unread form status ends = lines-not-unread status (second (may_end form status) (is_of_opened status) ends)
+  where
+    second : (may opened : Bool) → may && opened ≡ true → opened ≡ true
+    second true opened both = both
+    second false opened both = absurd (false≢true both)
+
 -- commands are read
 pub commands-read : (form : Form) → ((n : ℕ) × (form ≡ New n)) ⊎ (form ≡ Apdu) → reads_input form ≡ true
 commands-read form (inl is) = subst (λ (f : Form). reads_input f ≡ true) (sym is.1) refl
@@ -127,3 +139,11 @@ commands-read form (inr is) = subst (λ (f : Form). reads_input f ≡ true) (sym
 -- and a load reads nothing
 pub no-load : (form : Form) (rows seed : ℕ) → form ≡ Load rows seed → reads_input form ≡ true → ⊥
 no-load form rows seed is reads = false≢true (subst (λ (f : Form). reads_input f ≡ true) is reads)
+
+pub no-read : (form other : Form) → form ≡ other → reads_input other ≡ false → reads_input form ≡ true → ⊥
+no-read form other is none reads = false≢true (sym none ∙ subst (λ (f : Form). reads_input f ≡ true) is reads)
+
+-- and answered
+pub commands-answered : (form : Form) → ((n : ℕ) × (form ≡ New n)) ⊎ (form ≡ Apdu) → answers_commands form ≡ true
+commands-answered form (inl is) = subst (λ (f : Form). answers_commands f ≡ true) (sym is.1) refl
+commands-answered form (inr is) = subst (λ (f : Form). answers_commands f ≡ true) (sym is) refl

@@ -1,14 +1,17 @@
 -- With which database a run begins: a card that was just made is open to the fresh one, and any other is there.
 use Rattle.std.proofs.Common.{◌≡◌, ◌⊎◌, inl, inr, ℕ, ◌<◌, ◌≤◌, List, Option, Some, None, Result, Ok, Err, refl, sym, subst, arith}
 use Rattle.std.specs.Prelude.{◌↔◌, IsSome, IfSome, OnOk, IsErrOf, option_map}
-use Rattle.eeprom.specs.Chip.{Chip}
+use Rattle.eeprom.specs.Chip.{Becomes, Chip}
 use Rattle.eeprom.specs.StoreOf.{image_size}
 use Rattle.scql_model.specs.Database.{Database, fresh}
 use Rattle.scql_model.specs.Opens.{Opens}
 use Rattle.card_run.specs.declared.words.Form.{Form}
 use Rattle.card_run.specs.declared.words.Form.TheVariants.{New, Apdu, Term, Check, Load, Migrate}
-use Rattle.card.specs.Making.{LeavesMade}
-use Rattle.card_run.specs.Beginning.{IsThere, Begins, LeavesUntilOpen}
+use Rattle.card.specs.Behind.{own_cells}
+use Rattle.card.specs.Making.{LeavesMade, OpensToNone}
+use Rattle.card_run.specs.Beginning.{IsThere, Begins, LacksCard, LeavesUntilOpen}
+use Rattle.card_run.specs.Behind.{run_cells}
+use Rattle.card_run.specs.Opening.{IsPrepared}
 use Rattle.card.specs.Opened.{IsOpenTo}
 use Rattle.card_run.proofs.Finishing.{keeps_same}
 
@@ -72,3 +75,30 @@ pub there-new : {X E : Type 0} (chip : X → Chip) (result : Result (Unit {0}) E
     → OnOk result (IsThere chip form old new)
 there-new chip (Err e) form n old new is made opens = tt
 there-new chip (Ok x) form n old new is made opens = subst (λ (f : Form). IsThere chip f old new) (sym is) (made, opens)
+
+-- the same the other way round, and where the image opens to no database
+pub opens-there : (form : Form) (chip : Chip) (db : Database) → IsFound form → Begins form chip db → IsOpenTo chip db
+opens-there form chip db (inl is) begins = subst (λ (f : Form). Begins f chip db) is begins
+opens-there form chip db (inr (inl is)) begins = subst (λ (f : Form). Begins f chip db) is begins
+opens-there form chip db (inr (inr (inl is))) begins = subst (λ (f : Form). Begins f chip db) is begins
+opens-there form chip db (inr (inr (inr (inl is)))) begins = subst (λ (f : Form). Begins f chip db) is begins
+opens-there form chip db (inr (inr (inr (inr is)))) begins = subst (λ (f : Form). Begins f chip db) is.2 begins
+
+none-in : (told : Option (List ℕ)) → IsSome told → IfSome told OpensToNone → (image : List ℕ) × (told ≡ Some image) × OpensToNone image
+none-in None is none = absurd cc
+none-in (Some image) is none = (image, refl, none)
+
+pub lacks-there : (form : Form) (chip : Chip) → IsFound form → IsSome chip.image → IfSome chip.image OpensToNone → LacksCard form chip
+lacks-there form chip (inl is) told none = subst (λ (f : Form). LacksCard f chip) (sym is) (none-in chip.image told none)
+lacks-there form chip (inr (inl is)) told none = subst (λ (f : Form). LacksCard f chip) (sym is) (none-in chip.image told none)
+lacks-there form chip (inr (inr (inl is))) told none = subst (λ (f : Form). LacksCard f chip) (sym is) (none-in chip.image told none)
+lacks-there form chip (inr (inr (inr (inl is)))) told none = subst (λ (f : Form). LacksCard f chip) (sym is) (none-in chip.image told none)
+lacks-there form chip (inr (inr (inr (inr is)))) told none = subst (λ (f : Form). LacksCard f chip) (sym is.2) (none-in chip.image told none)
+
+-- all of it, where the card was made
+pub all-prepared : {X E : Type 0} (chip : X → Chip) (form : Form) (old new : X) (result : Result (Unit {0}) E) → OnOk result ((db : Database) → Begins form (chip old) db → IsOpenTo (chip new) db)
+    → OnOk result ((db : Database) → IsOpenTo (chip new) db → (first : Database) × Begins form (chip old) first) → OnOk result (IsSome (chip old).image → IsSome (chip new).image) → OnOk result (IsThere chip form old new)
+    → OnOk result (IsSome (chip old).image → IfSome (chip new).image OpensToNone → LacksCard form (chip old)) → OnOk result (Becomes (λ was now. own_cells now ≡ run_cells form was) (chip old).image (chip new).image)
+    → OnOk result (IsPrepared chip form old new)
+all-prepared chip form old new (Ok x) begins began told there lacks cells = record { begins = begins; began = began; told = told; there = there; lacks = lacks; cells = cells }
+all-prepared chip form old new (Err e) begins began told there lacks cells = tt

@@ -1,5 +1,7 @@
 -- How a run over its input ends.
-use Rattle.std.specs.Prelude.{◌&&◌, Bool, true, false}
+use Rattle.std.specs.Prelude.{◌≡◌, ℕ, ◌&&◌, Bool, true, false}
+use Rattle.line_run.specs.Causes.{Faults}
+use Rattle.program.specs.Ends.{EndsBy}
 use Rattle.program.specs.declared.status.Status.{Status}
 use Rattle.card_run.specs.declared.words.Form.{Form}
 use Rattle.card_run.specs.Words.{carries_out_statements, makes_card, reads_input}
@@ -31,6 +33,11 @@ is_of_opened status = false
 -- and so where its card was opened
 abbrev pub ends_opened : Form → Status → Bool
 ends_opened form status = may_end form status && is_of_opened status
+
+-- A run of this form that reads no input, and whose card was opened, ended so, where the counts of faults of EEPROM and outlet were and are these: each fault has its cause.
+pub record EndsOpened (form : Form) (result : Status) (was now : Faults) : Type 0 where
+  pub status : ends_opened form result ≡ true
+  pub ends : (source : ℕ) → EndsBy result (record { eeprom = was.eeprom; source = source; outlet = was.outlet }) (record { eeprom = now.eeprom; source = source; outlet = now.outlet })
 
 -- the ends of a run whose card didn't open
 abbrev pub ends_opening : Status → Bool

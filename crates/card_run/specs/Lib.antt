@@ -1,11 +1,15 @@
 pub mod Beginning
 pub mod Behind
 pub mod Checking
+pub mod Commands
 pub mod Counted
 pub mod Ends
+pub mod Forms
+pub mod Giving
 pub mod Living
 pub mod Loading
 pub mod Migrating
+pub mod Opening
 pub mod Progress
 pub mod ResponderLaws
 pub mod Run

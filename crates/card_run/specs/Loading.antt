@@ -1,5 +1,5 @@
 -- A run of `load`: the lines of a script are carried out and not printed, and then one text goes out.
-use Rattle.std.specs.Prelude.{◌≡◌, ◌⊎◌, ℕ, ◌+◌, ◌≤◌, nat_lt, Bool, true, false, List, [], ◌∷◌, length, IsSome, IfSome, IsTrue}
+use Rattle.std.specs.Prelude.{◌≡◌, ◌⊎◌, ℕ, ◌+◌, ◌≤◌, nat_lt, Bool, true, false, List, [], ◌∷◌, length, IsSome, IfSome, IsTrue, Result, OnOk, OnErr}
 use Rattle.std.specs.List.{count_by}
 use Rattle.eeprom.specs.Chip.{Chip, Throughout}
 use Rattle.eeprom.specs.Fault.{Rose}
@@ -66,6 +66,11 @@ pub record CarriesOut {B : Type 0} (chip : B → Chip) (faults : B → ℕ) (lin
 pub record FailsAmong {B : Type 0} (chip : B → Chip) (faults : B → ℕ) (lines : List (List ℕ)) (old new : Loader B) : Type 0 where
   pub passes : PassesLines chip lines old new
   pub rose : Rose (faults old.card.bench) (faults new.card.bench)
+
+-- They were carried out, or the EEPROM failed in one of them.
+pub record EndsLines {B T E : Type 0} (chip : B → Chip) (faults : B → ℕ) (lines : List (List ℕ)) (old new : Loader B) (result : Result T E) : Type 0 where
+  pub carried : OnOk result (CarriesOut chip faults lines old new)
+  pub failed : OnErr result (FailsAmong chip faults lines old new)
 
 -- The script, which counts as one line.
 

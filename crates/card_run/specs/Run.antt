@@ -2,6 +2,7 @@
 use Rattle.std.specs.Prelude.{◌≡◌, ◌⊎◌, ℕ, ◌<◌, ◌≤◌, Bool, true, List, [], length, Option, Some, IsSome, IfSome}
 use Rattle.eeprom.specs.Chip.{Chip, Becomes}
 use Rattle.eeprom.specs.Fault.{Rose}
+use Rattle.card.specs.Behind.{KeepsBehind}
 use Rattle.scql_model.specs.Database.{Database}
 use Rattle.scql_model.specs.Lines.{Language, lines, run_text, state_after}
 use Rattle.scql_model.specs.Opens.{Opens}
@@ -10,8 +11,8 @@ use Rattle.program.specs.declared.status.Status.TheVariants.{Eeprom, NotACard, N
 use Rattle.card_run.specs.declared.words.Form.{Form}
 use Rattle.card_run.specs.Beginning.{Begins, EndsUnread, LeavesUntilOpen}
 use Rattle.program.specs.Numbers.{ends_as}
-use Rattle.program.specs.Ends.{AllFaults, RunsTo, reads_all}
-use Rattle.card_run.specs.Ends.{has_opened}
+use Rattle.program.specs.Ends.{AllFaults, EndsBy, RunsTo, reads_all}
+use Rattle.card_run.specs.Ends.{has_opened, is_of_opened}
 use Rattle.line_input.specs.Reading.{longest_input}
 use Rattle.eeprom.specs.Output.{Prints}
 
@@ -42,6 +43,21 @@ pub record OpensAndRuns {S X : Type 0} (chip : X → Chip) (eeprom : X → ℕ) 
   pub opens : IfSome (chip opened).image (λ image. Opens image db)
   pub until : LeavesUntilOpen form (chip old) (chip opened)
   pub runs : RunsTo chip eeprom language state status input left opened new
+
+-- A run over its input, of which this was and is left, of a card of so many cells that was opened over a bench, ended so. Card and bench were at one of some states, each of which is the first of a run in the language.
+pub record RunsOpened {A S X : Type 0} (chip : X → Chip) (eeprom : X → ℕ) (language : Language S) (refused : S → Bool) (is_at : A → Type 0) (first : A → S) (cells : ℕ) (result : Status) (start end : Option (List ℕ)) (old new : X) (was now : AllFaults) : Type 0 where
+  -- One extent says which of its lines were answered, and in which a device failed.
+  pub runs : (at : A) → is_at at → Becomes (λ input left. RunsTo chip eeprom language (first at) result input left old new) start end
+  pub status : is_of_opened result ≡ true
+  -- Its input was read to its end, or more came than a run takes.
+  pub whole : reads_all result ≡ true → Becomes (λ input left. (left ≡ []) × (length input ≤ longest_input)) start end
+  pub too_long : result ≡ TooLong → Becomes (λ input left. longest_input < length input) start end
+  -- It tells whether a line was refused.
+  pub refusals : (at : A) → is_at at → TellsRefusals language refused (first at) result start end
+  -- Each fault has its cause.
+  pub ends : EndsBy result was now
+  -- Nothing is written behind the card's image.
+  pub behind : KeepsBehind (λ image. cells) (chip old) (chip new)
 
 -- What a run of this form owes over the lines of its input, from the first state of a database on, that ended so, where a state of the language tells whether a line was refused so far. The source went from one state to another, and this was left in it
 -- before and after; and so did the bench, a state of which tells its chip and its EEPROM's count of faults.

@@ -1,5 +1,6 @@
 -- Statements as the lines of a run, which tells whether one was refused.
-use Rattle.std.specs.Prelude.{◌≡◌, ℕ, ◌||◌, Bool, false, List, Option, Some, None, is_some, Result, Ok, Err}
+use Rattle.std.specs.Prelude.{◌≡◌, ℕ, ◌||◌, Bool, false, List, Option, Some, None, is_some, Result, Ok, Err, IfOk}
+use Rattle.eeprom.specs.Chip.{Chip}
 use Rattle.scql_model.specs.Database.{Database}
 use Rattle.scql_model.specs.Lines.{Effect, Language}
 use Rattle.scql_model.specs.Machine.{Machine, start}
@@ -13,6 +14,7 @@ use Rattle.terminal.specs.declared.refusal.Refusal.TheVariants.{TooLong}
 use Rattle.terminal.specs.Line.{refusal_in}
 use Rattle.line_run.specs.declared.line_stop.LineStop.{LineStop}
 use Rattle.line_run.specs.declared.line_stop.LineStop.TheVariants.{Eeprom, Outlet}
+use Rattle.card_run.specs.Commands.{EndsLine}
 
 -- where the terminal of a run is, and whether a line was refused so far
 pub record Sitting : Type 0 where
@@ -56,3 +58,8 @@ heard_as ends.Answered = Ok None
 heard_as (ends.Refused why) = Ok (Some why)
 heard_as ends.Mute = Err Eeprom
 heard_as ends.SinkFault = Err Outlet
+
+-- A line of a terminal in this sitting ended so, and where it was answered it is told why it was refused, if it was.
+pub record EndsStatement (sitting : Sitting) (line : Option (List ℕ)) (is_at : Sitting → Type 0) (old new : Chip) (result : Result (Option Refusal) LineStop) : Type 0 where
+  pub ends : EndsLine term_lines sitting (term_lines.effect sitting line) is_at old new result
+  pub refusal : IfOk result (λ refusal. refusal ≡ refusal_at sitting.at line)

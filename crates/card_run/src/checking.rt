@@ -1,13 +1,13 @@
 // The run of a check: what the card that is there holds, in one line.
-ghost use Rattle.std.specs.Prelude.{◌≡◌, ◌+◌, ◌≤◌, ◌++◌, ℕ, true, List, length};
+ghost use Rattle.std.specs.Prelude.{◌≡◌, ◌+◌, ◌≤◌, ◌++◌, ℕ, List, length};
 ghost use Rattle.std.specs.Fmt.{decimal};
 ghost use Rattle.scql_model.specs.Machine.{Machine};
 ghost use Rattle.card.specs.Behind.{KeepsBehind};
 ghost use Rattle.card.specs.Card.{IsReady, IsAt};
 ghost use Rattle.card.specs.Counting as model;
 ghost use Rattle.card_run.specs.Checking.{Says};
-ghost use Rattle.program.specs.Ends.{AllFaults, EndsBy};
-ghost use Rattle.card_run.specs.Ends.{ends_opened};
+ghost use Rattle.line_run.specs.Causes.{Faults};
+ghost use Rattle.card_run.specs.Ends.{EndsOpened};
 ghost use Rattle.card_run.specs.Migrating.{WritesNothing};
 
 use crate::output::give;
@@ -27,10 +27,7 @@ pub(crate) fn run_check<B: Bench>(card: &Card, bench: &mut B) -> Status
     requires { IsReady card.now (B.chip bench.old) }
     ensures says { (m : Machine) → IsAt card.now (B.chip bench.old) m → Says result m.committed (B.faults bench.old) (B.faults bench.new) (B.chip bench.old).still.given (B.chip bench.new).still.given }
     ensures nothing { WritesNothing (B.chip bench.old) (B.chip bench.new) }
-    ensures status { ends_opened Form.Check result ≡ true }
-    ensures ends { (source : ℕ) → EndsBy result
-        (record { eeprom = B.faults bench.old; source = source; outlet = B.sink_faults bench.old })
-        (record { eeprom = B.faults bench.new; source = source; outlet = B.sink_faults bench.new }) }
+    ensures ended { EndsOpened Form.Check result (record { eeprom = B.faults bench.old; outlet = B.sink_faults bench.old }) (record { eeprom = B.faults bench.new; outlet = B.sink_faults bench.new }) }
     ensures behind { (cells : List ℕ → ℕ) → KeepsBehind cells (B.chip bench.old) (B.chip bench.new) }
 {
     let Ok(counts) = card.counts(bench) else {

@@ -1,21 +1,14 @@
 // Lines of commands in hexadecimal, and a card that answers them.
-ghost use Rattle.std.specs.Prelude.{◌≡◌, ◌+◌, ◌*◌, ◌<◌, ◌≤◌, [], true, length, take, option_map, IfSome, OnOk, IfErr, IsErrOf};
+ghost use Rattle.std.specs.Prelude.{◌≡◌, ◌≤◌, false, length, option_map, IfSome};
 ghost use Rattle.scql_model.specs.Machine.{Machine};
-ghost use Rattle.scql_model.specs.Step.{step};
 ghost use Rattle.scql_model.specs.Lines as model;
 ghost use Rattle.scql_model.specs.Lines.{command_lines, longest_line};
-ghost use Rattle.card.specs.Behind.{KeepsBehind};
 ghost use Rattle.card.specs.Card.{IsReady, IsAt};
-ghost use Rattle.eeprom.specs.Output.{Prints};
-ghost use Rattle.line_run.specs.Causes.{Faults, Causes};
-ghost use Rattle.line_run.specs.CutOff.{FailsIn};
-ghost use Rattle.line_run.specs.Moments.{IsInStopped, IsAnswered, IfGiven};
-ghost use Rattle.eeprom.specs.Chip.{Becomes, Throughout};
-ghost use Rattle.program.specs.Ends.{AllFaults, EndsBy, reads_all};
-ghost use Rattle.card_run.specs.Ends.{is_of_opened};
-ghost use Rattle.line_input.specs.Reading.{longest_input};
+ghost use Rattle.line_run.specs.Causes.{Faults};
+ghost use Rattle.program.specs.Ends.{AllFaults};
 ghost use Rattle.card_run.specs.Behind.{StaysBehind};
-ghost use Rattle.program.specs.Ends.{RunsTo};
+ghost use Rattle.card_run.specs.Commands.{EndsLine, LeavesLine};
+ghost use Rattle.card_run.specs.Run.{RunsOpened};
 
 use crate::output::give;
 use apdu::{LONGEST_COMMAND, LONGEST_REPLY_LINE, LineContent, Reply, read_line, write_reply};
@@ -137,17 +130,10 @@ pub(crate) fn answer_commands<S: Source, B: Bench>(
     bench: &mut B,
 ) -> Status
     requires { IsReady card (B.chip bench.old) }
-    ensures runs { (m : Machine) → IsAt card (B.chip bench.old) m
-        → Becomes (λ input left. RunsTo B.chip B.faults command_lines m result input left bench.old bench.new) (S.left source.old) (S.left source.new) }
-    ensures status { is_of_opened result ≡ true }
-    ensures whole { reads_all result ≡ true → Becomes (λ input left. (left ≡ []) × (length input ≤ longest_input)) (S.left source.old) (S.left source.new) }
-    ensures never_refused { ¬ result ≡ Status.Refused }
-    ensures too_long { result ≡ Status.TooLong → Becomes (λ input left. longest_input < length input) (S.left source.old) (S.left source.new) }
-    ensures ends { EndsBy result
+    ensures run { RunsOpened B.chip B.faults command_lines (λ m. false) (λ m. IsAt card (B.chip bench.old) m) (λ m. m) card.store.chains.cells result (S.left source.old) (S.left source.new) bench.old bench.new
         (record { eeprom = B.faults bench.old; source = S.source_faults source.old; outlet = B.sink_faults bench.old })
         (record { eeprom = B.faults bench.new; source = S.source_faults source.new; outlet = B.sink_faults bench.new }) }
-    // Nothing is written behind the card's image.
-    ensures behind { KeepsBehind (λ was. card.store.chains.cells) (B.chip bench.old) (B.chip bench.new) }
+    ensures never_refused { ¬ result ≡ Status.Refused }
 {
     let commands = CommandCard {
         card,
@@ -169,23 +155,11 @@ fn answer_line<B: Bench>(
 ) -> Result<(), LineStop>
     requires ready { IsReady card.old (B.chip bench.old) }
     requires short { IfSome line (λ octets. length octets.now ≤ longest_line) }
-    ensures at { (m : Machine) → IsAt card.old (B.chip bench.old) m
-        → OnOk result (IsAt card.new (B.chip bench.new) (model.content_effect m (model.content_of (option_map (λ octets. octets.now) line.entry))).next) }
-    ensures text { (m : Machine) → IsAt card.old (B.chip bench.old) m
-        → OnOk result (Prints (model.content_effect m (model.content_of (option_map (λ octets. octets.now) line.entry))).text (B.chip bench.old).still.given (B.chip bench.new).still.given) }
-    ensures fails { (m : Machine) → IsAt card.old (B.chip bench.old) m
-        → IfErr result (λ stop. FailsIn stop command_lines [] m (model.content_effect m (model.content_of (option_map (λ octets. octets.now) line.entry))) (B.chip bench.old).still.given (B.chip bench.new)) }
-    // At each moment a power loss leaves what the line commits, all of it once an octet of its text has gone out,
-    ensures answered { (m : Machine) → IsAt card.old (B.chip bench.old) m
-        → OnOk result (IfGiven (B.chip bench.new) (IsAnswered command_lines m (model.content_effect m (model.content_of (option_map (λ octets. octets.now) line.entry))) (B.chip bench.old) (B.chip bench.new))) }
-    // also where the outlet alone fails; where the EEPROM does it leaves the database before the line or one that it commits.
-    ensures moments { (m : Machine) → IsAt card.old (B.chip bench.old) m
-        → IfErr result (λ stop. IfGiven (B.chip bench.new) (Throughout (B.chip bench.old) (B.chip bench.new) (IsInStopped stop command_lines m (model.content_effect m (model.content_of (option_map (λ octets. octets.now) line.entry))) (B.chip bench.old).still.mark))) }
-    ensures ready { OnOk result (IsReady card.new (B.chip bench.new)) }
-    ensures causes { Causes (record { eeprom = B.faults bench.old; outlet = B.sink_faults bench.old }) (record { eeprom = B.faults bench.new; outlet = B.sink_faults bench.new }) result }
-    ensures memory { ¬ IsErrOf result LineStop.NoMemory }
-    // A card that answers keeps its number of cells, and nothing is written behind its image.
-    ensures behind { StaysBehind card.old card.new (B.chip bench.old) (B.chip bench.new) }
+    ensures ended { (m : Machine) → IsAt card.old (B.chip bench.old) m
+        → EndsLine command_lines m (model.content_effect m (model.content_of (option_map (λ octets. octets.now) line.entry))) (λ next. IsAt card.new (B.chip bench.new) next) (B.chip bench.old) (B.chip bench.new) result }
+    // A card that answers is ready, and keeps its number of cells, and nothing is written behind its image.
+    ensures leaves { LeavesLine (IsReady card.new (B.chip bench.new)) (StaysBehind card.old card.new (B.chip bench.old) (B.chip bench.new))
+        (record { eeprom = B.faults bench.old; outlet = B.sink_faults bench.old }) (record { eeprom = B.faults bench.new; outlet = B.sink_faults bench.new }) result }
 {
     match read_line(line, &mut places.command) {
         LineContent::Nothing => Ok(()),
@@ -208,20 +182,11 @@ fn answer_command<B: Bench>(
     place: &mut ReplyPlace,
 ) -> Result<(), LineStop>
     requires ready { IsReady card.old (B.chip bench.old) }
-    ensures at { (m : Machine) → IsAt card.old (B.chip bench.old) m → OnOk result (IsAt card.new (B.chip bench.new) (step m octets.now).machine) }
-    ensures text { (m : Machine) → IsAt card.old (B.chip bench.old) m
-        → OnOk result (Prints (model.reply_text (step m octets.now).reply) (B.chip bench.old).still.given (B.chip bench.new).still.given) }
-    ensures fails { (m : Machine) → IsAt card.old (B.chip bench.old) m
-        → IfErr result (λ stop. FailsIn stop command_lines [] m (model.content_effect m (model.command octets.now)) (B.chip bench.old).still.given (B.chip bench.new)) }
-    ensures answered { (m : Machine) → IsAt card.old (B.chip bench.old) m
-        → OnOk result (IfGiven (B.chip bench.new) (IsAnswered command_lines m (model.content_effect m (model.command octets.now)) (B.chip bench.old) (B.chip bench.new))) }
-    ensures moments { (m : Machine) → IsAt card.old (B.chip bench.old) m
-        → IfErr result (λ stop. IfGiven (B.chip bench.new) (Throughout (B.chip bench.old) (B.chip bench.new) (IsInStopped stop command_lines m (model.content_effect m (model.command octets.now)) (B.chip bench.old).still.mark))) }
-    ensures ready { OnOk result (IsReady card.new (B.chip bench.new)) }
-    ensures causes { Causes (record { eeprom = B.faults bench.old; outlet = B.sink_faults bench.old }) (record { eeprom = B.faults bench.new; outlet = B.sink_faults bench.new }) result }
-    ensures memory { ¬ IsErrOf result LineStop.NoMemory }
-    // A card that answers keeps its number of cells, and nothing is written behind its image.
-    ensures behind { StaysBehind card.old card.new (B.chip bench.old) (B.chip bench.new) }
+    ensures ended { (m : Machine) → IsAt card.old (B.chip bench.old) m
+        → EndsLine command_lines m (model.content_effect m (model.command octets.now)) (λ next. IsAt card.new (B.chip bench.new) next) (B.chip bench.old) (B.chip bench.new) result }
+    // A card that answers is ready, and keeps its number of cells, and nothing is written behind its image.
+    ensures leaves { LeavesLine (IsReady card.new (B.chip bench.new)) (StaysBehind card.old card.new (B.chip bench.old) (B.chip bench.new))
+        (record { eeprom = B.faults bench.old; outlet = B.sink_faults bench.old }) (record { eeprom = B.faults bench.new; outlet = B.sink_faults bench.new }) result }
 {
     match card.answer(bench, octets, &mut place.reply) {
         Outcome::Replied => Ok(give(bench, place.text())?),

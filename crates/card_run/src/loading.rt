@@ -1,5 +1,5 @@
 // The run of a load: a script that fills a table, changes it and reads it, and one line of what came of it.
-ghost use Rattle.std.specs.Prelude.{◌≡◌, ◌+◌, ◌<◌, ◌≤◌, ◌∷◌, [], ℕ, nat_lt, List, true, length, cond, OnOk, OnErr, IfOk, IsTrue, Some};
+ghost use Rattle.std.specs.Prelude.{◌≡◌, ◌+◌, ◌<◌, ◌≤◌, ◌∷◌, [], nat_lt, length, cond, OnOk, OnErr, IfOk, IsTrue, Some};
 ghost use Rattle.scql_model.specs.Database.{Database};
 ghost use Rattle.scql_model.specs.Lines.{longest_line, state_after};
 ghost use Rattle.scql_model.specs.Machine.{start};
@@ -12,9 +12,9 @@ ghost use Rattle.terminal.specs.Load as model;
 ghost use Rattle.terminal.specs.Load.{filling_lines, insert_lines, load_counts, load_script};
 ghost use Rattle.terminal.specs.Quiet.{closing_in};
 ghost use Rattle.card_run.specs.Counted.{counts_of};
-ghost use Rattle.program.specs.Ends.{AllFaults, EndsBy};
-ghost use Rattle.card_run.specs.Ends.{ends_opened};
-ghost use Rattle.card_run.specs.Loading.{CarriesOut, FailsAmong, IsIn, LoadsTo};
+ghost use Rattle.line_run.specs.Causes.{Faults};
+ghost use Rattle.card_run.specs.Ends.{EndsOpened};
+ghost use Rattle.card_run.specs.Loading.{EndsLines, IsIn, LoadsTo};
 ghost use Rattle.card_run.specs.Progress.{Reached, ShowsLoad};
 ghost use Rattle.card_run.specs.Watching.{IsWhole, PassesLoad, PassesRows, PassesSome, none_yet};
 
@@ -51,10 +51,7 @@ pub(crate) fn run_load<B: Bench, P: Person>(
     requires { IsReady card (B.chip bench.old) }
     ensures loads { (db : Database) → IsAt card (B.chip bench.old) (start db)
         → LoadsTo rows seed result (terminal_at (start db) 0) (B.faults bench.old) (B.faults bench.new) (B.chip bench.old) (B.chip bench.new) }
-    ensures status { ends_opened (Form.Load rows seed) result ≡ true }
-    ensures ends { (source : ℕ) → EndsBy result
-        (record { eeprom = B.faults bench.old; source = source; outlet = B.sink_faults bench.old })
-        (record { eeprom = B.faults bench.new; source = source; outlet = B.sink_faults bench.new }) }
+    ensures ended { EndsOpened (Form.Load rows seed) result (record { eeprom = B.faults bench.old; outlet = B.sink_faults bench.old }) (record { eeprom = B.faults bench.new; outlet = B.sink_faults bench.new }) }
     // Nothing is written behind the card's image.
     ensures behind { KeepsBehind (λ was. card.store.chains.cells) (B.chip bench.old) (B.chip bench.new) }
     ensures shows { ShowsLoad P.lost P.shown rows seed result (λ db. IsAt card (B.chip bench.old) (start db)) person.old person.new }
@@ -100,14 +97,11 @@ impl<'a, B: Bench> Loader<'a, B> {
         requires live { IsTrue self.old.card.card.live }
         requires fresh { self.old.refused ≡ 0 }
         requires unshown { progress.old ≡ none_yet }
-        ensures carried { OnOk result (CarriesOut B.chip B.faults (load_script rows seed)
+        ensures ended { EndsLines B.chip B.faults (load_script rows seed)
             (record { terminal = self.old.terminal; card = self.old.card; refused = self.old.refused })
-            (record { terminal = self.new.terminal; card = self.new.card; refused = self.new.refused })) }
+            (record { terminal = self.new.terminal; card = self.new.card; refused = self.new.refused }) result }
         ensures counted { (state : TerminalState) → IsIn B.chip state (record { terminal = self.old.terminal; card = self.old.card; refused = self.old.refused })
             → IfOk result (λ counts. counts_of counts ≡ load_counts state rows seed) }
-        ensures failed { OnErr result (FailsAmong B.chip B.faults (load_script rows seed)
-            (record { terminal = self.old.terminal; card = self.old.card; refused = self.old.refused })
-            (record { terminal = self.new.terminal; card = self.new.card; refused = self.new.refused })) }
         ensures shows { OnOk result ((reached : Reached) × PassesLoad P.lost P.shown rows seed (λ state. IsIn B.chip state (record { terminal = self.old.terminal; card = self.old.card; refused = self.old.refused })) progress.new person.old person.new reached × IsWhole rows reached) }
         ensures shows_until { OnErr result ((reached : Reached) × PassesLoad P.lost P.shown rows seed (λ state. IsIn B.chip state (record { terminal = self.old.terminal; card = self.old.card; refused = self.old.refused })) progress.new person.old person.new reached) }
     {
@@ -136,13 +130,10 @@ impl<'a, B: Bench> Loader<'a, B> {
         requires live { IsTrue self.old.card.card.live }
         requires fresh { self.old.refused ≡ 0 }
         requires unshown { progress.old ≡ none_yet }
-        ensures carried { OnOk result (CarriesOut B.chip B.faults (filling_lines rows seed)
+        ensures ended { EndsLines B.chip B.faults (filling_lines rows seed)
             (record { terminal = self.old.terminal; card = self.old.card; refused = self.old.refused })
-            (record { terminal = self.new.terminal; card = self.new.card; refused = self.new.refused })) }
+            (record { terminal = self.new.terminal; card = self.new.card; refused = self.new.refused }) result }
         ensures few { OnOk result (self.new.refused ≤ 65537) }
-        ensures failed { OnErr result (FailsAmong B.chip B.faults (filling_lines rows seed)
-            (record { terminal = self.old.terminal; card = self.old.card; refused = self.old.refused })
-            (record { terminal = self.new.terminal; card = self.new.card; refused = self.new.refused })) }
         ensures shows { OnOk result (PassesRows P.lost P.shown seed rows (λ state. IsIn B.chip state (record { terminal = self.old.terminal; card = self.old.card; refused = self.old.refused })) progress.new person.old person.new) }
         ensures shows_until { OnErr result (PassesSome P.lost P.shown seed rows (λ state. IsIn B.chip state (record { terminal = self.old.terminal; card = self.old.card; refused = self.old.refused })) progress.new person.old person.new) }
     {
@@ -162,13 +153,10 @@ impl<'a, B: Bench> Loader<'a, B> {
         requires live { IsTrue self.old.card.card.live }
         requires few { self.old.refused ≤ 2 }
         requires unshown { progress.old ≡ none_yet }
-        ensures carried { OnOk result (CarriesOut B.chip B.faults (insert_lines rows 1 seed)
+        ensures ended { EndsLines B.chip B.faults (insert_lines rows 1 seed)
             (record { terminal = self.old.terminal; card = self.old.card; refused = self.old.refused })
-            (record { terminal = self.new.terminal; card = self.new.card; refused = self.new.refused })) }
+            (record { terminal = self.new.terminal; card = self.new.card; refused = self.new.refused }) result }
         ensures few { OnOk result (self.new.refused ≤ 2 + rows) }
-        ensures failed { OnErr result (FailsAmong B.chip B.faults (insert_lines rows 1 seed)
-            (record { terminal = self.old.terminal; card = self.old.card; refused = self.old.refused })
-            (record { terminal = self.new.terminal; card = self.new.card; refused = self.new.refused })) }
         ensures shows { OnOk result (PassesRows P.lost P.shown seed rows (λ state. IsIn B.chip (state_after statement_lines state (filling_lines 0 seed)) (record { terminal = self.old.terminal; card = self.old.card; refused = self.old.refused })) progress.new person.old person.new) }
         ensures shows_until { OnErr result (PassesSome P.lost P.shown seed rows (λ state. IsIn B.chip (state_after statement_lines state (filling_lines 0 seed)) (record { terminal = self.old.terminal; card = self.old.card; refused = self.old.refused })) progress.new person.old person.new) }
     {
@@ -187,14 +175,11 @@ impl<'a, B: Bench> Loader<'a, B> {
         requires live { IsTrue self.old.card.card.live }
         requires short { length line.now ≤ longest_line }
         requires few { self.old.refused ≤ 70000 }
-        ensures carried { OnOk result (CarriesOut B.chip B.faults (line.now ∷ [])
+        ensures ended { EndsLines B.chip B.faults (line.now ∷ [])
             (record { terminal = self.old.terminal; card = self.old.card; refused = self.old.refused })
-            (record { terminal = self.new.terminal; card = self.new.card; refused = self.new.refused })) }
+            (record { terminal = self.new.terminal; card = self.new.card; refused = self.new.refused }) result }
         ensures number { (state : TerminalState) → IsIn B.chip state (record { terminal = self.old.terminal; card = self.old.card; refused = self.old.refused })
             → IfOk result (λ number. number ≡ model.number_of (closing_in state (statement_of line.now))) }
-        ensures failed { OnErr result (FailsAmong B.chip B.faults (line.now ∷ [])
-            (record { terminal = self.old.terminal; card = self.old.card; refused = self.old.refused })
-            (record { terminal = self.new.terminal; card = self.new.card; refused = self.new.refused })) }
     {
         match self.terminal.quiet(&mut self.card, line) {
             QuietEnd::Closed { closing } => {

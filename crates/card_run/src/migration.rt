@@ -1,12 +1,12 @@
 // The run of a migration.
-ghost use Rattle.std.specs.Prelude.{◌≡◌, ℕ, true, codes, if◌then◌else◌};
+ghost use Rattle.std.specs.Prelude.{◌≡◌, codes, if◌then◌else◌};
 ghost use Rattle.eeprom.specs.Frame.{HasRoom};
 ghost use Rattle.eeprom.specs.StoreOf.{fewest_cells};
 ghost use Rattle.scql_model.specs.Database.{Database};
 ghost use Rattle.card.specs.Behind.{KeepsBehind, own_cells};
 ghost use Rattle.card.specs.Opened.{IsOpenTo};
-ghost use Rattle.program.specs.Ends.{AllFaults, EndsBy};
-ghost use Rattle.card_run.specs.Ends.{ends_opened};
+ghost use Rattle.line_run.specs.Causes.{Faults};
+ghost use Rattle.card_run.specs.Ends.{EndsOpened};
 ghost use Rattle.card_run.specs.Migrating.{KeepsOthers, LeavesLongRows, MigratesTo, StaysMigrating};
 
 use crate::output::give;
@@ -25,10 +25,7 @@ pub(crate) fn run_migration<B: Bench>(bench: &mut B) -> Status
     ensures already { LeavesLongRows (B.chip bench.old) (B.chip bench.new) }
     ensures others { KeepsOthers (B.chip bench.old) (B.chip bench.new) }
     ensures behind { KeepsBehind own_cells (B.chip bench.old) (B.chip bench.new) }
-    ensures status { ends_opened Form.Migrate result ≡ true }
-    ensures ends { (source : ℕ) → EndsBy result
-        (record { eeprom = B.faults bench.old; source = source; outlet = B.sink_faults bench.old })
-        (record { eeprom = B.faults bench.new; source = source; outlet = B.sink_faults bench.new }) }
+    ensures ended { EndsOpened Form.Migrate result (record { eeprom = B.faults bench.old; outlet = B.sink_faults bench.old }) (record { eeprom = B.faults bench.new; outlet = B.sink_faults bench.new }) }
 {
     let Ok(migrates) = migrate(bench) else {
         return Status::Eeprom;

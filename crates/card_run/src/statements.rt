@@ -1,22 +1,16 @@
 // Lines of statements, and a terminal that carries them out on a card.
-ghost use Rattle.std.specs.Prelude.{◌≡◌, ◌<◌, ◌≤◌, [], true, length, option_map, IfSome, IsTrue, OnOk, IfOk, IfErr, IsErrOf};
-ghost use Rattle.eeprom.specs.Chip.{Becomes};
-ghost use Rattle.scql_model.specs.Database.{Database};
+ghost use Rattle.std.specs.Prelude.{◌≡◌, ◌≤◌, length, option_map, IfSome, IsTrue};
 ghost use Rattle.scql_model.specs.Lines.{longest_line};
 ghost use Rattle.scql_model.specs.Machine.{start};
 ghost use Rattle.terminal.specs.Holding.{Sits};
 ghost use Rattle.person.specs.Showing.{ShowsSome};
-ghost use Rattle.card.specs.Behind.{KeepsBehind};
 ghost use Rattle.card.specs.Card.{IsReady, IsAt};
 ghost use Rattle.card.specs.LiveCard.{IsReadyAt, LastsOn};
-ghost use Rattle.line_run.specs.Answering.{Answered, Failed};
-ghost use Rattle.program.specs.Ends.{AllFaults, EndsBy, reads_all};
-ghost use Rattle.card_run.specs.Ends.{is_of_opened};
-ghost use Rattle.line_input.specs.Reading.{longest_input};
-ghost use Rattle.program.specs.Ends.{RunsTo};
-ghost use Rattle.card_run.specs.Run.{TellsRefusals};
-ghost use Rattle.line_run.specs.Causes.{Causes, Faults};
-ghost use Rattle.card_run.specs.Statements.{Sitting, heard_as, opened, refusal_at, term_lines, was_refused};
+ghost use Rattle.program.specs.Ends.{AllFaults};
+ghost use Rattle.line_run.specs.Causes.{Faults};
+ghost use Rattle.card_run.specs.Commands.{LeavesLine};
+ghost use Rattle.card_run.specs.Run.{RunsOpened};
+ghost use Rattle.card_run.specs.Statements.{EndsStatement, Sitting, heard_as, opened, term_lines, was_refused};
 
 use card::{Card, LiveCard};
 use eeprom::{Bench, Outlet, Source};
@@ -102,17 +96,9 @@ pub(crate) fn answer_statements<S: Source, B: Bench, P: Person>(
     person: &mut P,
 ) -> Status
     requires { IsReady card (B.chip bench.old) }
-    ensures runs { (db : Database) → IsAt card (B.chip bench.old) (start db)
-        → Becomes (λ input left. RunsTo B.chip B.faults term_lines (opened db) result input left bench.old bench.new) (S.left source.old) (S.left source.new) }
-    ensures status { is_of_opened result ≡ true }
-    ensures whole { reads_all result ≡ true → Becomes (λ input left. (left ≡ []) × (length input ≤ longest_input)) (S.left source.old) (S.left source.new) }
-    ensures refusals { (db : Database) → IsAt card (B.chip bench.old) (start db) → TellsRefusals term_lines was_refused (opened db) result (S.left source.old) (S.left source.new) }
-    ensures too_long { result ≡ Status.TooLong → Becomes (λ input left. longest_input < length input) (S.left source.old) (S.left source.new) }
-    ensures ends { EndsBy result
+    ensures run { RunsOpened B.chip B.faults term_lines was_refused (λ db. IsAt card (B.chip bench.old) (start db)) opened card.store.chains.cells result (S.left source.old) (S.left source.new) bench.old bench.new
         (record { eeprom = B.faults bench.old; source = S.source_faults source.old; outlet = B.sink_faults bench.old })
         (record { eeprom = B.faults bench.new; source = S.source_faults source.new; outlet = B.sink_faults bench.new }) }
-    // Nothing is written behind the card's image.
-    ensures behind { KeepsBehind (λ was. card.store.chains.cells) (B.chip bench.old) (B.chip bench.new) }
     ensures told { ShowsSome P.lost P.shown person.old person.new }
 {
     let presence = person.presence();
@@ -160,16 +146,9 @@ fn carry_out<S: Source, B: Bench, P: Person>(
     person: &mut P,
 ) -> Status
     requires { IsReady card (B.chip bench.old) }
-    ensures runs { (db : Database) → IsAt card (B.chip bench.old) (start db)
-        → Becomes (λ input left. RunsTo B.chip B.faults term_lines (opened db) result input left bench.old bench.new) (S.left source.old) (S.left source.new) }
-    ensures status { is_of_opened result ≡ true }
-    ensures whole { reads_all result ≡ true → Becomes (λ input left. (left ≡ []) × (length input ≤ longest_input)) (S.left source.old) (S.left source.new) }
-    ensures refusals { (db : Database) → IsAt card (B.chip bench.old) (start db) → TellsRefusals term_lines was_refused (opened db) result (S.left source.old) (S.left source.new) }
-    ensures too_long { result ≡ Status.TooLong → Becomes (λ input left. longest_input < length input) (S.left source.old) (S.left source.new) }
-    ensures ends { EndsBy result
+    ensures run { RunsOpened B.chip B.faults term_lines was_refused (λ db. IsAt card (B.chip bench.old) (start db)) opened card.store.chains.cells result (S.left source.old) (S.left source.new) bench.old bench.new
         (record { eeprom = B.faults bench.old; source = S.source_faults source.old; outlet = B.sink_faults bench.old })
         (record { eeprom = B.faults bench.new; source = S.source_faults source.new; outlet = B.sink_faults bench.new }) }
-    ensures behind { KeepsBehind (λ was. card.store.chains.cells) (B.chip bench.old) (B.chip bench.new) }
     ensures told { ShowsSome P.lost P.shown person.old person.new }
 {
     let mut terminal = Terminal::new();
@@ -220,16 +199,10 @@ fn answer_line<B: Bench>(
 ) -> Result<Option<Refusal>, LineStop>
     requires live { IsTrue card.old.card.live }
     requires short { IfSome line (λ octets. length octets.now ≤ longest_line) }
-    ensures answered { (sitting : Sitting) → Sits (λ l m. IsReadyAt l.card (B.chip l.bench) m) sitting.at terminal.old card.old
-        → OnOk result (Answered term_lines sitting (term_lines.effect sitting (option_map (λ octets. octets.now) line.entry)) (λ next. Sits (λ l m. IsReadyAt l.card (B.chip l.bench) m) next.at terminal.new card.new) (B.chip card.old.bench) (B.chip card.new.bench)) }
-    ensures refusal { (sitting : Sitting) → Sits (λ l m. IsReadyAt l.card (B.chip l.bench) m) sitting.at terminal.old card.old
-        → IfOk result (λ refusal. refusal ≡ refusal_at sitting.at (option_map (λ octets. octets.now) line.entry)) }
-    ensures failed { (sitting : Sitting) → Sits (λ l m. IsReadyAt l.card (B.chip l.bench) m) sitting.at terminal.old card.old
-        → IfErr result (λ stop. Failed stop term_lines sitting (term_lines.effect sitting (option_map (λ octets. octets.now) line.entry)) (B.chip card.old.bench) (B.chip card.new.bench)) }
-    ensures live { OnOk result (IsTrue card.new.card.live) }
-    ensures causes { Causes (record { eeprom = B.faults card.old.bench; outlet = B.sink_faults card.old.bench }) (record { eeprom = B.faults card.new.bench; outlet = B.sink_faults card.new.bench }) result }
-    ensures memory { ¬ IsErrOf result LineStop.NoMemory }
-    ensures lasts { LastsOn B.chip card.old card.new }
+    ensures ended { (sitting : Sitting) → Sits (λ l m. IsReadyAt l.card (B.chip l.bench) m) sitting.at terminal.old card.old
+        → EndsStatement sitting (option_map (λ octets. octets.now) line.entry) (λ next. Sits (λ l m. IsReadyAt l.card (B.chip l.bench) m) next.at terminal.new card.new) (B.chip card.old.bench) (B.chip card.new.bench) result }
+    ensures leaves { LeavesLine (IsTrue card.new.card.live) (LastsOn B.chip card.old card.new)
+        (record { eeprom = B.faults card.old.bench; outlet = B.sink_faults card.old.bench }) (record { eeprom = B.faults card.new.bench; outlet = B.sink_faults card.new.bench }) result }
 {
     match line {
         Some(octets) => heard(terminal.line(card, octets)),

@@ -11,5 +11,5 @@ pub returns-clause-ends : goal.returns-clause-ends
 returns-clause-ends c = (
     let are = are_words _ _ c.in_ok-from_str.ensures.ok c.in_ok-from_str-2.ensures.ok in
     ends_so c.run_card.result _ _ _ _ are refl refl refl refl (λ is. let few = c.run_card.ensures.too_small.0 is in subst (OfSome (λ form. 4514 < image_size (run_cells form []))) (sym few.1) few.2)
-    c.run_card.ensures.not_a_card (of_some _ _ (subst (λ words. IsSome (form_in words)) (sym are) refl) c.run_card.ensures.statuses) c.run_card.ensures.ends
+    c.run_card.ensures.not_a_card (of_some _ _ (subst (λ words. IsSome (form_in words)) (sym are) refl) (λ form asked. (c.run_card.ensures.forms form asked).statuses)) c.run_card.ensures.ends
     )

@@ -1,5 +1,6 @@
 -- A card that replied was carried out to the end; a mute one leaves what it had committed by then.
-use Rattle.std.proofs.Common.{◌≡◌, false, ℕ, List, [], ◌+◌, ◌≤◌, length, Option, Some, refl, ap, subst, ◌∙◌, arith, inl}
+use Rattle.std.proofs.Common.{◌≡◌, false, ℕ, List, [], ◌+◌, ◌≤◌, length, Option, Some, refl, rules, ap, subst, ◌∙◌, arith, inl}
+use Rattle.eeprom.specs.Output.{Prints}
 use Rattle.eeprom.specs.Chip.{Chip, Still, Throughout}
 use Rattle.eeprom.proofs.Moments.{gives-throughout}
 use Rattle.scql_model.specs.Machine.{Machine}
@@ -39,49 +40,44 @@ replied_moments g c m at within =
     answered-moments command_lines m (content_effect m (command c.args.octets.now)) (g.B.Eeprom.chip c.args.bench.now) mid now (c.answer.ensures.moments m at) c.answer.ensures.still
     (gives-throughout mid now (g.met.B.Eeprom.clocked c.answer.new.bench) c.give.ensures.gives) (replied_opens g c m at) (omega (arith, within, ap length (replied_text g c m at)))
 
-pub returns-in_ok-give-in-Replied-clause-answered : goal.returns-in_ok-give-in-Replied-clause-answered
-returns-in_ok-give-in-Replied-clause-answered g c = λ m at told.
-    let after : After-give g = (goal.at.returns-in_ok-give-in-Replied-clause-answered g c).After-give in
+pub returns-in_ok-give-in-Replied-clause-ended : goal.returns-in_ok-give-in-Replied-clause-ended
+returns-in_ok-give-in-Replied-clause-ended g c = λ m at.
+    let after : After-give g = (goal.at.returns-in_ok-give-in-Replied-clause-ended g c).After-give in
     let same : (g.B.Eeprom.chip c.answer.new.bench).still.mark ≡ (g.B.Eeprom.chip c.args.bench.now).still.mark = ap (λ (s : Still). s.mark) c.answer.ensures.still in
-    let mark = c.in_ok-give-in-Replied.ensures.mark told in
-    record { mark = omega (arith, mark, same, ap length (replied_text g after m at)); moments = replied_moments g after m at (omega (arith, mark)) }
+    record {
+      answered = record {
+        at = IsAt-given c.answer.new.self (g.B.Eeprom.chip c.answer.new.bench) (g.B.Eeprom.chip c.give.new.bench) c.give.ensures.image (step m c.args.octets.now).machine (c.in-Replied.ensures.replied m at refl).step.at;
+        text =
+            subst (λ (before : Option (List ℕ)). Prints (content_effect m (command c.args.octets.now)).text before (g.B.Eeprom.chip c.give.new.bench).still.given) (ap (λ (s : Still). s.given) c.answer.ensures.still)
+            (subst (λ (text : List ℕ). Prints text (g.B.Eeprom.chip c.answer.new.bench).still.given (g.B.Eeprom.chip c.give.new.bench).still.given) (replied_text g after m at) c.in_ok-give-in-Replied.ensures.text);
+        moments = λ told.
+            (let mark = c.in_ok-give-in-Replied.ensures.mark told in
+            record { mark = omega (arith, mark, same, ap length (replied_text g after m at)); moments = replied_moments g after m at (omega (arith, mark)) });
+      };
+      failed = tt;
+    }
 
-pub returns-in_err-give-in-Replied-clause-moments : goal.returns-in_err-give-in-Replied-clause-moments
-returns-in_err-give-in-Replied-clause-moments g c = λ m at.
-    at_outlet _ c.from_residual.result c.from_residual.ensures.1
-    (λ told. replied_moments g (goal.at.returns-in_err-give-in-Replied-clause-moments g c).After-give m at (c.give.ensures.within told))
-
-pub returns-in_err-give-in-Replied-clause-fails : goal.returns-in_err-give-in-Replied-clause-fails
-returns-in_err-give-in-Replied-clause-fails g c = λ m at.
-    let after : After-give g = (goal.at.returns-in_err-give-in-Replied-clause-fails g c).After-give in
+pub returns-in_err-give-in-Replied-clause-ended : goal.returns-in_err-give-in-Replied-clause-ended
+returns-in_err-give-in-Replied-clause-ended g c = λ m at.
+    let after : After-give g = (goal.at.returns-in_err-give-in-Replied-clause-ended g c).After-give in
     let mid : Chip = g.B.Eeprom.chip c.answer.new.bench in
     let now : Chip = g.B.Eeprom.chip c.give.new.bench in
-    at_outlet _ c.from_residual.result c.from_residual.ensures.1
-    (subst (λ (before : Option (List ℕ)). FailsIn Outlet command_lines [] m (content_effect m (command c.args.octets.now)) before now) (ap (λ (s : Still). s.given) c.answer.ensures.still)
-    (fails_giving command_lines m (content_effect m (command c.args.octets.now)) mid.still.given mid now
-    (subst (λ (t : List ℕ). IsCutShort t mid.still.given now.still.given) (replied_text g after m at) c.in_err-give-in-Replied.ensures.fails) c.give.ensures.image (replied_opens g after m at)))
+    record {
+      answered = search rules;
+      failed = at_outlet _ c.from_residual.result c.from_residual.ensures.1 (record {
+        fails =
+            subst (λ (before : Option (List ℕ)). FailsIn Outlet command_lines [] m (content_effect m (command c.args.octets.now)) before now) (ap (λ (s : Still). s.given) c.answer.ensures.still)
+            (fails_giving command_lines m (content_effect m (command c.args.octets.now)) mid.still.given mid now
+            (subst (λ (t : List ℕ). IsCutShort t mid.still.given now.still.given) (replied_text g after m at) c.in_err-give-in-Replied.ensures.fails) c.give.ensures.image (replied_opens g after m at));
+        moments = λ told. replied_moments g after m at (c.give.ensures.within told);
+      });
+    }
 
 -- what the card says that goes mute
 mute : (g : _) (c : After-give-in-Mute g) → c.text-in-Mute.result.now ≡ mute_text
 mute g c =
     let mute = c.in-Mute.ensures.mute refl in
     c.text-in-Mute.ensures ∙ mute_text-reply c.answer.new.reply.body c.answer.new.reply.word mute.0 mute.1
-
-pub returns-in-Ok-clause-fails : goal.returns-in-Ok-clause-fails
-returns-in-Ok-clause-fails g c = λ m at.
-    let mid : Chip = g.B.Eeprom.chip c.answer.new.bench in
-    let now : Chip = g.B.Eeprom.chip c.give-in-Mute.new.bench in
-    subst (λ (before : Option (List ℕ)). FailsIn Eeprom command_lines [] m (content_effect m (command c.args.octets.now)) before now) (ap (λ (s : Still). s.given) c.answer.ensures.still)
-    (fails_mute command_lines m (content_effect m (command c.args.octets.now)) c.text-in-Mute.result.now mid.still.given mid now (inl (mute g (goal.at.returns-in-Ok-clause-fails g c).After-give-in-Mute)) c.in-Ok.ensures.text c.give-in-Mute.ensures.image
-    (λ image told. ((c.answer.ensures.moments m at).now image told).1))
-
-pub returns-in-Err-clause-fails : goal.returns-in-Err-clause-fails
-returns-in-Err-clause-fails g c = λ m at.
-    let mid : Chip = g.B.Eeprom.chip c.answer.new.bench in
-    let now : Chip = g.B.Eeprom.chip c.give-in-Mute.new.bench in
-    subst (λ (before : Option (List ℕ)). FailsIn Both command_lines [] m (content_effect m (command c.args.octets.now)) before now) (ap (λ (s : Still). s.given) c.answer.ensures.still)
-    (fails_both command_lines m (content_effect m (command c.args.octets.now)) c.text-in-Mute.result.now mid.still.given mid now (inl (mute g (goal.at.returns-in-Err-clause-fails g c).After-give-in-Mute)) c.in-Err.ensures.fails c.give-in-Mute.ensures.image
-    (λ image told. ((c.answer.ensures.moments m at).now image told).1))
 
 -- the card went mute: the line left what it had committed by then
 mute_moments : (g : _) (c : After-give-in-Mute g) (m : Machine) → IsAt c.args.card.now (g.B.Eeprom.chip c.args.bench.now) m
@@ -92,11 +88,37 @@ mute_moments g c m at =
     line-moments command_lines m (content_effect m (command c.args.octets.now)) (g.B.Eeprom.chip c.args.bench.now) mid now (c.answer.ensures.moments m at) c.answer.ensures.still
     (gives-throughout mid now (g.met.B.Eeprom.clocked c.answer.new.bench) c.give-in-Mute.ensures.gives)
 
-pub returns-in-Ok-clause-moments : goal.returns-in-Ok-clause-moments
-returns-in-Ok-clause-moments g c = λ m at told. mute_moments g (goal.at.returns-in-Ok-clause-moments g c).After-give-in-Mute m at
+pub returns-in-Ok-clause-ended : goal.returns-in-Ok-clause-ended
+returns-in-Ok-clause-ended g c = λ m at.
+    let run : After-give-in-Mute g = (goal.at.returns-in-Ok-clause-ended g c).After-give-in-Mute in
+    let mid : Chip = g.B.Eeprom.chip c.answer.new.bench in
+    let now : Chip = g.B.Eeprom.chip c.give-in-Mute.new.bench in
+    record {
+      answered = tt;
+      failed = record {
+        fails =
+            subst (λ (before : Option (List ℕ)). FailsIn Eeprom command_lines [] m (content_effect m (command c.args.octets.now)) before now) (ap (λ (s : Still). s.given) c.answer.ensures.still)
+            (fails_mute command_lines m (content_effect m (command c.args.octets.now)) c.text-in-Mute.result.now mid.still.given mid now (inl (mute g run)) c.in-Ok.ensures.text c.give-in-Mute.ensures.image
+            (λ image told. ((c.answer.ensures.moments m at).now image told).1));
+        moments = λ told. mute_moments g run m at;
+      };
+    }
 
-pub returns-in-Err-clause-moments : goal.returns-in-Err-clause-moments
-returns-in-Err-clause-moments g c = λ m at told. mute_moments g (goal.at.returns-in-Err-clause-moments g c).After-give-in-Mute m at
+pub returns-in-Err-clause-ended : goal.returns-in-Err-clause-ended
+returns-in-Err-clause-ended g c = λ m at.
+    let run : After-give-in-Mute g = (goal.at.returns-in-Err-clause-ended g c).After-give-in-Mute in
+    let mid : Chip = g.B.Eeprom.chip c.answer.new.bench in
+    let now : Chip = g.B.Eeprom.chip c.give-in-Mute.new.bench in
+    record {
+      answered = tt;
+      failed = record {
+        fails =
+            subst (λ (before : Option (List ℕ)). FailsIn Both command_lines [] m (content_effect m (command c.args.octets.now)) before now) (ap (λ (s : Still). s.given) c.answer.ensures.still)
+            (fails_both command_lines m (content_effect m (command c.args.octets.now)) c.text-in-Mute.result.now mid.still.given mid now (inl (mute g run)) c.in-Err.ensures.fails c.give-in-Mute.ensures.image
+            (λ image told. ((c.answer.ensures.moments m at).now image told).1));
+        moments = λ told. mute_moments g run m at;
+      };
+    }
 
 -- what lies behind the image stays, and the card has its number of cells where it replied
 replied_behind : (g : _) (c : After-give g) → c.answer.new.self.store.chains.cells ≡ c.args.card.now.store.chains.cells → StaysBehind c.args.card.now c.answer.new.self (g.B.Eeprom.chip c.args.bench.now) (g.B.Eeprom.chip c.give.new.bench)
@@ -108,11 +130,21 @@ replied_behind g c same =
       behind = behind-on cells cells (g.B.Eeprom.chip c.args.bench.now) mid (g.B.Eeprom.chip c.give.new.bench) refl (behind-keeps cells (g.B.Eeprom.chip c.args.bench.now) mid c.answer.ensures.behind) (c.give.ensures.behind (λ was. cells));
     }
 
-pub returns-in_ok-give-in-Replied-clause-behind : goal.returns-in_ok-give-in-Replied-clause-behind
-returns-in_ok-give-in-Replied-clause-behind g c = replied_behind g (goal.at.returns-in_ok-give-in-Replied-clause-behind g c).After-give (c.in-Replied.ensures.cells refl)
+pub returns-in_ok-give-in-Replied-clause-leaves : goal.returns-in_ok-give-in-Replied-clause-leaves
+returns-in_ok-give-in-Replied-clause-leaves g c = record {
+  ready = IsReady-given c.answer.new.self (g.B.Eeprom.chip c.answer.new.bench) (g.B.Eeprom.chip c.give.new.bench) c.give.ensures.image c.give.ensures.size (c.in-Replied.ensures.ready refl);
+  causes = search rules;
+  memory = search rules;
+  rest = replied_behind g (goal.at.returns-in_ok-give-in-Replied-clause-leaves g c).After-give (c.in-Replied.ensures.cells refl);
+}
 
-pub returns-in_err-give-in-Replied-clause-behind : goal.returns-in_err-give-in-Replied-clause-behind
-returns-in_err-give-in-Replied-clause-behind g c = replied_behind g (goal.at.returns-in_err-give-in-Replied-clause-behind g c).After-give (c.in-Replied.ensures.cells refl)
+pub returns-in_err-give-in-Replied-clause-leaves : goal.returns-in_err-give-in-Replied-clause-leaves
+returns-in_err-give-in-Replied-clause-leaves g c = record {
+  ready = search rules;
+  causes = search rules;
+  memory = search rules;
+  rest = replied_behind g (goal.at.returns-in_err-give-in-Replied-clause-leaves g c).After-give (c.in-Replied.ensures.cells refl);
+}
 
 -- or the card went mute, and answers no more
 mute_behind : (g : _) (c : After-give-in-Mute g) → StaysBehind c.args.card.now c.answer.new.self (g.B.Eeprom.chip c.args.bench.now) (g.B.Eeprom.chip c.give-in-Mute.new.bench)
@@ -125,17 +157,8 @@ mute_behind g c =
       behind = behind-on cells cells (g.B.Eeprom.chip c.args.bench.now) mid (g.B.Eeprom.chip c.give-in-Mute.new.bench) refl (behind-keeps cells (g.B.Eeprom.chip c.args.bench.now) mid c.answer.ensures.behind) (c.give-in-Mute.ensures.behind (λ was. cells));
     }
 
-pub returns-in-Ok-clause-behind : goal.returns-in-Ok-clause-behind
-returns-in-Ok-clause-behind g c = mute_behind g (goal.at.returns-in-Ok-clause-behind g c).After-give-in-Mute
+pub returns-in-Ok-clause-leaves : goal.returns-in-Ok-clause-leaves
+returns-in-Ok-clause-leaves g c = record { ready = tt; causes = search rules; memory = search rules; rest = mute_behind g (goal.at.returns-in-Ok-clause-leaves g c).After-give-in-Mute }
 
-pub returns-in-Err-clause-behind : goal.returns-in-Err-clause-behind
-returns-in-Err-clause-behind g c = mute_behind g (goal.at.returns-in-Err-clause-behind g c).After-give-in-Mute
-
--- the card is as it was, while its reply goes out
-pub returns-in_ok-give-in-Replied-clause-at : goal.returns-in_ok-give-in-Replied-clause-at
-returns-in_ok-give-in-Replied-clause-at g c = λ m at.
-    IsAt-given c.answer.new.self (g.B.Eeprom.chip c.answer.new.bench) (g.B.Eeprom.chip c.give.new.bench) c.give.ensures.image (step m c.args.octets.now).machine (c.in-Replied.ensures.replied m at refl).step.at
-
-pub returns-in_ok-give-in-Replied-clause-ready : goal.returns-in_ok-give-in-Replied-clause-ready
-returns-in_ok-give-in-Replied-clause-ready g c =
-    IsReady-given c.answer.new.self (g.B.Eeprom.chip c.answer.new.bench) (g.B.Eeprom.chip c.give.new.bench) c.give.ensures.image c.give.ensures.size (c.in-Replied.ensures.ready refl)
+pub returns-in-Err-clause-leaves : goal.returns-in-Err-clause-leaves
+returns-in-Err-clause-leaves g c = record { ready = tt; causes = search rules; memory = search rules; rest = mute_behind g (goal.at.returns-in-Err-clause-leaves g c).After-give-in-Mute }

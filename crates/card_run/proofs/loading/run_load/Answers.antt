@@ -95,19 +95,22 @@ returns-in_default-clause-loads g c = λ db at.
     let state : TerminalState = terminal_at (start db) 0 in
     subst (λ (bench : g.row.B.Denot). Failed Eeprom (script_lines c.args.rows c.args.seed) state (script_effect c.args.rows c.args.seed state) (g.B.Eeprom.chip c.args.bench.now) (g.B.Eeprom.chip bench)) (search rules)
     (subst (λ (b : g.row.B.Denot). Failed Eeprom (script_lines c.args.rows c.args.seed) state (script_effect c.args.rows c.args.seed state) (g.B.Eeprom.chip b) (g.B.Eeprom.chip (last g run).card.bench)) (begins g run)
-    (script-failed g.B.Eeprom.chip g.B.Eeprom.faults c.args.rows c.args.seed state (first g run) (last g run) c.in_default.ensures.failed (sits g run db at)))
+    (script-failed g.B.Eeprom.chip g.B.Eeprom.faults c.args.rows c.args.seed state (first g run) (last g run) c.in_default.ensures.ended.failed (sits g run db at)))
 
-pub returns-in_default-clause-ends : goal.returns-in_default-clause-ends
-returns-in_default-clause-ends g c = λ source.
-    let run : Ran g = (goal.at.returns-in_default-clause-ends g c).After-run_script-counted in
-    let failed = c.in_default.ensures.failed in
-    subst (λ (bench : g.row.B.Denot). Rose (g.B.Eeprom.faults c.args.bench.now) (g.B.Eeprom.faults bench) × (source ≡ source) × (g.B.Outlet.sink_faults bench ≡ g.B.Outlet.sink_faults c.args.bench.now)) (search rules)
-    ((subst (λ (b : g.row.B.Denot). Rose (g.B.Eeprom.faults b) (g.B.Eeprom.faults (last g run).card.bench)) (begins g run) failed.rose, refl, outlet_stays g run failed.passes.still))
+pub returns-in_default-clause-ended : goal.returns-in_default-clause-ended
+returns-in_default-clause-ended g c = record {
+  status = search rules;
+  ends = λ source.
+      (let run : Ran g = (goal.at.returns-in_default-clause-ended g c).After-run_script-counted in
+      let failed = c.in_default.ensures.ended.failed in
+      subst (λ (bench : g.row.B.Denot). Rose (g.B.Eeprom.faults c.args.bench.now) (g.B.Eeprom.faults bench) × (source ≡ source) × (g.B.Outlet.sink_faults bench ≡ g.B.Outlet.sink_faults c.args.bench.now)) (search rules)
+      ((subst (λ (b : g.row.B.Denot). Rose (g.B.Eeprom.faults b) (g.B.Eeprom.faults (last g run).card.bench)) (begins g run) failed.rose, refl, outlet_stays g run failed.passes.still)));
+}
 
 pub returns-in_default-clause-behind : goal.returns-in_default-clause-behind
 returns-in_default-clause-behind g c =
     let run : Ran g = (goal.at.returns-in_default-clause-behind g c).After-run_script-counted in
-    subst (λ (bench : g.row.B.Denot). KeepsBehind (λ (was : List ℕ). c.args.card.store.chains.cells) (g.B.Eeprom.chip c.args.bench.now) (g.B.Eeprom.chip bench)) (search rules) (behind g run c.in_default.ensures.failed.passes.lasts.lasts.behind)
+    subst (λ (bench : g.row.B.Denot). KeepsBehind (λ (was : List ℕ). c.args.card.store.chains.cells) (g.B.Eeprom.chip c.args.bench.now) (g.B.Eeprom.chip bench)) (search rules) (behind g run c.in_default.ensures.ended.failed.passes.lasts.lasts.behind)
 
 -- It was carried out, and its text given.
 
@@ -118,7 +121,7 @@ returns-in-Ok-give-clause-loads g c = λ db at.
     let state : TerminalState = terminal_at (start db) 0 in
     let here = c.into_bench-bench.ensures.bench in
     let there = sits g run db at in
-    let is = loaded g.B.Eeprom.chip g.B.Eeprom.faults c.args.rows c.args.seed state (first g run) (last g run) (g.B.Eeprom.chip c.give.new.bench) c.deref.result.now c.in-Ok.ensures.carried there (said g told state there)
+    let is = loaded g.B.Eeprom.chip g.B.Eeprom.faults c.args.rows c.args.seed state (first g run) (last g run) (g.B.Eeprom.chip c.give.new.bench) c.deref.result.now c.in-Ok.ensures.ended.carried there (said g told state there)
     (subst (λ (b : g.row.B.Denot). Prints c.deref.result.now (g.B.Eeprom.chip b).still.given (g.B.Eeprom.chip c.give.new.bench).still.given) here c.in-Ok-give.ensures.text)
     (image_stays g told) (pieces g told)
     (subst (λ (b : g.row.B.Denot). IfGiven (g.B.Eeprom.chip c.give.new.bench) ((g.B.Eeprom.chip c.give.new.bench).still.mark ≡ (g.B.Eeprom.chip b).still.mark + length c.deref.result.now)) here c.in-Ok-give.ensures.mark) in
@@ -127,24 +130,27 @@ returns-in-Ok-give-clause-loads g c = λ db at.
     (loads-as c.args.rows c.args.seed state (g.B.Eeprom.faults c.args.bench.now) (g.B.Eeprom.faults c.give.new.bench) (g.B.Eeprom.chip c.args.bench.now) (g.B.Eeprom.chip c.give.new.bench) (nat_lt 0 c.in-Ok.counts.refused)
     (subst (λ (b : g.row.B.Denot). IsLoaded c.args.rows c.args.seed state (g.B.Eeprom.chip b) (g.B.Eeprom.chip c.give.new.bench)) (begins g run) is) (ap (λ (x : LoadCounts). nat_lt 0 x.refused) (sym (c.in-Ok.ensures.counted state there)))))
 
-pub returns-in-Ok-give-clause-ends : goal.returns-in-Ok-give-clause-ends
-returns-in-Ok-give-clause-ends g c = λ source.
-    let run : Ran g = (goal.at.returns-in-Ok-give-clause-ends g c).After-run_script-counted in
-    let told : Told g = (goal.at.returns-in-Ok-give-clause-ends g c).After-give in
-    let carried = c.in-Ok.ensures.carried in
-    let eeprom = eeprom_stays g told (carried.faults_same ∙ ap g.B.Eeprom.faults (begins g run)) in
-    let outlet : g.B.Outlet.sink_faults c.give.new.bench ≡ g.B.Outlet.sink_faults c.args.bench.now = c.in-Ok-give.ensures.counts.1 ∙ (ap g.B.Outlet.sink_faults c.into_bench-bench.ensures.bench ∙ outlet_stays g run carried.passes.still) in
-    let was : AllFaults = record { eeprom = g.B.Eeprom.faults c.args.bench.now; source = source; outlet = g.B.Outlet.sink_faults c.args.bench.now } in
-    let now : AllFaults = record { eeprom = g.B.Eeprom.faults c.give.new.bench; source = source; outlet = g.B.Outlet.sink_faults c.give.new.bench } in
-    subst (λ (bench : g.row.B.Denot). EndsBy c.status_of.result was (record { eeprom = g.B.Eeprom.faults bench; source = source; outlet = g.B.Outlet.sink_faults bench })) (search rules)
-    (subst (λ (end : Status). EndsBy end was now) (sym c.status_of.ensures)
-    (ends-quietly (nat_lt 0 c.in-Ok.counts.refused) was now (same_faults (g.B.Eeprom.faults c.give.new.bench) (g.B.Eeprom.faults c.args.bench.now) source (g.B.Outlet.sink_faults c.give.new.bench) (g.B.Outlet.sink_faults c.args.bench.now) eeprom outlet)))
+pub returns-in-Ok-give-clause-ended : goal.returns-in-Ok-give-clause-ended
+returns-in-Ok-give-clause-ended g c = record {
+  status = search rules;
+  ends = λ source.
+      (let run : Ran g = (goal.at.returns-in-Ok-give-clause-ended g c).After-run_script-counted in
+      let told : Told g = (goal.at.returns-in-Ok-give-clause-ended g c).After-give in
+      let carried = c.in-Ok.ensures.ended.carried in
+      let eeprom = eeprom_stays g told (carried.faults_same ∙ ap g.B.Eeprom.faults (begins g run)) in
+      let outlet : g.B.Outlet.sink_faults c.give.new.bench ≡ g.B.Outlet.sink_faults c.args.bench.now = c.in-Ok-give.ensures.counts.1 ∙ (ap g.B.Outlet.sink_faults c.into_bench-bench.ensures.bench ∙ outlet_stays g run carried.passes.still) in
+      let was : AllFaults = record { eeprom = g.B.Eeprom.faults c.args.bench.now; source = source; outlet = g.B.Outlet.sink_faults c.args.bench.now } in
+      let now : AllFaults = record { eeprom = g.B.Eeprom.faults c.give.new.bench; source = source; outlet = g.B.Outlet.sink_faults c.give.new.bench } in
+      subst (λ (bench : g.row.B.Denot). EndsBy c.status_of.result was (record { eeprom = g.B.Eeprom.faults bench; source = source; outlet = g.B.Outlet.sink_faults bench })) (search rules)
+      (subst (λ (end : Status). EndsBy end was now) (sym c.status_of.ensures)
+      (ends-quietly (nat_lt 0 c.in-Ok.counts.refused) was now (same_faults (g.B.Eeprom.faults c.give.new.bench) (g.B.Eeprom.faults c.args.bench.now) source (g.B.Outlet.sink_faults c.give.new.bench) (g.B.Outlet.sink_faults c.args.bench.now) eeprom outlet))));
+}
 
 pub returns-in-Ok-give-clause-behind : goal.returns-in-Ok-give-clause-behind
 returns-in-Ok-give-clause-behind g c =
     let run : Ran g = (goal.at.returns-in-Ok-give-clause-behind g c).After-run_script-counted in
     let told : Told g = (goal.at.returns-in-Ok-give-clause-behind g c).After-give in
-    subst (λ (bench : g.row.B.Denot). KeepsBehind (λ (was : List ℕ). c.args.card.store.chains.cells) (g.B.Eeprom.chip c.args.bench.now) (g.B.Eeprom.chip bench)) (search rules) (behind_text g told (behind g run c.in-Ok.ensures.carried.passes.lasts.lasts.behind))
+    subst (λ (bench : g.row.B.Denot). KeepsBehind (λ (was : List ℕ). c.args.card.store.chains.cells) (g.B.Eeprom.chip c.args.bench.now) (g.B.Eeprom.chip bench)) (search rules) (behind_text g told (behind g run c.in-Ok.ensures.ended.carried.passes.lasts.lasts.behind))
 
 -- It was carried out, and the outlet failed.
 
@@ -155,29 +161,32 @@ returns-in-Err-clause-loads g c = λ db at.
     let state : TerminalState = terminal_at (start db) 0 in
     let here = c.into_bench-bench.ensures.bench in
     let there = sits g run db at in
-    let is = cut-short g.B.Eeprom.chip g.B.Eeprom.faults c.args.rows c.args.seed state (first g run) (last g run) (g.B.Eeprom.chip c.give.new.bench) c.deref.result.now c.in-Ok.ensures.carried there (said g told state there)
+    let is = cut-short g.B.Eeprom.chip g.B.Eeprom.faults c.args.rows c.args.seed state (first g run) (last g run) (g.B.Eeprom.chip c.give.new.bench) c.deref.result.now c.in-Ok.ensures.ended.carried there (said g told state there)
     (subst (λ (b : g.row.B.Denot). IsCutShort c.deref.result.now (g.B.Eeprom.chip b).still.given (g.B.Eeprom.chip c.give.new.bench).still.given) here c.in-Err.ensures.fails)
     (image_stays g told) (pieces g told)
     (subst (λ (b : g.row.B.Denot). IfGiven (g.B.Eeprom.chip c.give.new.bench) ((g.B.Eeprom.chip c.give.new.bench).still.mark ≤ (g.B.Eeprom.chip b).still.mark + length c.deref.result.now)) here c.give.ensures.within) in
-    let eeprom = eeprom_stays g told (c.in-Ok.ensures.carried.faults_same ∙ ap g.B.Eeprom.faults (begins g run)) in
+    let eeprom = eeprom_stays g told (c.in-Ok.ensures.ended.carried.faults_same ∙ ap g.B.Eeprom.faults (begins g run)) in
     subst (λ (bench : g.row.B.Denot). Failed Outlet (script_lines c.args.rows c.args.seed) state (script_effect c.args.rows c.args.seed state) (g.B.Eeprom.chip c.args.bench.now) (g.B.Eeprom.chip bench) × (g.B.Eeprom.faults bench ≡ g.B.Eeprom.faults c.args.bench.now)) (search rules)
     ((subst (λ (b : g.row.B.Denot). Failed Outlet (script_lines c.args.rows c.args.seed) state (script_effect c.args.rows c.args.seed state) (g.B.Eeprom.chip b) (g.B.Eeprom.chip c.give.new.bench)) (begins g run) is, eeprom))
 
-pub returns-in-Err-clause-ends : goal.returns-in-Err-clause-ends
-returns-in-Err-clause-ends g c = λ source.
-    let run : Ran g = (goal.at.returns-in-Err-clause-ends g c).After-run_script-counted in
-    let told : Told g = (goal.at.returns-in-Err-clause-ends g c).After-give in
-    let carried = c.in-Ok.ensures.carried in
-    let eeprom = eeprom_stays g told (carried.faults_same ∙ ap g.B.Eeprom.faults (begins g run)) in
-    let outlet : g.B.Outlet.sink_faults c.into_bench-bench.result.now ≡ g.B.Outlet.sink_faults c.args.bench.now = ap g.B.Outlet.sink_faults c.into_bench-bench.ensures.bench ∙ outlet_stays g run carried.passes.still in
-    subst (λ (bench : g.row.B.Denot). Rose (g.B.Outlet.sink_faults c.args.bench.now) (g.B.Outlet.sink_faults bench) × (source ≡ source) × (g.B.Eeprom.faults c.args.bench.now ≤ g.B.Eeprom.faults bench)) (search rules)
-    ((subst (λ (n : ℕ). Rose n (g.B.Outlet.sink_faults c.give.new.bench)) outlet c.in-Err.ensures.counts.1, refl, omega (arith, eeprom)))
+pub returns-in-Err-clause-ended : goal.returns-in-Err-clause-ended
+returns-in-Err-clause-ended g c = record {
+  status = search rules;
+  ends = λ source.
+      (let run : Ran g = (goal.at.returns-in-Err-clause-ended g c).After-run_script-counted in
+      let told : Told g = (goal.at.returns-in-Err-clause-ended g c).After-give in
+      let carried = c.in-Ok.ensures.ended.carried in
+      let eeprom = eeprom_stays g told (carried.faults_same ∙ ap g.B.Eeprom.faults (begins g run)) in
+      let outlet : g.B.Outlet.sink_faults c.into_bench-bench.result.now ≡ g.B.Outlet.sink_faults c.args.bench.now = ap g.B.Outlet.sink_faults c.into_bench-bench.ensures.bench ∙ outlet_stays g run carried.passes.still in
+      subst (λ (bench : g.row.B.Denot). Rose (g.B.Outlet.sink_faults c.args.bench.now) (g.B.Outlet.sink_faults bench) × (source ≡ source) × (g.B.Eeprom.faults c.args.bench.now ≤ g.B.Eeprom.faults bench)) (search rules)
+      ((subst (λ (n : ℕ). Rose n (g.B.Outlet.sink_faults c.give.new.bench)) outlet c.in-Err.ensures.counts.1, refl, omega (arith, eeprom))));
+}
 
 pub returns-in-Err-clause-behind : goal.returns-in-Err-clause-behind
 returns-in-Err-clause-behind g c =
     let run : Ran g = (goal.at.returns-in-Err-clause-behind g c).After-run_script-counted in
     let told : Told g = (goal.at.returns-in-Err-clause-behind g c).After-give in
-    subst (λ (bench : g.row.B.Denot). KeepsBehind (λ (was : List ℕ). c.args.card.store.chains.cells) (g.B.Eeprom.chip c.args.bench.now) (g.B.Eeprom.chip bench)) (search rules) (behind_text g told (behind g run c.in-Ok.ensures.carried.passes.lasts.lasts.behind))
+    subst (λ (bench : g.row.B.Denot). KeepsBehind (λ (was : List ℕ). c.args.card.store.chains.cells) (g.B.Eeprom.chip c.args.bench.now) (g.B.Eeprom.chip bench)) (search rules) (behind_text g told (behind g run c.in-Ok.ensures.ended.carried.passes.lasts.lasts.behind))
 
 -- What was shown.
 

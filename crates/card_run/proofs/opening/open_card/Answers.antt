@@ -1,8 +1,8 @@
 -- The card that was opened is at the start of the database with which its run begins.
-use Rattle.std.proofs.Common.{refl}
-use Rattle.card.specs.Behind.{KeepsBehind, own_cells}
+use Rattle.std.proofs.Common.{inl, inr, refl, rules}
+use Rattle.card.specs.Behind.{own_cells}
 use Rattle.card_run.specs.Behind.{run_cells}
-use Rattle.card_run.specs.Beginning.{LeavesUntilOpen}
+use Rattle.card_run.specs.Opening.{LeavesOpening}
 use Rattle.card_run.proofs.Finishing.{open_to, not_to_none, lacks_none, until_open}
 use Rattle.card.specs.GivenMoments.{behind-then}
 use Rattle.card_run.proofs.Behind.{cells-opened}
@@ -10,60 +10,65 @@ use Rattle.card_run.proofs.opening.open_card.Goals as goal
 use Rattle.card_run.proofs.opening.open_card.Goals.{After-open as Opened}
 
 -- what is left behind the opening
-leaves : (g : _) (c : Opened g) → LeavesUntilOpen c.args.form (g.B.Eeprom.chip c.args.bench.now) (g.B.Eeprom.chip c.open.new.bench)
-leaves g c = until_open c.args.form c.args.form (g.B.Eeprom.chip c.args.bench.now) (g.B.Eeprom.chip c.prepare.new.bench) (g.B.Eeprom.chip c.open.new.bench) refl c.open.ensures.recovers.store c.in-Ok.ensures.leaves
+until : (g : _) (c : Opened g) → LeavesOpening c.args.form (g.B.Eeprom.chip c.args.bench.now) (g.B.Eeprom.chip c.open.new.bench)
+until g c =
+    let old = g.B.Eeprom.chip c.args.bench.now in
+    let mid = g.B.Eeprom.chip c.prepare.new.bench in
+    let new = g.B.Eeprom.chip c.open.new.bench in
+    record {
+      leaves = until_open c.args.form c.args.form old mid new refl c.open.ensures.recovers.store c.prepare.ensures.until.leaves;
+      behind = behind-then (run_cells c.args.form) own_cells old mid new c.in-Ok.ensures.prepared.cells c.prepare.ensures.until.behind c.open.ensures.behind;
+      still = search rules;
+    }
 
-pub returns-in-Err-NoMemory-clause-leaves : goal.returns-in-Err-NoMemory-clause-leaves
-returns-in-Err-NoMemory-clause-leaves g c = leaves g (goal.at.returns-in-Err-NoMemory-clause-leaves g c).After-open
+pub returns-in-Err-NoMemory-clause-until : goal.returns-in-Err-NoMemory-clause-until
+returns-in-Err-NoMemory-clause-until g c = until g (goal.at.returns-in-Err-NoMemory-clause-until g c).After-open
 
-pub returns-in-Err-NotACard-clause-leaves : goal.returns-in-Err-NotACard-clause-leaves
-returns-in-Err-NotACard-clause-leaves g c = leaves g (goal.at.returns-in-Err-NotACard-clause-leaves g c).After-open
+pub returns-in-Err-NotACard-clause-until : goal.returns-in-Err-NotACard-clause-until
+returns-in-Err-NotACard-clause-until g c = until g (goal.at.returns-in-Err-NotACard-clause-until g c).After-open
 
-pub returns-in-Err-Fault-open-clause-leaves : goal.returns-in-Err-Fault-open-clause-leaves
-returns-in-Err-Fault-open-clause-leaves g c = leaves g (goal.at.returns-in-Err-Fault-open-clause-leaves g c).After-open
+pub returns-in-Err-Fault-open-clause-until : goal.returns-in-Err-Fault-open-clause-until
+returns-in-Err-Fault-open-clause-until g c = until g (goal.at.returns-in-Err-Fault-open-clause-until g c).After-open
 
-pub returns-in-Ok-open-clause-leaves : goal.returns-in-Ok-open-clause-leaves
-returns-in-Ok-open-clause-leaves g c = leaves g (goal.at.returns-in-Ok-open-clause-leaves g c).After-open
+pub returns-in-Ok-open-clause-until : goal.returns-in-Ok-open-clause-until
+returns-in-Ok-open-clause-until g c = until g (goal.at.returns-in-Ok-open-clause-until g c).After-open
 
-pub returns-in-Err-NotACard-clause-stopped : goal.returns-in-Err-NotACard-clause-stopped
-returns-in-Err-NotACard-clause-stopped g c = λ db begins.
-    absurd (not_to_none (g.B.Eeprom.chip c.prepare.new.bench) db (c.in-Ok.ensures.begins db begins) (c.in-Err-NotACard.ensures.not_a_card (cc)))
+-- It was opened.
 
-pub returns-in-Ok-open-clause-starts : goal.returns-in-Ok-open-clause-starts
-returns-in-Ok-open-clause-starts g c = λ db begins.
-    (c.in-Ok-open.ensures.opened db (c.in-Ok.ensures.begins db begins)).starts
+pub returns-in-Ok-open-clause-opened : goal.returns-in-Ok-open-clause-opened
+returns-in-Ok-open-clause-opened g c =
+    let old = g.B.Eeprom.chip c.args.bench.now in
+    let mid = g.B.Eeprom.chip c.prepare.new.bench in
+    let there = c.in-Ok.ensures.prepared in
+    record {
+      starts = λ db begins. (c.in-Ok-open.ensures.opened db (there.begins db begins)).starts;
+      ready = c.in-Ok-open.ensures.ready;
+      begins = λ told. (let found = open_to mid (there.told told) c.in-Ok-open.ensures.opens in there.began found.0 found.1);
+      found = λ lacks. lacks_none c.args.form old mid lacks c.prepare.ensures.until.leaves there.told c.in-Ok-open.ensures.opens;
+      room = search rules;
+      cells = cells-opened c.args.form c.in-Ok-open.card old mid (g.B.Eeprom.chip c.open.new.bench) c.in-Ok-open.ensures.ready c.open.ensures.recovers.store there.cells;
+    }
 
-pub returns-in-Ok-open-clause-begins : goal.returns-in-Ok-open-clause-begins
-returns-in-Ok-open-clause-begins g c = λ told.
-    let found = open_to (g.B.Eeprom.chip c.prepare.new.bench) (c.in-Ok.ensures.told told) c.in-Ok-open.ensures.opens in c.in-Ok.ensures.began found.0 found.1
-
-pub returns-in-Ok-open-clause-found : goal.returns-in-Ok-open-clause-found
-returns-in-Ok-open-clause-found g c = λ lacks.
-    lacks_none c.args.form (g.B.Eeprom.chip c.args.bench.now) (g.B.Eeprom.chip c.prepare.new.bench) lacks c.in-Ok.ensures.leaves c.in-Ok.ensures.told c.in-Ok-open.ensures.opens
-
--- what lies behind the image stays while it is made and opened
-behind : (g : _) (c : Opened g) → KeepsBehind (run_cells c.args.form) (g.B.Eeprom.chip c.args.bench.now) (g.B.Eeprom.chip c.open.new.bench)
-behind g c =
-    behind-then (run_cells c.args.form) own_cells (g.B.Eeprom.chip c.args.bench.now) (g.B.Eeprom.chip c.prepare.new.bench) (g.B.Eeprom.chip c.open.new.bench) c.in-Ok.ensures.cells c.prepare.ensures.behind c.open.ensures.behind
-
-pub returns-in-Err-NoMemory-clause-behind : goal.returns-in-Err-NoMemory-clause-behind
-returns-in-Err-NoMemory-clause-behind g c = behind g (goal.at.returns-in-Err-NoMemory-clause-behind g c).After-open
-
-pub returns-in-Err-NotACard-clause-behind : goal.returns-in-Err-NotACard-clause-behind
-returns-in-Err-NotACard-clause-behind g c = behind g (goal.at.returns-in-Err-NotACard-clause-behind g c).After-open
-
-pub returns-in-Err-Fault-open-clause-behind : goal.returns-in-Err-Fault-open-clause-behind
-returns-in-Err-Fault-open-clause-behind g c = behind g (goal.at.returns-in-Err-Fault-open-clause-behind g c).After-open
-
-pub returns-in-Ok-open-clause-behind : goal.returns-in-Ok-open-clause-behind
-returns-in-Ok-open-clause-behind g c = behind g (goal.at.returns-in-Ok-open-clause-behind g c).After-open
-
-pub returns-in-Ok-open-clause-cells : goal.returns-in-Ok-open-clause-cells
-returns-in-Ok-open-clause-cells g c =
-    cells-opened c.args.form c.in-Ok-open.card (g.B.Eeprom.chip c.args.bench.now) (g.B.Eeprom.chip c.prepare.new.bench) (g.B.Eeprom.chip c.open.new.bench) c.in-Ok-open.ensures.ready c.open.ensures.recovers.store c.in-Ok.ensures.cells
+-- It wasn't.
 
 -- before a record was read there was no memory
-pub returns-in-Err-NoMemory-clause-no_memory : goal.returns-in-Err-NoMemory-clause-no_memory
-returns-in-Err-NoMemory-clause-no_memory g c = λ is.
-    let front = c.in-Err-NoMemory.ensures.no_memory (cc) in
-    record { there = c.prepare.new.bench; is_there = c.in-Ok.ensures.there; cells = front.0; front = front.1 }
+pub returns-in-Err-NoMemory-clause-unopened : goal.returns-in-Err-NoMemory-clause-unopened
+returns-in-Err-NoMemory-clause-unopened g c = record {
+  unopened = refl;
+  stopped = λ db begins. inl refl;
+  without = λ lacks. inr (inl refl);
+  not_a_card = λ is. absurd cc;
+  no_memory = λ is. (let front = c.in-Err-NoMemory.ensures.no_memory (cc) in record { there = c.prepare.new.bench; is_there = c.in-Ok.ensures.prepared.there; cells = front.0; front = front.1 });
+}
+
+pub returns-in-Err-NotACard-clause-unopened : goal.returns-in-Err-NotACard-clause-unopened
+returns-in-Err-NotACard-clause-unopened g c = record {
+  unopened = refl;
+  stopped = λ db begins. absurd (not_to_none (g.B.Eeprom.chip c.prepare.new.bench) db (c.in-Ok.ensures.prepared.begins db begins) (c.in-Err-NotACard.ensures.not_a_card (cc)));
+  without = λ lacks. inl refl;
+  not_a_card = λ is told. c.in-Ok.ensures.prepared.lacks told (c.in-Err-NotACard.ensures.not_a_card (cc));
+  no_memory = λ is. absurd cc;
+}
+
+pub returns-in-Err-Fault-open-clause-unopened : goal.returns-in-Err-Fault-open-clause-unopened
+returns-in-Err-Fault-open-clause-unopened g c = record { unopened = refl; stopped = λ db begins. inr refl; without = λ lacks. inr (inr refl); not_a_card = λ is. absurd cc; no_memory = λ is. absurd cc }

@@ -27,76 +27,73 @@ told_by g l = g.B.Outlet.given l.bench
 told : (g : given.Over) → IsTold (at g) (told_by g) (mark g) (chip g)
 told g = record { still = λ l. (g.met.B.Bench.output l.bench).0; marks = λ l. refl; marked = λ l. g.met.B.Bench.mark l.bench; opens = λ l m at. opens-at l.card (g.B.Eeprom.chip l.bench) m at }
 
-pub returns-in-Some-clause-answered : goal.returns-in-Some-clause-answered
-returns-in-Some-clause-answered g c = λ sitting sits.
-    rw (c.in-Some.is, c.heard.ensures)
-    (heard-answered (at g) (told_by g) (mark g) (chip g) (told g) sitting (Some c.in-Some.octets.now) (rows_in sitting.at (statement_of c.in-Some.octets.now)) (refusal_in sitting.at (statement_of c.in-Some.octets.now)) c.line.new.self c.line.result
-    c.args.card.now c.line.new.link
-    (read-ends (at g) (told_by g) sitting.at c.args.terminal.now.channel c.in-Some.octets.now c.line.new.self c.line.result c.args.card.now c.line.new.link (search rules) sits.channel (c.line.ensures.ended sitting.at.machine sits.at sits.knows).ends)
-    (read-moments sitting.at c.args.terminal.now.channel (mark g c.args.card.now) c.in-Some.octets.now (chip g c.args.card.now) (chip g c.line.new.link) (search rules) sits.channel (c.line.ensures.ended sitting.at.machine sits.at sits.knows).moments)
-    c.line.ensures.leaves.goes_on.lasts.marks)
+pub returns-in-Some-clause-ended : goal.returns-in-Some-clause-ended
+returns-in-Some-clause-ended g c = λ sitting sits. record {
+  ends = record {
+    answered =
+        rw (c.in-Some.is, c.heard.ensures)
+        (heard-answered (at g) (told_by g) (mark g) (chip g) (told g) sitting (Some c.in-Some.octets.now) (rows_in sitting.at (statement_of c.in-Some.octets.now)) (refusal_in sitting.at (statement_of c.in-Some.octets.now)) c.line.new.self c.line.result
+        c.args.card.now c.line.new.link
+        (read-ends (at g) (told_by g) sitting.at c.args.terminal.now.channel c.in-Some.octets.now c.line.new.self c.line.result c.args.card.now c.line.new.link (search rules) sits.channel (c.line.ensures.ended sitting.at.machine sits.at sits.knows).ends)
+        (read-moments sitting.at c.args.terminal.now.channel (mark g c.args.card.now) c.in-Some.octets.now (chip g c.args.card.now) (chip g c.line.new.link) (search rules) sits.channel (c.line.ensures.ended sitting.at.machine sits.at sits.knows).moments)
+        c.line.ensures.leaves.goes_on.lasts.marks);
+    failed =
+        rw (c.in-Some.is, c.heard.ensures)
+        (heard-failed (at g) (told_by g) (mark g) (chip g) (told g) sitting (Some c.in-Some.octets.now) (rows_in sitting.at (statement_of c.in-Some.octets.now)) (refusal_in sitting.at (statement_of c.in-Some.octets.now)) c.line.new.self c.line.result
+        c.args.card.now c.line.new.link
+        (read-ends (at g) (told_by g) sitting.at c.args.terminal.now.channel c.in-Some.octets.now c.line.new.self c.line.result c.args.card.now c.line.new.link (search rules) sits.channel (c.line.ensures.ended sitting.at.machine sits.at sits.knows).ends)
+        (faulty-read sitting.at (statement_of c.in-Some.octets.now))
+        (read-moments sitting.at c.args.terminal.now.channel (mark g c.args.card.now) c.in-Some.octets.now (chip g c.args.card.now) (chip g c.line.new.link) (search rules) sits.channel (c.line.ensures.ended sitting.at.machine sits.at sits.knows).moments)
+        c.line.ensures.leaves.goes_on.lasts.marks);
+  };
+  refusal =
+      rw (c.in-Some.is, c.heard.ensures)
+      (heard-refusal (at g) (told_by g) sitting.at.machine _ _ (refusal_in sitting.at (statement_of c.in-Some.octets.now)) c.line.new.self c.line.result c.args.card.now c.line.new.link
+      (read-ends (at g) (told_by g) sitting.at c.args.terminal.now.channel c.in-Some.octets.now c.line.new.self c.line.result c.args.card.now c.line.new.link (search rules) sits.channel (c.line.ensures.ended sitting.at.machine sits.at sits.knows).ends));
+}
 
-pub returns-in-Some-clause-refusal : goal.returns-in-Some-clause-refusal
-returns-in-Some-clause-refusal g c = λ sitting sits.
-    rw (c.in-Some.is, c.heard.ensures)
-    (heard-refusal (at g) (told_by g) sitting.at.machine _ _ (refusal_in sitting.at (statement_of c.in-Some.octets.now)) c.line.new.self c.line.result c.args.card.now c.line.new.link
-    (read-ends (at g) (told_by g) sitting.at c.args.terminal.now.channel c.in-Some.octets.now c.line.new.self c.line.result c.args.card.now c.line.new.link (search rules) sits.channel (c.line.ensures.ended sitting.at.machine sits.at sits.knows).ends))
+pub returns-in-Some-clause-leaves : goal.returns-in-Some-clause-leaves
+returns-in-Some-clause-leaves g c = record {
+  ready =
+      rw c.heard.ensures
+      (heard-live (λ (l : OnBench g.row.B.Denot). l.card.live) (λ (l : OnBench g.row.B.Denot). g.B.Eeprom.faults l.bench) (λ (l : OnBench g.row.B.Denot). g.B.Outlet.sink_faults l.bench) c.line.result c.args.card.now c.line.new.link c.line.ensures.leaves.ends_by c.requires.live);
+  causes =
+      rw c.heard.ensures
+      (heard-causes (λ (l : OnBench g.row.B.Denot). l.card.live) (λ (l : OnBench g.row.B.Denot). g.B.Eeprom.faults l.bench) (λ (l : OnBench g.row.B.Denot). g.B.Outlet.sink_faults l.bench) c.line.result c.args.card.now c.line.new.link c.line.ensures.leaves.ends_by);
+  memory = rw c.heard.ensures (heard-memory c.line.result);
+  rest = search rules;
+}
 
-pub returns-in-Some-clause-failed : goal.returns-in-Some-clause-failed
-returns-in-Some-clause-failed g c = λ sitting sits.
-    rw (c.in-Some.is, c.heard.ensures)
-    (heard-failed (at g) (told_by g) (mark g) (chip g) (told g) sitting (Some c.in-Some.octets.now) (rows_in sitting.at (statement_of c.in-Some.octets.now)) (refusal_in sitting.at (statement_of c.in-Some.octets.now)) c.line.new.self c.line.result
-    c.args.card.now c.line.new.link
-    (read-ends (at g) (told_by g) sitting.at c.args.terminal.now.channel c.in-Some.octets.now c.line.new.self c.line.result c.args.card.now c.line.new.link (search rules) sits.channel (c.line.ensures.ended sitting.at.machine sits.at sits.knows).ends)
-    (faulty-read sitting.at (statement_of c.in-Some.octets.now))
-    (read-moments sitting.at c.args.terminal.now.channel (mark g c.args.card.now) c.in-Some.octets.now (chip g c.args.card.now) (chip g c.line.new.link) (search rules) sits.channel (c.line.ensures.ended sitting.at.machine sits.at sits.knows).moments)
-    c.line.ensures.leaves.goes_on.lasts.marks)
+pub returns-in-None-clause-ended : goal.returns-in-None-clause-ended
+returns-in-None-clause-ended g c = λ sitting sits. record {
+  ends = record {
+    answered =
+        rw (c.in-None.is, c.heard-in-None.ensures)
+        (heard-answered (at g) (told_by g) (mark g) (chip g) (told g) sitting None [] (Some TooLong) c.refuse_long_line.new.self c.refuse_long_line.result c.args.card.now c.refuse_long_line.new.link
+        (long-ends (at g) (told_by g) sitting.at c.args.terminal.now.channel c.refuse_long_line.new.self c.refuse_long_line.result c.args.card.now c.refuse_long_line.new.link sits.channel (c.refuse_long_line.ensures.ended sitting.at.machine sits.at sits.knows).ends)
+        (c.refuse_long_line.ensures.moments sitting.at.machine sits.at) c.refuse_long_line.ensures.leaves.goes_on.lasts.marks);
+    failed =
+        rw (c.in-None.is, c.heard-in-None.ensures)
+        (heard-failed (at g) (told_by g) (mark g) (chip g) (told g) sitting None [] (Some TooLong) c.refuse_long_line.new.self c.refuse_long_line.result c.args.card.now c.refuse_long_line.new.link
+        (long-ends (at g) (told_by g) sitting.at c.args.terminal.now.channel c.refuse_long_line.new.self c.refuse_long_line.result c.args.card.now c.refuse_long_line.new.link sits.channel (c.refuse_long_line.ensures.ended sitting.at.machine sits.at sits.knows).ends)
+        refl (c.refuse_long_line.ensures.moments sitting.at.machine sits.at) c.refuse_long_line.ensures.leaves.goes_on.lasts.marks);
+  };
+  refusal =
+      rw (c.in-None.is, c.heard-in-None.ensures)
+      (heard-refusal (at g) (told_by g) sitting.at.machine _ [] (Some TooLong) c.refuse_long_line.new.self c.refuse_long_line.result c.args.card.now c.refuse_long_line.new.link
+      (long-ends (at g) (told_by g) sitting.at c.args.terminal.now.channel c.refuse_long_line.new.self c.refuse_long_line.result c.args.card.now c.refuse_long_line.new.link sits.channel (c.refuse_long_line.ensures.ended sitting.at.machine sits.at sits.knows).ends));
+}
 
-pub returns-in-Some-clause-live : goal.returns-in-Some-clause-live
-returns-in-Some-clause-live g c =
-    rw c.heard.ensures
-    (heard-live (λ (l : OnBench g.row.B.Denot). l.card.live) (λ (l : OnBench g.row.B.Denot). g.B.Eeprom.faults l.bench) (λ (l : OnBench g.row.B.Denot). g.B.Outlet.sink_faults l.bench) c.line.result c.args.card.now c.line.new.link c.line.ensures.leaves.ends_by c.requires.live)
-
-pub returns-in-Some-clause-causes : goal.returns-in-Some-clause-causes
-returns-in-Some-clause-causes g c =
-    rw c.heard.ensures
-    (heard-causes (λ (l : OnBench g.row.B.Denot). l.card.live) (λ (l : OnBench g.row.B.Denot). g.B.Eeprom.faults l.bench) (λ (l : OnBench g.row.B.Denot). g.B.Outlet.sink_faults l.bench) c.line.result c.args.card.now c.line.new.link c.line.ensures.leaves.ends_by)
-
-pub returns-in-None-clause-answered : goal.returns-in-None-clause-answered
-returns-in-None-clause-answered g c = λ sitting sits.
-    rw (c.in-None.is, c.heard-in-None.ensures)
-    (heard-answered (at g) (told_by g) (mark g) (chip g) (told g) sitting None [] (Some TooLong) c.refuse_long_line.new.self c.refuse_long_line.result c.args.card.now c.refuse_long_line.new.link
-    (long-ends (at g) (told_by g) sitting.at c.args.terminal.now.channel c.refuse_long_line.new.self c.refuse_long_line.result c.args.card.now c.refuse_long_line.new.link sits.channel (c.refuse_long_line.ensures.ended sitting.at.machine sits.at sits.knows).ends)
-    (c.refuse_long_line.ensures.moments sitting.at.machine sits.at) c.refuse_long_line.ensures.leaves.goes_on.lasts.marks)
-
-pub returns-in-None-clause-refusal : goal.returns-in-None-clause-refusal
-returns-in-None-clause-refusal g c = λ sitting sits.
-    rw (c.in-None.is, c.heard-in-None.ensures)
-    (heard-refusal (at g) (told_by g) sitting.at.machine _ [] (Some TooLong) c.refuse_long_line.new.self c.refuse_long_line.result c.args.card.now c.refuse_long_line.new.link
-    (long-ends (at g) (told_by g) sitting.at c.args.terminal.now.channel c.refuse_long_line.new.self c.refuse_long_line.result c.args.card.now c.refuse_long_line.new.link sits.channel (c.refuse_long_line.ensures.ended sitting.at.machine sits.at sits.knows).ends))
-
-pub returns-in-None-clause-failed : goal.returns-in-None-clause-failed
-returns-in-None-clause-failed g c = λ sitting sits.
-    rw (c.in-None.is, c.heard-in-None.ensures)
-    (heard-failed (at g) (told_by g) (mark g) (chip g) (told g) sitting None [] (Some TooLong) c.refuse_long_line.new.self c.refuse_long_line.result c.args.card.now c.refuse_long_line.new.link
-    (long-ends (at g) (told_by g) sitting.at c.args.terminal.now.channel c.refuse_long_line.new.self c.refuse_long_line.result c.args.card.now c.refuse_long_line.new.link sits.channel (c.refuse_long_line.ensures.ended sitting.at.machine sits.at sits.knows).ends)
-    refl (c.refuse_long_line.ensures.moments sitting.at.machine sits.at) c.refuse_long_line.ensures.leaves.goes_on.lasts.marks)
-
-pub returns-in-None-clause-live : goal.returns-in-None-clause-live
-returns-in-None-clause-live g c =
-    rw c.heard-in-None.ensures
-    (heard-live (λ (l : OnBench g.row.B.Denot). l.card.live) (λ (l : OnBench g.row.B.Denot). g.B.Eeprom.faults l.bench) (λ (l : OnBench g.row.B.Denot). g.B.Outlet.sink_faults l.bench) c.refuse_long_line.result c.args.card.now c.refuse_long_line.new.link
-    c.refuse_long_line.ensures.leaves.ends_by c.requires.live)
-
-pub returns-in-None-clause-causes : goal.returns-in-None-clause-causes
-returns-in-None-clause-causes g c =
-    rw c.heard-in-None.ensures
-    (heard-causes (λ (l : OnBench g.row.B.Denot). l.card.live) (λ (l : OnBench g.row.B.Denot). g.B.Eeprom.faults l.bench) (λ (l : OnBench g.row.B.Denot). g.B.Outlet.sink_faults l.bench) c.refuse_long_line.result c.args.card.now c.refuse_long_line.new.link
-    c.refuse_long_line.ensures.leaves.ends_by)
-
--- no line wants memory
-pub returns-in-Some-clause-memory : goal.returns-in-Some-clause-memory
-returns-in-Some-clause-memory g c = rw c.heard.ensures (heard-memory c.line.result)
-
-pub returns-in-None-clause-memory : goal.returns-in-None-clause-memory
-returns-in-None-clause-memory g c = rw c.heard-in-None.ensures (heard-memory c.refuse_long_line.result)
+pub returns-in-None-clause-leaves : goal.returns-in-None-clause-leaves
+returns-in-None-clause-leaves g c = record {
+  ready =
+      rw c.heard-in-None.ensures
+      (heard-live (λ (l : OnBench g.row.B.Denot). l.card.live) (λ (l : OnBench g.row.B.Denot). g.B.Eeprom.faults l.bench) (λ (l : OnBench g.row.B.Denot). g.B.Outlet.sink_faults l.bench) c.refuse_long_line.result c.args.card.now c.refuse_long_line.new.link
+      c.refuse_long_line.ensures.leaves.ends_by c.requires.live);
+  causes =
+      rw c.heard-in-None.ensures
+      (heard-causes (λ (l : OnBench g.row.B.Denot). l.card.live) (λ (l : OnBench g.row.B.Denot). g.B.Eeprom.faults l.bench) (λ (l : OnBench g.row.B.Denot). g.B.Outlet.sink_faults l.bench) c.refuse_long_line.result c.args.card.now c.refuse_long_line.new.link
+      c.refuse_long_line.ensures.leaves.ends_by);
+  memory = rw c.heard-in-None.ensures (heard-memory c.refuse_long_line.result);
+  rest = search rules;
+}

@@ -5,11 +5,5 @@ pub returns-clause-told : goal.returns-clause-told
 returns-clause-told g c = told-then g.P.Person.lost g.P.Person.shown _ _ _ c.greet.ensures.told (told-then g.P.Person.lost g.P.Person.shown _ _ _ c.carry_out-status.ensures.told c.take_leave.ensures)
 
 -- the card's counts are taken from memory, and the bench stays
-pub returns-clause-runs : goal.returns-clause-runs
-returns-clause-runs g c = rw c.greet.ensures.same at c.carry_out-status.ensures.runs
-
-pub returns-clause-refusals : goal.returns-clause-refusals
-returns-clause-refusals g c = rw c.greet.ensures.same at c.carry_out-status.ensures.refusals
-
-pub returns-clause-behind : goal.returns-clause-behind
-returns-clause-behind g c = rw c.greet.ensures.same at c.carry_out-status.ensures.behind
+pub returns-clause-run : goal.returns-clause-run
+returns-clause-run g c = rw c.greet.ensures.same at c.carry_out-status.ensures.run

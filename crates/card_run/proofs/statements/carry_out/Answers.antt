@@ -25,31 +25,31 @@ at_machine g c l m = IsReadyAt l.card (g.B.Eeprom.chip l.bench) m
 begins : (g : _) (c : Ran g) (db : Database) → IsAt c.args.card (g.B.Eeprom.chip c.args.bench.now) (start db) → SitsSo (at_machine g c) c.new-terminal.result c.new-card.result false (opened db)
 begins g c db at = sits-opened (at_machine g c) c.new-terminal.result c.new-card.result db c.new-terminal.ensures (rw (c.new-card.ensures) (record { ready = c.requires; at = at }))
 
-pub returns-clause-runs : goal.returns-clause-runs
-returns-clause-runs g c = λ db at.
-    let run : Ran g = (goal.at.returns-clause-runs g c).After-of_input-status in
-    subst (λ (bench : g.row.B.Denot). Becomes (λ (input left : List ℕ). RunsTo g.B.Eeprom.chip g.B.Eeprom.faults term_lines (opened db) c.of_input-status.result input left c.args.bench.now bench) (g.S.Source.left c.args.source.now) (g.S.Source.left c.run_lines-end.new.source))
-    (search (rules, c.run_lines-end.ensures.goes_on.0.name))
-    (rw (c.new-card.ensures) at
-    (runs-through _ c.run_lines-end.result.1 (λ statements. statements.card.bench) g.B.Eeprom.chip g.B.Eeprom.faults term_lines (opened db) c.run_lines-end.result.0 c.run_lines-end.result.1.refused c.of_input-status.result
-    (g.S.Source.left c.args.source.now) (g.S.Source.left c.run_lines-end.new.source) c.of_input-status.ensures (c.run_lines-end.ensures.runs (opened db) (begins g run db at))))
-
-pub returns-clause-refusals : goal.returns-clause-refusals
-returns-clause-refusals g c = λ db at.
-    let run : Ran g = (goal.at.returns-clause-refusals g c).After-of_input-status in
+pub returns-clause-run : goal.returns-clause-run
+returns-clause-run g c =
+    let run : Ran g = (goal.at.returns-clause-run g c).After-of_input-status in
+    let left = g.S.Source.left c.args.source.now in
+    let left_now = g.S.Source.left c.run_lines-end.new.source in
     let last = c.run_lines-end.result.1 in
-    subst (λ (status : Status). TellsRefusals term_lines was_refused (opened db) status (g.S.Source.left c.args.source.now) (g.S.Source.left c.run_lines-end.new.source)) (sym c.of_input-status.ensures)
-    (tells-refused term_lines (opened db) was_refused c.run_lines-end.result.0 last.refused (λ (s : Sitting). SitsSo (at_machine g run) last.terminal.now last.card last.refused s) (g.S.Source.left c.args.source.now)
-    (g.S.Source.left c.run_lines-end.new.source) (λ s sits. sits.tells) (c.run_lines-end.ensures.at (opened db) (begins g run db at)))
-
-pub returns-clause-too_long : goal.returns-clause-too_long
-returns-clause-too_long g c = λ is.
-    at-longer c.run_lines-end.result.0 c.run_lines-end.result.1.refused (g.S.Source.left c.args.source.now) (g.S.Source.left c.run_lines-end.new.source) c.run_lines-end.ensures.too_long (sym c.of_input-status.ensures ∙ is)
-
-pub returns-clause-behind : goal.returns-clause-behind
-returns-clause-behind g c =
-    subst (λ (bench : g.row.B.Denot). KeepsBehind (λ was. c.args.card.store.chains.cells) (g.B.Eeprom.chip c.args.bench.now) (g.B.Eeprom.chip bench)) (search (rules, c.run_lines-end.ensures.goes_on.0.name))
-    (rw (c.new-card.ensures) at c.run_lines-end.ensures.goes_on.0.lasts.behind)
+    record {
+      runs = λ db at.
+          subst (λ (bench : g.row.B.Denot). Becomes (λ (input left : List ℕ). RunsTo g.B.Eeprom.chip g.B.Eeprom.faults term_lines (opened db) c.of_input-status.result input left c.args.bench.now bench) left left_now)
+          (search (rules, c.run_lines-end.ensures.goes_on.0.name))
+          (rw (c.new-card.ensures) at
+          (runs-through _ last (λ statements. statements.card.bench) g.B.Eeprom.chip g.B.Eeprom.faults term_lines (opened db) c.run_lines-end.result.0 last.refused c.of_input-status.result
+          left left_now c.of_input-status.ensures (c.run_lines-end.ensures.runs (opened db) (begins g run db at))));
+      status = search rules;
+      whole = search rules;
+      too_long = λ is. at-longer c.run_lines-end.result.0 last.refused left left_now c.run_lines-end.ensures.too_long (sym c.of_input-status.ensures ∙ is);
+      refusals = λ db at.
+          subst (λ (status : Status). TellsRefusals term_lines was_refused (opened db) status left left_now) (sym c.of_input-status.ensures)
+          (tells-refused term_lines (opened db) was_refused c.run_lines-end.result.0 last.refused (λ (s : Sitting). SitsSo (at_machine g run) last.terminal.now last.card last.refused s) left left_now (λ s sits. sits.tells)
+          (c.run_lines-end.ensures.at (opened db) (begins g run db at)));
+      ends = search rules;
+      behind =
+          subst (λ (bench : g.row.B.Denot). KeepsBehind (λ was. c.args.card.store.chains.cells) (g.B.Eeprom.chip c.args.bench.now) (g.B.Eeprom.chip bench)) (search (rules, c.run_lines-end.ensures.goes_on.0.name))
+          (rw (c.new-card.ensures) at c.run_lines-end.ensures.goes_on.0.lasts.behind);
+    }
 
 pub returns-clause-told : goal.returns-clause-told
 returns-clause-told g c =

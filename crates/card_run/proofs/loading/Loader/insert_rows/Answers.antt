@@ -28,24 +28,27 @@ loop-row-preserved g c =
     let mid : Loader g.row.B.Denot = record { terminal = c.loop-row.self.terminal; card = c.loop-row.self.card; refused = c.loop-row.self.refused } in
     let new : Loader g.row.B.Denot = record { terminal = c.carry_out.new.self.terminal; card = c.carry_out.new.self.card; refused = c.carry_out.new.self.refused } in
     let carried = inserts-next g.B.Eeprom.chip g.B.Eeprom.faults c.loop-row.row c.args.seed c.loop-row.value c.next_number-value.result _ old mid new (search rules) c.next_number-value.ensures.next c.loop-row.invariant.value c.loop-row.invariant.carried
-    c.in_ok-carry_out.ensures.carried in
+    c.in_ok-carry_out.ensures.ended.carried in
     record {
       carried = carried;
       few = omega (arith, few-inserted g.B.Eeprom.chip g.B.Eeprom.faults (c.loop-row.row + 1) c.args.seed old new carried, c.requires.few);
       value = c.next_number-value.ensures.next ∙ (ap next_number c.loop-row.invariant.value ∙ sym (number-next c.loop-row.row c.args.seed));
       below = c.next_number-value.ensures.below;
       shows = passes-row g.P.Person.lost g.P.Person.shown g.B.Eeprom.chip g.B.Eeprom.faults c.loop-row.row c.args.seed c.next_number-value.result c.loop-row.value _ old mid new _ c.loop-row.progress c.pass_row.new.self c.args.person.now c.loop-row.person c.pass_row.new.person
-          (search rules) c.next_number-value.ensures.next c.loop-row.invariant.value c.loop-row.invariant.carried c.in_ok-carry_out.ensures.carried refl c.loop-row.invariant.shows c.pass_row.ensures.row c.pass_row.ensures.shows;
+          (search rules) c.next_number-value.ensures.next c.loop-row.invariant.value c.loop-row.invariant.carried c.in_ok-carry_out.ensures.ended.carried refl c.loop-row.invariant.shows c.pass_row.ensures.row c.pass_row.ensures.shows;
     }
 
-pub returns-in_err-carry_out-clause-failed : goal.returns-in_err-carry_out-clause-failed
-returns-in_err-carry_out-clause-failed g c =
-    let old : Loader g.row.B.Denot = record { terminal = c.args.self.now.terminal; card = c.args.self.now.card; refused = c.args.self.now.refused } in
-    let mid : Loader g.row.B.Denot = record { terminal = c.loop-row.self.terminal; card = c.loop-row.self.card; refused = c.loop-row.self.refused } in
-    let new : Loader g.row.B.Denot = record { terminal = c.carry_out.new.self.terminal; card = c.carry_out.new.self.card; refused = c.carry_out.new.self.refused } in
-    on-err c.from_residual.result
-    (inserts-fail g.B.Eeprom.chip g.B.Eeprom.faults c.args.rows c.loop-row.row c.args.seed c.loop-row.value c.next_number-value.result _ old mid new (search rules) (search rules) c.next_number-value.ensures.next c.loop-row.invariant.value
-    c.loop-row.invariant.carried c.in_err-carry_out.ensures.failed)
+pub returns-in_err-carry_out-clause-ended : goal.returns-in_err-carry_out-clause-ended
+returns-in_err-carry_out-clause-ended g c = record {
+  carried = search rules;
+  failed =
+      (let old : Loader g.row.B.Denot = record { terminal = c.args.self.now.terminal; card = c.args.self.now.card; refused = c.args.self.now.refused } in
+      let mid : Loader g.row.B.Denot = record { terminal = c.loop-row.self.terminal; card = c.loop-row.self.card; refused = c.loop-row.self.refused } in
+      let new : Loader g.row.B.Denot = record { terminal = c.carry_out.new.self.terminal; card = c.carry_out.new.self.card; refused = c.carry_out.new.self.refused } in
+      on-err c.from_residual.result
+      (inserts-fail g.B.Eeprom.chip g.B.Eeprom.faults c.args.rows c.loop-row.row c.args.seed c.loop-row.value c.next_number-value.result _ old mid new (search rules) (search rules) c.next_number-value.ensures.next c.loop-row.invariant.value
+      c.loop-row.invariant.carried c.in_err-carry_out.ensures.ended.failed));
+}
 
 pub returns-in_err-carry_out-clause-shows_until : goal.returns-in_err-carry_out-clause-shows_until
 returns-in_err-carry_out-clause-shows_until g c = on-err c.from_residual.result (c.loop-row.row, search rules, c.loop-row.invariant.shows)
