@@ -1,8 +1,6 @@
 // Where a cursor's rows come from.
 ghost use Rattle.std.specs.Prelude.{◌≡◌, ℕ, List, Option, if◌then◌else◌, IfOk, IfSome, option_map};
 ghost use Rattle.eeprom.specs.Chip.{Chip, Becomes};
-ghost use Rattle.eeprom.specs.Fault.{each_error};
-ghost use Rattle.eeprom.specs.Frame.{Reads};
 ghost use Rattle.scql_base.specs.Row.{row_size};
 ghost use Rattle.scql_base.specs.declared.cursor.Place.{Place};
 ghost use Rattle.scql_model.specs.Moves as moves;
@@ -22,9 +20,6 @@ pub trait RowFeed {
     /// Stamps with what reading the rows there may cost, where told.
     ghost costs: { Self → Option (List Cost) };
 
-    /// When the feed may be read.
-    ghost can_read: { Self → Type 0 };
-
     /// What else no call changes, such as which references it holds.
     ghost Kept: { Type 0 };
 
@@ -41,27 +36,21 @@ pub trait RowFeed {
 
     /// The least stamp above this one, if there is one.
     fn next_after(&mut self, stamp: u32) -> Result<Option<u32>, EepromFault>
-        requires { can_read self.old }
         ensures next { IfOk result (λ next. (rows : List StampedRow) → tells self.old rows → next ≡ option_map (λ row. row.stamp) (moves.row_behind (Place.At stamp) rows)) }
         ensures read { IfOk result (λ next. IfSome (costs self.old) (λ costs. Becomes (RisesBetween 0 (cost_behind stamp next costs)) (octets_read self.old) (octets_read self.new))) }
-        ensures stays { Stays tells costs kept can_read self.old self.new }
-        ensures frame { Reads each_error chip faults self.old self.new result };
+        ensures stays { Stays tells costs kept chip faults self.old self.new result };
 
     /// Hands out the row of a stamp, and answers whether there is one. Where there is one, at least its octets are read.
     fn row_at(&mut self, stamp: u32, out: &mut Row) -> Result<bool, EepromFault>
-        requires { can_read self.old }
         ensures there { IfOk result (λ there. (rows : List StampedRow) → tells self.old rows → handed there out.new ≡ option_map (λ row. row.values) (moves.row_at stamp rows)) }
         ensures read { IfOk result (λ there. IfSome (costs self.old)
             (λ costs. Becomes (RisesBetween (if there then row_size out.new else 0) (cost_of stamp costs)) (octets_read self.old) (octets_read self.new))) }
-        ensures stays { Stays tells costs kept can_read self.old self.new }
-        ensures frame { Reads each_error chip faults self.old self.new result };
+        ensures stays { Stays tells costs kept chip faults self.old self.new result };
 
     /// Hands out the row of the least stamp above this one, and answers its stamp, if there is one. The rows up to it are read once.
     fn next_row(&mut self, stamp: u32, out: &mut Row) -> Result<Option<u32>, EepromFault>
-        requires { can_read self.old }
         ensures next { IfOk result (λ next. (rows : List StampedRow) → tells self.old rows → row_handed next out.new ≡ moves.row_behind (Place.At stamp) rows) }
         ensures read { IfOk result (λ next. IfSome (costs self.old)
             (λ costs. Becomes (RisesBetween (size_handed next out.new) (cost_behind stamp next costs)) (octets_read self.old) (octets_read self.new))) }
-        ensures stays { Stays tells costs kept can_read self.old self.new }
-        ensures frame { Reads each_error chip faults self.old self.new result };
+        ensures stays { Stays tells costs kept chip faults self.old self.new result };
 }

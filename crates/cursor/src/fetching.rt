@@ -1,8 +1,6 @@
 // The moves that hand out a row.
 ghost use Rattle.std.specs.Prelude.{◌≡◌, ◌≤◌, List, IfOk, IfSome, IsTrue, OnErr};
 ghost use Rattle.eeprom.specs.Chip.{Becomes};
-ghost use Rattle.eeprom.specs.Fault.{each_error};
-ghost use Rattle.eeprom.specs.Frame.{Reads};
 ghost use Rattle.scql_base.specs.Words as words;
 ghost use Rattle.scql_base.specs.declared.cursor.Cursor.{Cursor};
 ghost use Rattle.scql_model.specs.Moves.{gave, gave_next, row_behind};
@@ -24,13 +22,11 @@ pub fn fetch<F: RowFeed>(
     le: u16,
     out: &mut Row,
 ) -> Result<StatusWord, EepromFault>
-    requires { F.can_read feed.old }
     ensures fetched { IfOk result (λ word. (rows : List StampedRow) → F.tells feed.old rows
         → (c : Cursor) → moved.fetched place.now c le word out.new ≡ gave c le place.now rows) }
     ensures read { IfOk result (λ word. IfSome (F.costs feed.old)
         (λ costs. Becomes (RisesBetween (least_read word out.new) (cost_at place.now costs)) (F.octets_read feed.old) (F.octets_read feed.new))) }
-    ensures stays { Stays F.tells F.costs F.kept F.can_read feed.old feed.new }
-    ensures frame { Reads each_error F.chip F.faults feed.old feed.new result }
+    ensures stays { Stays F.tells F.costs F.kept F.chip F.faults feed.old feed.new result }
 {
     match *place {
         Place::NotOpen => Ok(StatusWord::CONDITIONS_NOT_SATISFIED),
@@ -50,7 +46,6 @@ pub fn fetch_step<F: RowFeed>(
     le: u16,
     out: &mut Row,
 ) -> Result<StatusWord, EepromFault>
-    requires { F.can_read feed.old }
     ensures fetched { IfOk result (λ word. (rows : List StampedRow) → F.tells feed.old rows
         → (c : Cursor) → moved.fetched place.new c le word out.new ≡ gave_next c le (row_behind place.old rows)) }
     ensures refused { IfOk result (λ word. IsTrue (moved.refuses word) → place.new ≡ place.old) }
@@ -58,8 +53,7 @@ pub fn fetch_step<F: RowFeed>(
     ensures read { IfOk result (λ word. (rows : List StampedRow) → F.tells feed.old rows → IfSome (F.costs feed.old)
         (λ costs. Becomes (RisesBetween (least_read word out.new) (cost_between place.old (place_reached (row_behind place.old rows)) costs))
         (F.octets_read feed.old) (F.octets_read feed.new))) }
-    ensures stays { Stays F.tells F.costs F.kept F.can_read feed.old feed.new }
-    ensures frame { Reads each_error F.chip F.faults feed.old feed.new result }
+    ensures stays { Stays F.tells F.costs F.kept F.chip F.faults feed.old feed.new result }
 {
     let next = next_handed(feed, *place, out)?;
     let word = next_word(next, out, le);
@@ -75,12 +69,10 @@ fn next_handed<F: RowFeed>(
     place: Place,
     out: &mut Row,
 ) -> Result<Option<u32>, EepromFault>
-    requires { F.can_read feed.old }
     ensures next { IfOk result (λ next. (rows : List StampedRow) → F.tells feed.old rows → moved.row_handed next out.new ≡ row_behind place rows) }
     ensures read { IfOk result (λ next. IfSome (F.costs feed.old)
         (λ costs. Becomes (RisesBetween (size_handed next out.new) (cost_between place (moved.place_at next) costs)) (F.octets_read feed.old) (F.octets_read feed.new))) }
-    ensures stays { Stays F.tells F.costs F.kept F.can_read feed.old feed.new }
-    ensures frame { Reads each_error F.chip F.faults feed.old feed.new result }
+    ensures stays { Stays F.tells F.costs F.kept F.chip F.faults feed.old feed.new result }
 {
     match place {
         Place::At { stamp } => feed.next_row(stamp, out),

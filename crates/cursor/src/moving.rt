@@ -1,8 +1,6 @@
 // The moves that hand out no row.
 ghost use Rattle.std.specs.Prelude.{◌≡◌, List, IfOk, IfSome, OnErr};
 ghost use Rattle.eeprom.specs.Chip.{Becomes};
-ghost use Rattle.eeprom.specs.Fault.{each_error};
-ghost use Rattle.eeprom.specs.Frame.{Reads};
 ghost use Rattle.scql_base.specs.declared.cursor.Cursor.{Cursor};
 ghost use Rattle.scql_model.specs.Moves.{first_row, row_behind, moved_to, went_to};
 ghost use Rattle.scql_model.specs.Objects.{StampedRow};
@@ -17,14 +15,12 @@ use scql_base::{Place, StatusWord};
 
 /// OPEN: the cursor goes to the first row, or to its end where there is none. After a fault it stays where it was.
 pub fn first<F: RowFeed>(feed: &mut F, place: &mut Place) -> Result<StatusWord, EepromFault>
-    requires { F.can_read feed.old }
     ensures moved { IfOk result (λ word. (rows : List StampedRow) → F.tells feed.old rows → moved.AreStamped rows
         → (c : Cursor) → moved_to place.new c word ≡ went_to c (first_row rows)) }
     ensures fault { OnErr result (place.new ≡ place.old) }
     ensures read { IfOk result (λ _. IfSome (F.costs feed.old)
         (λ costs. Becomes (RisesBetween 0 (cost_between (Place.At 0) place.new costs)) (F.octets_read feed.old) (F.octets_read feed.new))) }
-    ensures stays { Stays F.tells F.costs F.kept F.can_read feed.old feed.new }
-    ensures frame { Reads each_error F.chip F.faults feed.old feed.new result }
+    ensures stays { Stays F.tells F.costs F.kept F.chip F.faults feed.old feed.new result }
 {
     *place = place_behind(feed, Place::At { stamp: 0 })?;
     Ok(word_at(*place))
@@ -32,14 +28,12 @@ pub fn first<F: RowFeed>(feed: &mut F, place: &mut Place) -> Result<StatusWord, 
 
 /// NEXT: the cursor goes to the next row, or to its end where there is none. After a fault it stays where it was.
 pub fn step<F: RowFeed>(feed: &mut F, place: &mut Place) -> Result<StatusWord, EepromFault>
-    requires { F.can_read feed.old }
     ensures moved { IfOk result (λ word. (rows : List StampedRow) → F.tells feed.old rows
         → (c : Cursor) → moved_to place.new c word ≡ went_to c (row_behind place.old rows)) }
     ensures fault { OnErr result (place.new ≡ place.old) }
     ensures read { IfOk result (λ _. IfSome (F.costs feed.old)
         (λ costs. Becomes (RisesBetween 0 (cost_between place.old place.new costs)) (F.octets_read feed.old) (F.octets_read feed.new))) }
-    ensures stays { Stays F.tells F.costs F.kept F.can_read feed.old feed.new }
-    ensures frame { Reads each_error F.chip F.faults feed.old feed.new result }
+    ensures stays { Stays F.tells F.costs F.kept F.chip F.faults feed.old feed.new result }
 {
     *place = place_behind(feed, *place)?;
     Ok(word_at(*place))
@@ -47,12 +41,10 @@ pub fn step<F: RowFeed>(feed: &mut F, place: &mut Place) -> Result<StatusWord, E
 
 // The place of the next row, or the end where there is none. Where a cursor isn't opened there is none.
 fn place_behind<F: RowFeed>(feed: &mut F, place: Place) -> Result<Place, EepromFault>
-    requires { F.can_read feed.old }
     ensures reached { IfOk result (λ reached. (rows : List StampedRow) → F.tells feed.old rows → reached ≡ place_reached (row_behind place rows)) }
     ensures read { IfOk result (λ reached. IfSome (F.costs feed.old)
         (λ costs. Becomes (RisesBetween 0 (cost_between place reached costs)) (F.octets_read feed.old) (F.octets_read feed.new))) }
-    ensures stays { Stays F.tells F.costs F.kept F.can_read feed.old feed.new }
-    ensures frame { Reads each_error F.chip F.faults feed.old feed.new result }
+    ensures stays { Stays F.tells F.costs F.kept F.chip F.faults feed.old feed.new result }
 {
     match place {
         Place::At { stamp } => {

@@ -13,6 +13,7 @@ use std::test::Fail;
 #[derive(Drop)]
 struct Single<'a, B: Eeprom> {
     bench: &'a mut B,
+    ghost room: { 2 ≤ (B.chip bench.now).still.size },
 }
 
 impl<'a, B: Eeprom> RowFeed for Single<'a, B> {
@@ -21,8 +22,6 @@ impl<'a, B: Eeprom> RowFeed for Single<'a, B> {
     ghost tells = { λ f rows. option_map (λ image. record { stamp = 7; values = slice_range image 0 1 ∷ [] } ∷ []) (B.chip f.bench.now).image ≡ Some rows };
 
     ghost costs = { λ _. Some (record { stamp = 7; octets = 2 } ∷ []) };
-
-    ghost can_read = { λ f. 2 ≤ (B.chip f.bench.now).still.size };
 
     ghost Kept = { ℕ };
 

@@ -2,9 +2,7 @@
 ghost use Rattle.std.specs.Prelude.{◌≡◌, ◌*◌, None, Some, IfOk, IfSome, if◌then◌else◌};
 ghost use Rattle.eeprom.specs.Chip.{Becomes, RisesAtMost};
 ghost use Rattle.eeprom.specs.Fault.{each_error};
-ghost use Rattle.eeprom.specs.Frame.{Reads};
 ghost use Rattle.eeprom.specs.StoreOf.{cell_size};
-ghost use Rattle.record_store.specs.Held.{IsOver};
 ghost use Rattle.record_store.specs.Tags as tags;
 ghost use Rattle.record_store.specs.declared.tags.Tag.TheVariants as by;
 ghost use Rattle.record_store.specs.declared.side.Side.TheVariants.{Working};
@@ -12,16 +10,15 @@ ghost use Rattle.scql_base.specs.declared.operation.Operation.TheVariants as ope
 ghost use Rattle.scql_base.specs.declared.words.StatusWord.{StatusWord};
 ghost use Rattle.scql_model.specs.Creating as model;
 ghost use Rattle.scql_model.specs.Creating.{IsActorOf, actor_stamp, may_create, user_added};
-ghost use Rattle.scql_model.specs.Database.{Database};
 ghost use Rattle.scql_model.specs.WellFormed.{HasForm};
 ghost use Rattle.catalog_codec.specs.Catalog.{user_kind};
 ghost use Rattle.record_table.specs.Listed.{slots_of};
-ghost use Rattle.record_table.specs.Making.{IsHeld};
+ghost use Rattle.record_table.specs.Asking.{Asks};
 ghost use Rattle.record_table.specs.Tagged.{cells_tagged};
 ghost use Rattle.row_table.specs.Tables.{Ended, InTransaction};
 
 use eeprom::{Eeprom, EepromFault};
-use record_store::{Side, Store};
+use record_store::{Side, SideReader};
 use record_table::{Stop, next_stamp};
 use row_table::Tables;
 use scql_base::{Actor, Name, Octets, Profile, StatusWord, User};
@@ -44,7 +41,12 @@ pub fn create_user<B: Eeprom>(
             word: StatusWord::SECURITY_NOT_SATISFIED,
         });
     };
-    if is_taken(&tables.store, bench, &name)? {
+    let mut reader = SideReader {
+        store: &tables.store,
+        bench,
+        side: Side::Working,
+    };
+    if is_taken(&mut reader, &name)? {
         return Err(Stop::Refused {
             word: StatusWord::ALREADY_EXISTS,
         });
@@ -85,16 +87,14 @@ fn owner_for(actor: Actor, profile: Profile) -> Option<u32>
 }
 
 // Whether a user has the name, or it is PUBLIC.
-fn is_taken<B: Eeprom>(store: &Store, bench: &mut B, name: &Name) -> Result<bool, EepromFault>
-    requires over { IsOver store.now (B.chip bench.old) }
-    ensures taken { (db : Database) → IsHeld store.now Working (B.chip bench.old) db → IfOk result (λ taken. taken ≡ model.is_taken db name.now) }
-    ensures octets_read { IfOk result (λ _. IfSome (slots_of store.now Working (B.chip bench.old))
-        (λ slots. Becomes (RisesAtMost (cell_size * cells_tagged user_kind (Some (by.Name (tags.name_tag name.now))) slots)) (B.octets_read bench.old) (B.octets_read bench.new))) }
-    ensures frame { Reads each_error B.chip B.faults bench.old bench.new result }
+fn is_taken<B: Eeprom>(reader: &mut SideReader<'_, '_, B>, name: &Name) -> Result<bool, EepromFault>
+    ensures octets_read { IfOk result (λ _. IfSome (slots_of reader.old.store.now reader.old.side (B.chip reader.old.bench.now))
+        (λ slots. Becomes (RisesAtMost (cell_size * cells_tagged user_kind (Some (by.Name (tags.name_tag name.now))) slots)) (B.octets_read reader.old.bench.now) (B.octets_read reader.new.bench.now))) }
+    ensures asks { Asks each_error (λ db result. IfOk result (λ taken. taken ≡ model.is_taken db name.now)) reader.old reader.new result }
 {
     if name.octets() == Name::PUBLIC {
         return Ok(true);
     }
-    let user = find_name(store, bench, Side::Working, name.copy())?;
+    let user = find_name(reader.store, reader.bench, reader.side, name.copy())?;
     Ok(user.is_some())
 }

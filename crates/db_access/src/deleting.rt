@@ -2,8 +2,6 @@
 ghost use Rattle.std.specs.Prelude.{◌≡◌, ◌<◌, Some, option_map, IfOk, IfSome};
 ghost use Rattle.std.specs.List.{list_any};
 ghost use Rattle.eeprom.specs.Fault.{each_error};
-ghost use Rattle.eeprom.specs.Frame.{Reads};
-ghost use Rattle.record_store.specs.Held.{IsOver};
 ghost use Rattle.record_store.specs.declared.side.Side.TheVariants.{Working};
 ghost use Rattle.scql_base.specs.declared.words.StatusWord.{StatusWord};
 ghost use Rattle.scql_model.specs.Database as model;
@@ -12,6 +10,7 @@ ghost use Rattle.scql_model.specs.Users as users;
 ghost use Rattle.scql_model.specs.Users.{removing_user, user_deleted};
 ghost use Rattle.catalog_codec.specs.Catalog.{user_kind};
 ghost use Rattle.record_table.specs.Listed.{at_slot, slots_of};
+ghost use Rattle.record_table.specs.Asking.{Asks, Holds};
 ghost use Rattle.record_table.specs.Making.{IsHeld, is_stop_fault};
 ghost use Rattle.row_table.specs.Tables.{Ended, InTransaction};
 ghost use Rattle.db_access.specs.Asked.{AnswersNamed};
@@ -19,7 +18,7 @@ ghost use Rattle.db_access.specs.Depending.{is_for, is_object_of, is_user_of};
 
 use eeprom::{Eeprom, EepromFault};
 use privilege_table::is_owned_by;
-use record_store::{Found, Side, Store, Tag};
+use record_store::{Found, Side, SideReader, Tag};
 use record_table::{Stop, Wanted, find_by, refused, remove, remove_each};
 use row_table::Tables;
 use scql_base::{Actor, Grant, Name, Object, Profile, StatusWord, User};
@@ -36,7 +35,12 @@ pub fn delete_user<B: Eeprom>(
     ensures ended { Ended B.chip B.faults (λ _. Unit {0}) (λ db. user_deleted db actor name) bench.old bench.new tables.old tables.new result }
     ensures gone { (db : Database) → IsHeld tables.old.store Working (B.chip bench.old) db → IfOk result (λ stamp. option_map (λ user. user.stamp) (model.user_named db.users name) ≡ Some stamp) }
 {
-    let user = find_to_delete(&tables.store, bench, actor, name)?;
+    let mut reader = SideReader {
+        store: &tables.store,
+        bench,
+        side: Side::Working,
+    };
+    let user = find_to_delete(&mut reader, actor, name)?;
     remove(&mut tables.store, user.slot);
     remove_each(&mut tables.store, bench, &GrantedTo(user.value.stamp))?;
     Ok(user.value.stamp)
@@ -44,43 +48,41 @@ pub fn delete_user<B: Eeprom>(
 
 // Finds the user who is deleted, or the first refusal.
 fn find_to_delete<B: Eeprom>(
-    store: &Store,
-    bench: &mut B,
+    reader: &mut SideReader<'_, '_, B>,
     actor: Actor,
     name: Name,
 ) -> Result<Found<User>, Stop>
-    requires over { IsOver store.now (B.chip bench.old) }
-    ensures there { IfOk result (λ user. user.slot < store.now.chains.cells) }
-    ensures at { IfOk result (λ user. IfSome (slots_of store.now Working (B.chip bench.old)) (λ slots. Some user.value ≡ at_slot user_kind user.slot slots)) }
-    ensures named { (db : Database) → IsHeld store.now Working (B.chip bench.old) db → IfOk result (λ user. model.user_named db.users name ≡ Some user.value) }
-    ensures found { (db : Database) → IsHeld store.now Working (B.chip bench.old) db → AnswersNamed (λ user. removing_user db user.value) (user_deleted db actor name) result }
-    ensures frame { Reads is_stop_fault B.chip B.faults bench.old bench.new result }
+    ensures there { IfOk result (λ user. user.slot < reader.old.store.now.chains.cells) }
+    ensures at { IfOk result (λ user. IfSome (slots_of reader.old.store.now reader.old.side (B.chip reader.old.bench.now)) (λ slots. Some user.value ≡ at_slot user_kind user.slot slots)) }
+    ensures named { (db : Database) → Holds reader.old db → IfOk result (λ user. model.user_named db.users name ≡ Some user.value) }
+    ensures asks { Asks is_stop_fault (λ db. AnswersNamed (λ user. removing_user db user.value) (user_deleted db actor name)) reader.old reader.new result }
 {
-    let Some(user) = find_name(store, bench, Side::Working, name)? else {
+    let Some(user) = find_name(reader.store, reader.bench, reader.side, name)? else {
         return refused(StatusWord::NOT_FOUND);
     };
     if !is_owned_by(actor, user.value.owner) {
         return refused(StatusWord::SECURITY_NOT_SATISFIED);
     }
-    if is_needed(store, bench, &user.value)? {
+    if is_needed(reader, &user.value)? {
         return refused(StatusWord::CONDITIONS_NOT_SATISFIED);
     }
     Ok(user)
 }
 
 // Whether it is OWNER, or owns a user or an object.
-fn is_needed<B: Eeprom>(store: &Store, bench: &mut B, user: &User) -> Result<bool, EepromFault>
-    requires over { IsOver store.now (B.chip bench.old) }
-    ensures needed { (db : Database) → IsHeld store.now Working (B.chip bench.old) db → IfOk result (λ needed. needed ≡ users.is_needed db user.now) }
-    ensures frame { Reads each_error B.chip B.faults bench.old bench.new result }
+fn is_needed<B: Eeprom>(
+    reader: &mut SideReader<'_, '_, B>,
+    user: &User,
+) -> Result<bool, EepromFault>
+    ensures { Asks each_error (λ db result. IfOk result (λ needed. needed ≡ users.is_needed db user.now)) reader.old reader.new result }
 {
     if is_db_o(user) {
         return Ok(true);
     }
-    if owns_users(store, bench, user.stamp)? {
+    if owns_users(reader, user.stamp)? {
         return Ok(true);
     }
-    owns_objects(store, bench, user.stamp)
+    owns_objects(reader, user.stamp)
 }
 
 fn is_db_o(user: &User) -> bool
@@ -90,21 +92,23 @@ fn is_db_o(user: &User) -> bool
 }
 
 // Whether the user of a stamp owns a user.
-fn owns_users<B: Eeprom>(store: &Store, bench: &mut B, stamp: u32) -> Result<bool, EepromFault>
-    requires over { IsOver store.now (B.chip bench.old) }
-    ensures owns { (db : Database) → IsHeld store.now Working (B.chip bench.old) db → IfOk result (λ owns. owns ≡ list_any (is_user_of stamp) db.users) }
-    ensures frame { Reads each_error B.chip B.faults bench.old bench.new result }
+fn owns_users<B: Eeprom>(
+    reader: &mut SideReader<'_, '_, B>,
+    stamp: u32,
+) -> Result<bool, EepromFault>
+    ensures { Asks each_error (λ db result. IfOk result (λ owns. owns ≡ list_any (is_user_of stamp) db.users)) reader.old reader.new result }
 {
-    Ok(find_by(store, bench, Side::Working, &UserOf(stamp))?.is_some())
+    Ok(find_by(reader.store, reader.bench, reader.side, &UserOf(stamp))?.is_some())
 }
 
 // Whether the user of a stamp owns an object.
-fn owns_objects<B: Eeprom>(store: &Store, bench: &mut B, stamp: u32) -> Result<bool, EepromFault>
-    requires over { IsOver store.now (B.chip bench.old) }
-    ensures owns { (db : Database) → IsHeld store.now Working (B.chip bench.old) db → IfOk result (λ owns. owns ≡ list_any (is_object_of stamp) db.objects) }
-    ensures frame { Reads each_error B.chip B.faults bench.old bench.new result }
+fn owns_objects<B: Eeprom>(
+    reader: &mut SideReader<'_, '_, B>,
+    stamp: u32,
+) -> Result<bool, EepromFault>
+    ensures { Asks each_error (λ db result. IfOk result (λ owns. owns ≡ list_any (is_object_of stamp) db.objects)) reader.old reader.new result }
 {
-    Ok(find_by(store, bench, Side::Working, &ObjectOf(stamp))?.is_some())
+    Ok(find_by(reader.store, reader.bench, reader.side, &ObjectOf(stamp))?.is_some())
 }
 
 // The users whom the user of a stamp owns.

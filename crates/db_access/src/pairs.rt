@@ -1,21 +1,18 @@
 // The pair of which GRANT and REVOKE speak: an object that the actor owns, and a grantee.
 ghost use Rattle.std.specs.Prelude.{◌≡◌};
-ghost use Rattle.eeprom.specs.Frame.{Reads};
-ghost use Rattle.record_store.specs.Held.{IsOver};
-ghost use Rattle.record_store.specs.declared.side.Side.TheVariants.{Working};
 ghost use Rattle.scql_base.specs.Words.{not_found};
-ghost use Rattle.scql_model.specs.Database.{Database};
 ghost use Rattle.scql_model.specs.Defining.{owned_by};
 ghost use Rattle.scql_model.specs.Granting.{grantee_named};
 ghost use Rattle.scql_model.specs.Refusals.{or_refused};
 ghost use Rattle.scql_model.specs.Rights.{seen_named};
-ghost use Rattle.record_table.specs.Making.{IsHeld, is_stop_fault};
+ghost use Rattle.record_table.specs.Asking.{Asks};
+ghost use Rattle.record_table.specs.Making.{is_stop_fault};
 ghost use Rattle.db_access.specs.Asked.{AnswersNamed};
 ghost use Rattle.db_access.specs.Pairs.{pair_named};
 
 use eeprom::Eeprom;
 use privilege_table::{find_seen, is_owned_by};
-use record_store::{Side, Store};
+use record_store::SideReader;
 use record_table::{Stop, refused};
 use scql_base::{Actor, Grant, Name, Object, Privileges, StatusWord};
 use user_table::find_name;
@@ -30,33 +27,27 @@ pub(crate) struct Pair {
 
 /// Finds the pair of an object's name and a grantee's, or the first refusal.
 pub(crate) fn find_named<B: Eeprom>(
-    store: &Store,
-    bench: &mut B,
+    reader: &mut SideReader<'_, '_, B>,
     actor: Actor,
     object: Name,
     grantee: Name,
 ) -> Result<Pair, Stop>
-    requires over { IsOver store.now (B.chip bench.old) }
-    ensures pair { (db : Database) → IsHeld store.now Working (B.chip bench.old) db → AnswersNamed (λ pair. (pair.object, pair.grantee)) (pair_named db actor object grantee) result }
-    ensures frame { Reads is_stop_fault B.chip B.faults bench.old bench.new result }
+    ensures { Asks is_stop_fault (λ db. AnswersNamed (λ pair. (pair.object, pair.grantee)) (pair_named db actor object grantee)) reader.old reader.new result }
 {
-    let object = find_owned(store, bench, actor, object)?;
-    let grantee = find_grantee(store, bench, grantee)?;
+    let object = find_owned(reader, actor, object)?;
+    let grantee = find_grantee(reader, grantee)?;
     Ok(Pair { object, grantee })
 }
 
 // Finds the object of a name that appears to an actor, who owns it, or the first refusal.
 fn find_owned<B: Eeprom>(
-    store: &Store,
-    bench: &mut B,
+    reader: &mut SideReader<'_, '_, B>,
     actor: Actor,
     name: Name,
 ) -> Result<Object, Stop>
-    requires over { IsOver store.now (B.chip bench.old) }
-    ensures owned { (db : Database) → IsHeld store.now Working (B.chip bench.old) db → AnswersNamed (λ object. object) (owned_by actor (seen_named db actor name)) result }
-    ensures frame { Reads is_stop_fault B.chip B.faults bench.old bench.new result }
+    ensures { Asks is_stop_fault (λ db. AnswersNamed (λ object. object) (owned_by actor (seen_named db actor name))) reader.old reader.new result }
 {
-    let Some(found) = find_seen(store, bench, Side::Working, actor, name)? else {
+    let Some(found) = find_seen(reader.store, reader.bench, reader.side, actor, name)? else {
         return refused(StatusWord::NOT_FOUND);
     };
     if !is_owned_by(actor, found.value.owner) {
@@ -66,15 +57,13 @@ fn find_owned<B: Eeprom>(
 }
 
 // Finds the grantee of a name: the stamp of a user, or 0 for PUBLIC.
-fn find_grantee<B: Eeprom>(store: &Store, bench: &mut B, name: Name) -> Result<u32, Stop>
-    requires over { IsOver store.now (B.chip bench.old) }
-    ensures grantee { (db : Database) → IsHeld store.now Working (B.chip bench.old) db → AnswersNamed (λ grantee. grantee) (or_refused (grantee_named db name) not_found) result }
-    ensures frame { Reads is_stop_fault B.chip B.faults bench.old bench.new result }
+fn find_grantee<B: Eeprom>(reader: &mut SideReader<'_, '_, B>, name: Name) -> Result<u32, Stop>
+    ensures { Asks is_stop_fault (λ db. AnswersNamed (λ grantee. grantee) (or_refused (grantee_named db name) not_found)) reader.old reader.new result }
 {
     if name.octets() == Name::PUBLIC {
         return Ok(0);
     }
-    match find_name(store, bench, Side::Working, name)? {
+    match find_name(reader.store, reader.bench, reader.side, name)? {
         Some(found) => Ok(found.value.stamp),
         None => refused(StatusWord::NOT_FOUND),
     }

@@ -8,7 +8,7 @@ ghost use Rattle.row_table.specs.Tables.{Ended, InTransaction};
 use crate::pairs::{find_named, with_privileges};
 use eeprom::Eeprom;
 use privilege_table::find_pair;
-use record_store::Side;
+use record_store::{Side, SideReader};
 use record_table::{Stop, refused, take_out};
 use row_table::Tables;
 use scql_base::{Actor, Grant, Name, Privileges, StatusWord};
@@ -25,7 +25,12 @@ pub fn revoke<B: Eeprom>(
     requires open { InTransaction tables.old (B.chip bench.old) }
     ensures { Ended B.chip B.faults (λ _. Unit {0}) (λ db. privileges_revoked db actor privileges object grantee) bench.old bench.new tables.old tables.new result }
 {
-    let pair = find_named(&tables.store, bench, actor, object, grantee)?;
+    let mut reader = SideReader {
+        store: &tables.store,
+        bench,
+        side: Side::Working,
+    };
+    let pair = find_named(&mut reader, actor, object, grantee)?;
     let Some(found) = find_pair(
         &tables.store,
         bench,

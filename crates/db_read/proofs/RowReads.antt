@@ -5,7 +5,7 @@ use Rattle.std.specs.List.{cons_option, count_by, find}
 use Rattle.std.proofs.lemmas.List.Sums.{sum_by-cons}
 use Rattle.std.proofs.lemmas.Map.Entries.{option_filter}
 use Rattle.std.proofs.lemmas.Option.{none-some, same_Some}
-use Rattle.std.proofs.lemmas.Bool.{and_from, and_parts, and_right, cases_Bool, eq-eqb, eqb-true, false≢true, ltb-true, ne_eqb}
+use Rattle.std.proofs.lemmas.Bool.{and_from, and_parts, and_right, cases_Bool, eq-eqb, eqb-true, false≢true, ltb-true}
 use Rattle.eeprom.specs.Chip.{Becomes, Chip}
 use Rattle.eeprom.specs.Slots.{AreApart, has}
 use Rattle.eeprom.proofs.InOrder.{counts, counts_not}

@@ -6,10 +6,9 @@ ghost use Rattle.scql_model.specs.Cursors.{IsCursorOf};
 ghost use Rattle.scql_model.specs.Database.{Database};
 ghost use Rattle.scql_model.specs.Moves.{moved};
 ghost use Rattle.scql_model.specs.ReadBound.{IsOnTableOrView, RisesAtLeast};
-ghost use Rattle.record_table.specs.Making.{IsHeld};
 ghost use Rattle.cursor.specs.Moved.{refuses};
 ghost use Rattle.db_read.specs.Motion.{answer_of, command_of, least_by};
-ghost use Rattle.db_read.specs.Reader.{ReadsOn, Stands};
+ghost use Rattle.db_read.specs.Reader.{read_so_far, ReadsFrom, ReadsOn};
 ghost use Rattle.db_read.specs.Scan.{IsRightFor};
 ghost use Rattle.db_read.specs.Searched.{octets_for_operation};
 
@@ -31,21 +30,20 @@ pub fn advance<B: Eeprom>(
     out: &mut Row,
     scan: &mut Scan,
 ) -> Result<StatusWord, EepromFault>
-    requires stands { Stands B.chip reader.old }
-    ensures moved { (db : Database) → IsHeld reader.old.store.now reader.old.side (B.chip reader.old.bench.now) db → IfSome cursor.old (IsCursorOf db) → IsRightFor db actor scan.old cursor.old → (pending : List ℕ)
+    ensures moved { (db : Database) → ReadsFrom reader.old db → IfSome cursor.old (IsCursorOf db) → IsRightFor db actor scan.old cursor.old → (pending : List ℕ)
         → IfOk result (λ word. moved db actor (record { cursor = cursor.old; pending = pending }) (command_of motion) ≡ answer_of motion word cursor.new out.new) }
     // A refusal and a fault leave the cursor.
-    ensures refused { (db : Database) → IsHeld reader.old.store.now reader.old.side (B.chip reader.old.bench.now) db → IfSome cursor.old (IsCursorOf db) → IsRightFor db actor scan.old cursor.old
+    ensures refused { (db : Database) → ReadsFrom reader.old db → IfSome cursor.old (IsCursorOf db) → IsRightFor db actor scan.old cursor.old
         → IfOk result (λ word. IsTrue (refuses word) → cursor.new ≡ cursor.old) }
     ensures fault { OnErr result (cursor.new ≡ cursor.old) }
     // The scan stays right: for the cursor as it is afterwards.
-    ensures right { (db : Database) → IsHeld reader.old.store.now reader.old.side (B.chip reader.old.bench.now) db → IsRightFor db actor scan.old cursor.old → IsRightFor db actor scan.new cursor.new }
-    ensures octets_read { (db : Database) → IsHeld reader.old.store.now reader.old.side (B.chip reader.old.bench.now) db → IfSome cursor.old (IsCursorOf db) → IsRightFor db actor scan.old cursor.old → IfSome cursor.old (IsOnTableOrView db)
-        → IfOk result (λ _. Becomes (RisesAtMost (octets_for_operation db actor cursor.old (command_of motion))) (B.octets_read reader.old.bench.now) (B.octets_read reader.new.bench.now)) }
+    ensures right { (db : Database) → ReadsFrom reader.old db → IsRightFor db actor scan.old cursor.old → IsRightFor db actor scan.new cursor.new }
+    ensures octets_read { (db : Database) → ReadsFrom reader.old db → IfSome cursor.old (IsCursorOf db) → IsRightFor db actor scan.old cursor.old → IfSome cursor.old (IsOnTableOrView db)
+        → IfOk result (λ _. Becomes (RisesAtMost (octets_for_operation db actor cursor.old (command_of motion))) (read_so_far reader.old) (read_so_far reader.new)) }
     // A row that is handed out was read.
-    ensures least { (db : Database) → IsHeld reader.old.store.now reader.old.side (B.chip reader.old.bench.now) db → IfSome cursor.old (IsCursorOf db) → IsRightFor db actor scan.old cursor.old → IfSome cursor.old (IsOnTableOrView db)
-        → IfOk result (λ word. Becomes (RisesAtLeast (least_by motion word out.new)) (B.octets_read reader.old.bench.now) (B.octets_read reader.new.bench.now)) }
-    ensures reads { ReadsOn each_error B.chip B.faults reader.old reader.new result }
+    ensures least { (db : Database) → ReadsFrom reader.old db → IfSome cursor.old (IsCursorOf db) → IsRightFor db actor scan.old cursor.old → IfSome cursor.old (IsOnTableOrView db)
+        → IfOk result (λ word. Becomes (RisesAtLeast (least_by motion word out.new)) (read_so_far reader.old) (read_so_far reader.new)) }
+    ensures reads { ReadsOn each_error reader.old reader.new result }
 {
     let Some(held) = cursor else {
         return Ok(StatusWord::CONDITIONS_NOT_SATISFIED);

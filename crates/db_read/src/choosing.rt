@@ -3,20 +3,18 @@ ghost use Rattle.std.specs.Prelude.{◌≡◌, ◌*◌, ◌≤◌, Some, IfOk, I
 ghost use Rattle.eeprom.specs.Chip.{Becomes, RisesAtMost};
 ghost use Rattle.eeprom.specs.Fault.{each_error};
 ghost use Rattle.eeprom.specs.StoreOf.{cell_size};
-ghost use Rattle.record_store.specs.Held.{IsOver};
 ghost use Rattle.scql_base.specs.declared.name_list.TheConstants.NameList.{MOST};
 ghost use Rattle.scql_model.specs.Cursors.{IsCursorOf};
 ghost use Rattle.scql_model.specs.Database.{Database, are_named_among, object_stamped};
 ghost use Rattle.scql_model.specs.Moves.{rows_under};
-ghost use Rattle.record_table.specs.Listed.{slots_of};
-ghost use Rattle.record_table.specs.Making.{IsHeld, is_stop_fault};
+ghost use Rattle.record_table.specs.Making.{is_stop_fault};
 ghost use Rattle.record_table.specs.Reading.{NeverFalls};
 ghost use Rattle.search_cond.specs.Bound.{Binds};
 ghost use Rattle.views.specs.Below.{cells_under};
 ghost use Rattle.views.specs.Resolved.{ArePlaces};
 ghost use Rattle.cursor.specs.Costs.{RisesBetween};
 ghost use Rattle.db_read.specs.Answered.{Stops, WhereRead};
-ghost use Rattle.db_read.specs.Reader.{ReadsOn};
+ghost use Rattle.db_read.specs.Reader.{read_so_far, ReadsFrom, ReadsOn, slots_read};
 ghost use Rattle.db_read.specs.Scan.{IsResolved, IsRight};
 ghost use Rattle.db_read.specs.Searched.{cells_chosen};
 
@@ -38,14 +36,13 @@ pub(crate) fn choose<B: Eeprom>(
     cursor: &Cursor,
     scan: &mut Scan,
 ) -> Result<(), Stop>
-    requires over { IsOver reader.old.store.now (B.chip reader.old.bench.now) }
-    ensures right { (db : Database) → IsHeld reader.old.store.now reader.old.side (B.chip reader.old.bench.now) db → IsRight db actor scan.new cursor.now }
+    ensures right { (db : Database) → ReadsFrom reader.old db → IsRight db actor scan.new cursor.now }
     ensures there { IfOk result (λ _. is_some scan.new ≡ true) }
-    ensures refused { (db : Database) → IsHeld reader.old.store.now reader.old.side (B.chip reader.old.bench.now) db → IsCursorOf db cursor.now
+    ensures refused { (db : Database) → ReadsFrom reader.old db → IsCursorOf db cursor.now
         → IfErr result (Stops (rows_under db actor cursor.now)) }
-    ensures octets_read { (db : Database) → IsHeld reader.old.store.now reader.old.side (B.chip reader.old.bench.now) db → IsCursorOf db cursor.now
-        → WhereRead result (Becomes (RisesBetween 0 (cell_size * cells_chosen db actor cursor.now.object)) (B.octets_read reader.old.bench.now) (B.octets_read reader.new.bench.now)) }
-    ensures reads { ReadsOn is_stop_fault B.chip B.faults reader.old reader.new result }
+    ensures octets_read { (db : Database) → ReadsFrom reader.old db → IsCursorOf db cursor.now
+        → WhereRead result (Becomes (RisesBetween 0 (cell_size * cells_chosen db actor cursor.now.object)) (read_so_far reader.old) (read_so_far reader.new)) }
+    ensures reads { ReadsOn is_stop_fault reader.old reader.new result }
 {
     let Scan {
         is_found,
@@ -77,13 +74,12 @@ pub fn resolve<B: Eeprom>(
     object: &Object,
     resolved: &mut Resolved,
 ) -> Result<(), EepromFault>
-    requires over { IsOver reader.old.store.now (B.chip reader.old.bench.now) }
-    ensures rests { (db : Database) → IsHeld reader.old.store.now reader.old.side (B.chip reader.old.bench.now) db → object_stamped db.objects object.now.stamp ≡ Some object.now
+    ensures rests { (db : Database) → ReadsFrom reader.old db → object_stamped db.objects object.now.stamp ≡ Some object.now
         → IfOk result (λ _. IsResolved db.objects object.now resolved.new) }
-    ensures octets_read { (db : Database) → IsHeld reader.old.store.now reader.old.side (B.chip reader.old.bench.now) db
-        → IfOk result (λ _. Becomes (RisesAtMost (cell_size * cells_under db.objects object.now.kind)) (B.octets_read reader.old.bench.now) (B.octets_read reader.new.bench.now)) }
-    ensures rises { IfOk result (λ _. NeverFalls (slots_of reader.old.store.now reader.old.side (B.chip reader.old.bench.now)) (B.octets_read reader.old.bench.now) (B.octets_read reader.new.bench.now)) }
-    ensures reads { ReadsOn each_error B.chip B.faults reader.old reader.new result }
+    ensures octets_read { (db : Database) → ReadsFrom reader.old db
+        → IfOk result (λ _. Becomes (RisesAtMost (cell_size * cells_under db.objects object.now.kind)) (read_so_far reader.old) (read_so_far reader.new)) }
+    ensures rises { IfOk result (λ _. NeverFalls (slots_read reader.old) (read_so_far reader.old) (read_so_far reader.new)) }
+    ensures reads { ReadsOn each_error reader.old reader.new result }
 {
     let columns = match &object.kind {
         ObjectKind::View { .. } => {

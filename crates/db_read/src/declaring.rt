@@ -5,7 +5,6 @@ ghost use Rattle.std.specs.Str.{bytes_eq};
 ghost use Rattle.eeprom.specs.Chip.{Becomes, RisesAtMost};
 ghost use Rattle.eeprom.specs.Fault.{each_error};
 ghost use Rattle.eeprom.specs.StoreOf.{cell_size};
-ghost use Rattle.record_store.specs.Held.{IsOver};
 ghost use Rattle.scql_base.specs.Words.{done};
 ghost use Rattle.scql_base.specs.declared.cursor.Place.TheVariants.{NotOpen};
 ghost use Rattle.scql_model.specs.Database.{Database, are_among, are_named_among};
@@ -13,10 +12,10 @@ ghost use Rattle.scql_model.specs.Machine.{Reading};
 ghost use Rattle.scql_model.specs.Moves.{moved, moved_to};
 ghost use Rattle.scql_model.specs.ReadingCommands as commands;
 ghost use Rattle.scql_model.specs.ReadingCommands.{wanted_of};
-ghost use Rattle.record_table.specs.Making.{IsHeld, is_stop_fault};
+ghost use Rattle.record_table.specs.Making.{is_stop_fault};
 ghost use Rattle.cursor.specs.Moved.{refuses};
 ghost use Rattle.db_read.specs.Answered.{Stops, WhereRead, answered};
-ghost use Rattle.db_read.specs.Reader.{ReadsOn};
+ghost use Rattle.db_read.specs.Reader.{read_so_far, ReadsFrom, ReadsOn};
 ghost use Rattle.db_read.specs.Searched.{cells_named, octets_for_operation};
 
 use crate::columns::columns_of;
@@ -35,14 +34,13 @@ pub fn declare<B: Eeprom>(
     columns: &NameList,
     conditions: &Conditions,
 ) -> Result<StatusWord, EepromFault>
-    requires over { IsOver reader.old.store.now (B.chip reader.old.bench.now) }
-    ensures moved { (db : Database) → IsHeld reader.old.store.now reader.old.side (B.chip reader.old.bench.now) db → (pending : List ℕ)
+    ensures moved { (db : Database) → ReadsFrom reader.old db → (pending : List ℕ)
         → IfOk result (λ word. moved db actor (record { cursor = cursor.old; pending = pending }) (commands.declare object columns.now conditions.now) ≡ answered word cursor.new) }
     ensures refused { IfOk result (λ word. IsTrue (refuses word) → cursor.new ≡ cursor.old) }
     ensures fault { OnErr result (cursor.new ≡ cursor.old) }
-    ensures octets_read { (db : Database) → IsHeld reader.old.store.now reader.old.side (B.chip reader.old.bench.now) db → IfOk result (λ _. Becomes
-        (RisesAtMost (octets_for_operation db actor cursor.old (commands.declare object columns.now conditions.now))) (B.octets_read reader.old.bench.now) (B.octets_read reader.new.bench.now)) }
-    ensures reads { ReadsOn each_error B.chip B.faults reader.old reader.new result }
+    ensures octets_read { (db : Database) → ReadsFrom reader.old db → IfOk result (λ _. Becomes
+        (RisesAtMost (octets_for_operation db actor cursor.old (commands.declare object columns.now conditions.now))) (read_so_far reader.old) (read_so_far reader.new)) }
+    ensures reads { ReadsOn each_error reader.old reader.new result }
 {
     match cursor_on(reader, actor, object, columns, conditions) {
         Ok(declared) => {
@@ -61,15 +59,14 @@ fn cursor_on<B: Eeprom>(
     columns: &NameList,
     conditions: &Conditions,
 ) -> Result<Cursor, Stop>
-    requires over { IsOver reader.old.store.now (B.chip reader.old.bench.now) }
-    ensures declared { (db : Database) → IsHeld reader.old.store.now reader.old.side (B.chip reader.old.bench.now) db → (before : Reading)
+    ensures declared { (db : Database) → ReadsFrom reader.old db → (before : Reading)
         → IfOk result (λ cursor. moved db actor before (commands.declare object columns.now conditions.now) ≡ Ok (moved_to NotOpen cursor done)) }
     ensures new { IfOk result (λ cursor. cursor.place ≡ NotOpen) }
-    ensures refused { (db : Database) → IsHeld reader.old.store.now reader.old.side (B.chip reader.old.bench.now) db → (before : Reading)
+    ensures refused { (db : Database) → ReadsFrom reader.old db → (before : Reading)
         → IfErr result (Stops (moved db actor before (commands.declare object columns.now conditions.now))) }
-    ensures octets_read { (db : Database) → IsHeld reader.old.store.now reader.old.side (B.chip reader.old.bench.now) db
-        → WhereRead result (Becomes (RisesAtMost (cell_size * cells_named db actor object)) (B.octets_read reader.old.bench.now) (B.octets_read reader.new.bench.now)) }
-    ensures reads { ReadsOn is_stop_fault B.chip B.faults reader.old reader.new result }
+    ensures octets_read { (db : Database) → ReadsFrom reader.old db
+        → WhereRead result (Becomes (RisesAtMost (cell_size * cells_named db actor object)) (read_so_far reader.old) (read_so_far reader.new)) }
+    ensures reads { ReadsOn is_stop_fault reader.old reader.new result }
 {
     let mut found = None;
     let object = find_named(reader, actor, object, &mut found)?;

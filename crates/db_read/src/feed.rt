@@ -18,17 +18,13 @@ pub(crate) struct ChosenRows<'a, 'b, 'c, B: Eeprom> {
 
 impl<'a, 'b, 'c, B: Eeprom> RowFeed for ChosenRows<'a, 'b, 'c, B> {
     ghost use Rattle.std.specs.Prelude.{◌≡◌, ℕ, Some};
-    ghost use Rattle.record_store.specs.Held.{IsOver};
     ghost use Rattle.record_table.specs.Listed.{slots_of};
-    ghost use Rattle.row_index.specs.Index.{Indexes};
     ghost use Rattle.db_read.specs.Chosen.{costs_shown, rows_shown};
     ghost use Rattle.db_read.specs.Reader.{Standing, standing};
 
     ghost tells = { λ f rows. rows_shown f.chosen (slots_of f.reader.now.store.now f.reader.now.side (B.chip f.reader.now.bench.now)) ≡ Some rows };
 
     ghost costs = { λ f. costs_shown f.chosen (slots_of f.reader.now.store.now f.reader.now.side (B.chip f.reader.now.bench.now)) };
-
-    ghost can_read = { λ f. IsOver f.reader.now.store.now (B.chip f.reader.now.bench.now) × Indexes f.reader.now.index.now f.reader.now.store.now (B.chip f.reader.now.bench.now) };
 
     ghost Kept = { ℕ × Standing };
 
@@ -62,15 +58,12 @@ pub(crate) struct ToldRows<'a, 'b, 'c, B: Eeprom> {
 
 impl<'a, 'b, 'c, B: Eeprom> RowFeed for ToldRows<'a, 'b, 'c, B> {
     ghost use Rattle.std.specs.Prelude.{ℕ, None};
-    ghost use Rattle.record_store.specs.Held.{IsOver};
     ghost use Rattle.db_read.specs.Reader.{Standing, standing};
     ghost use Rattle.db_read.specs.Told.{TellsRows};
 
     ghost tells = { λ f rows. TellsRows f.told f.reader.now.store.now f.reader.now.side (B.chip f.reader.now.bench.now) rows };
 
     ghost costs = { λ _. None };
-
-    ghost can_read = { λ f. IsOver f.reader.now.store.now (B.chip f.reader.now.bench.now) };
 
     ghost Kept = { ℕ × Standing };
 

@@ -4,15 +4,13 @@ ghost use Rattle.std.proofs.lemmas.Map.Entries.{option_filter};
 ghost use Rattle.eeprom.specs.Chip.{Becomes, RisesAtMost};
 ghost use Rattle.eeprom.specs.Frame.{Reads};
 ghost use Rattle.eeprom.specs.StoreOf.{cell_size};
-ghost use Rattle.record_store.specs.Held.{IsOver};
 ghost use Rattle.scql_model.specs.Database.{Database};
 ghost use Rattle.scql_model.specs.Rights as model;
 ghost use Rattle.scql_model.specs.Rights.{seen_named, seen_stamped};
-ghost use Rattle.record_table.specs.Listed.{slots_of};
-ghost use Rattle.record_table.specs.Making.{IsHeld, is_stop_fault};
+ghost use Rattle.record_table.specs.Making.{is_stop_fault};
 ghost use Rattle.record_table.specs.Reading.{NeverFalls};
 ghost use Rattle.db_read.specs.Answered.{Stops, WhereRead, selectable};
-ghost use Rattle.db_read.specs.Reader.{ReadsOn};
+ghost use Rattle.db_read.specs.Reader.{read_so_far, ReadsFrom, ReadsOn, slots_read};
 ghost use Rattle.db_read.specs.Searched.{cells_named, cells_selected, rights_cells};
 
 use crate::reader::Reader;
@@ -29,14 +27,13 @@ pub fn find_selected<B: Eeprom>(
     stamp: u32,
     place: &mut Option<Object>,
 ) -> Result<(), Stop>
-    requires over { IsOver reader.old.store.now (B.chip reader.old.bench.now) }
-    ensures found { (db : Database) → IsHeld reader.old.store.now reader.old.side (B.chip reader.old.bench.now) db → IfOk result (λ _. IfSome place.new (λ object. selectable db actor (seen_stamped db actor stamp) ≡ Ok object)) }
+    ensures found { (db : Database) → ReadsFrom reader.old db → IfOk result (λ _. IfSome place.new (λ object. selectable db actor (seen_stamped db actor stamp) ≡ Ok object)) }
     ensures there { IfOk result (λ _. is_some place.new ≡ true) }
-    ensures refused { (db : Database) → IsHeld reader.old.store.now reader.old.side (B.chip reader.old.bench.now) db → IfErr result (Stops (selectable db actor (seen_stamped db actor stamp))) }
-    ensures octets_read { (db : Database) → IsHeld reader.old.store.now reader.old.side (B.chip reader.old.bench.now) db
-        → WhereRead result (Becomes (RisesAtMost (cell_size * cells_selected db actor stamp)) (B.octets_read reader.old.bench.now) (B.octets_read reader.new.bench.now)) }
-    ensures rises { WhereRead result (NeverFalls (slots_of reader.old.store.now reader.old.side (B.chip reader.old.bench.now)) (B.octets_read reader.old.bench.now) (B.octets_read reader.new.bench.now)) }
-    ensures reads { ReadsOn is_stop_fault B.chip B.faults reader.old reader.new result }
+    ensures refused { (db : Database) → ReadsFrom reader.old db → IfErr result (Stops (selectable db actor (seen_stamped db actor stamp))) }
+    ensures octets_read { (db : Database) → ReadsFrom reader.old db
+        → WhereRead result (Becomes (RisesAtMost (cell_size * cells_selected db actor stamp)) (read_so_far reader.old) (read_so_far reader.new)) }
+    ensures rises { WhereRead result (NeverFalls (slots_read reader.old) (read_so_far reader.old) (read_so_far reader.new)) }
+    ensures reads { ReadsOn is_stop_fault reader.old reader.new result }
 {
     find_stamp_into(reader.store, reader.bench, reader.side, stamp, place)?;
     select(reader, actor, place)?;
@@ -50,12 +47,11 @@ pub(crate) fn find_named<'a, B: Eeprom>(
     name: Name,
     place: &'a mut Option<Object>,
 ) -> Result<&'a Object, Stop>
-    requires over { IsOver reader.old.store.now (B.chip reader.old.bench.now) }
-    ensures found { (db : Database) → IsHeld reader.old.store.now reader.old.side (B.chip reader.old.bench.now) db → IfOk result (λ object. selectable db actor (seen_named db actor name) ≡ Ok object.now) }
-    ensures refused { (db : Database) → IsHeld reader.old.store.now reader.old.side (B.chip reader.old.bench.now) db → IfErr result (Stops (selectable db actor (seen_named db actor name))) }
-    ensures octets_read { (db : Database) → IsHeld reader.old.store.now reader.old.side (B.chip reader.old.bench.now) db
-        → WhereRead result (Becomes (RisesAtMost (cell_size * cells_named db actor name)) (B.octets_read reader.old.bench.now) (B.octets_read reader.new.bench.now)) }
-    ensures reads { ReadsOn is_stop_fault B.chip B.faults reader.old reader.new result }
+    ensures found { (db : Database) → ReadsFrom reader.old db → IfOk result (λ object. selectable db actor (seen_named db actor name) ≡ Ok object.now) }
+    ensures refused { (db : Database) → ReadsFrom reader.old db → IfErr result (Stops (selectable db actor (seen_named db actor name))) }
+    ensures octets_read { (db : Database) → ReadsFrom reader.old db
+        → WhereRead result (Becomes (RisesAtMost (cell_size * cells_named db actor name)) (read_so_far reader.old) (read_so_far reader.new)) }
+    ensures reads { ReadsOn is_stop_fault reader.old reader.new result }
 {
     find_name_into(reader.store, reader.bench, reader.side, name, place)?;
     select(reader, actor, place)
@@ -67,16 +63,15 @@ fn select<'a, B: Eeprom>(
     actor: Actor,
     found: &'a Option<Object>,
 ) -> Result<&'a Object, Stop>
-    requires over { IsOver reader.old.store.now (B.chip reader.old.bench.now) }
-    ensures found { (db : Database) → IsHeld reader.old.store.now reader.old.side (B.chip reader.old.bench.now) db
+    ensures found { (db : Database) → ReadsFrom reader.old db
         → IfOk result (λ object. selectable db actor (option_filter (model.appears db actor) found.now) ≡ Ok object.now) }
-    ensures refused { (db : Database) → IsHeld reader.old.store.now reader.old.side (B.chip reader.old.bench.now) db
+    ensures refused { (db : Database) → ReadsFrom reader.old db
         → IfErr result (Stops (selectable db actor (option_filter (model.appears db actor) found.now))) }
     ensures there { IfOk result (λ object. found.now ≡ Some object.now) }
-    ensures octets_read { (db : Database) → IsHeld reader.old.store.now reader.old.side (B.chip reader.old.bench.now) db
-        → WhereRead result (Becomes (RisesAtMost (cell_size * rights_cells db actor found.now)) (B.octets_read reader.old.bench.now) (B.octets_read reader.new.bench.now)) }
-    ensures rises { WhereRead result (NeverFalls (slots_of reader.old.store.now reader.old.side (B.chip reader.old.bench.now)) (B.octets_read reader.old.bench.now) (B.octets_read reader.new.bench.now)) }
-    ensures reads { ReadsOn is_stop_fault B.chip B.faults reader.old reader.new result }
+    ensures octets_read { (db : Database) → ReadsFrom reader.old db
+        → WhereRead result (Becomes (RisesAtMost (cell_size * rights_cells db actor found.now)) (read_so_far reader.old) (read_so_far reader.new)) }
+    ensures rises { WhereRead result (NeverFalls (slots_read reader.old) (read_so_far reader.old) (read_so_far reader.new)) }
+    ensures reads { ReadsOn is_stop_fault reader.old reader.new result }
 {
     let Some(object) = found else {
         return refused(StatusWord::NOT_FOUND);

@@ -2,19 +2,17 @@
 ghost use Rattle.std.specs.Prelude.{List, IfOk, IfSome};
 ghost use Rattle.eeprom.specs.Chip.{Becomes};
 ghost use Rattle.eeprom.specs.Fault.{each_error};
-ghost use Rattle.eeprom.specs.Frame.{Reads};
 ghost use Rattle.scql_base.specs.declared.cursor.Cursor.{Cursor};
 ghost use Rattle.scql_base.specs.declared.words.Actor.{Actor};
 ghost use Rattle.scql_model.specs.Cursors.{IsCursorOf};
 ghost use Rattle.scql_model.specs.Database.{Database};
 ghost use Rattle.scql_model.specs.Objects.{StampedRow};
-ghost use Rattle.record_table.specs.Making.{IsHeld};
 ghost use Rattle.cursor.specs.Costs.{RisesBetween};
 ghost use Rattle.cursor.specs.Feed as feed;
 ghost use Rattle.cursor.specs.Moved.{AreStamped};
 ghost use Rattle.db_read.specs.Advanced.{Advances};
 ghost use Rattle.db_read.specs.Motion.{Goes, Stays, cost_by, least_by};
-ghost use Rattle.db_read.specs.Reader.{ReadsOn, Stands};
+ghost use Rattle.db_read.specs.Reader.{read_so_far, ReadsFrom, ReadsOn};
 ghost use Rattle.db_read.specs.Scan.{IsChosenFor};
 
 use crate::chosen::Chosen;
@@ -36,11 +34,10 @@ pub(crate) fn go<B: Eeprom>(
     out: &mut Row,
     room: &mut RowRoom,
 ) -> Result<StatusWord, EepromFault>
-    requires stands { Stands B.chip reader.old }
-    ensures advances { (db : Database) (actor : Actor) (c : Cursor) → IsHeld reader.old.store.now reader.old.side (B.chip reader.old.bench.now) db → IsCursorOf db c → IsChosenFor db actor c choice.now
-        → IfOk result (λ word. Advances db actor c motion place.old place.new word out.new (B.octets_read reader.old.bench.now) (B.octets_read reader.new.bench.now)) }
+    ensures advances { (db : Database) (actor : Actor) (c : Cursor) → ReadsFrom reader.old db → IsCursorOf db c → IsChosenFor db actor c choice.now
+        → IfOk result (λ word. Advances db actor c motion place.old place.new word out.new (read_so_far reader.old) (read_so_far reader.new)) }
     ensures stays { IfOk result (Stays motion place.old place.new) }
-    ensures reads { ReadsOn each_error B.chip B.faults reader.old reader.new result }
+    ensures reads { ReadsOn each_error reader.old reader.new result }
 {
     if let Some(told) = Told::of(choice) {
         let mut rows = ToldRows { reader, told };
@@ -63,13 +60,11 @@ fn move_over<F: RowFeed>(
     place: &mut Place,
     out: &mut Row,
 ) -> Result<StatusWord, EepromFault>
-    requires { F.can_read rows.old }
     ensures goes { IfOk result (λ word. (told : List StampedRow) → F.tells rows.old told → AreStamped told → (c : Cursor) → Goes motion place.old place.new word out.new told c) }
     ensures stays { IfOk result (Stays motion place.old place.new) }
     ensures read { IfOk result (λ word. (told : List StampedRow) → F.tells rows.old told → IfSome (F.costs rows.old)
         (λ costs. Becomes (RisesBetween (least_by motion word out.new) (cost_by motion place.old place.new told costs)) (F.octets_read rows.old) (F.octets_read rows.new))) }
-    ensures rest { feed.Stays F.tells F.costs F.kept F.can_read rows.old rows.new }
-    ensures frame { Reads each_error F.chip F.faults rows.old rows.new result }
+    ensures rest { feed.Stays F.tells F.costs F.kept F.chip F.faults rows.old rows.new result }
 {
     match motion {
         Motion::Open => first(rows, place),

@@ -7,12 +7,12 @@ ghost use Rattle.eeprom.specs.Fault.{each_error};
 ghost use Rattle.eeprom.specs.Frame.{Reads};
 ghost use Rattle.eeprom.specs.Slots.{has};
 ghost use Rattle.eeprom.specs.StoreOf.{cell_size};
-ghost use Rattle.record_store.specs.Held.{IsOver, StandsFor, record_at};
+ghost use Rattle.record_store.specs.Held.{StandsFor, record_at};
 ghost use Rattle.scql_base.specs.Row.{row_size};
 ghost use Rattle.scql_base.specs.declared.cursor.Place.{Place};
 ghost use Rattle.scql_model.specs.Moves as moves;
 ghost use Rattle.catalog_codec.specs.Catalog.{row_kind};
-ghost use Rattle.record_table.specs.Listed.{at_slot, has_kind_mark, kind_cells, listed, slots_of};
+ghost use Rattle.record_table.specs.Listed.{at_slot, has_kind_mark, kind_cells, listed};
 ghost use Rattle.row_index.specs.Index.{WhereIndexed};
 ghost use Rattle.row_index.specs.Places.{is_later_in, place_stamp, row_places};
 ghost use Rattle.row_table.specs.Found.{is_row_after};
@@ -20,7 +20,7 @@ ghost use Rattle.cursor.specs.Costs.{RisesBetween, cost_behind, cost_of, size_ha
 ghost use Rattle.cursor.specs.Moved.{handed, row_handed};
 ghost use Rattle.db_read.specs.Chosen.{IsNextShown, costs_shown, rows_shown};
 ghost use Rattle.db_read.specs.Costs.{cost_passed, cost_reached, least_of, row_costs, row_read};
-ghost use Rattle.db_read.specs.Reader.{ReadsOn, Stands};
+ghost use Rattle.db_read.specs.Reader.{read_so_far, ReadsOn, slots_read};
 
 use crate::chosen::{Chosen, cut_into};
 use crate::reader::Reader;
@@ -39,12 +39,11 @@ pub(crate) fn next_chosen<B: Eeprom>(
     stamp: u32,
     room: &mut RowRoom,
 ) -> Result<Option<u32>, EepromFault>
-    requires stands { Stands B.chip reader.old }
-    ensures next { IfOk result (λ next. IfSome (rows_shown chosen.now (slots_of reader.old.store.now reader.old.side (B.chip reader.old.bench.now)))
+    ensures next { IfOk result (λ next. IfSome (rows_shown chosen.now (slots_read reader.old))
         (λ rows. next ≡ option_map (λ row. row.stamp) (moves.row_behind (Place.At stamp) rows))) }
-    ensures octets_read { IfOk result (λ next. IfSome (costs_shown chosen.now (slots_of reader.old.store.now reader.old.side (B.chip reader.old.bench.now)))
-        (λ costs. Becomes (RisesBetween 0 (cost_behind stamp next costs)) (B.octets_read reader.old.bench.now) (B.octets_read reader.new.bench.now))) }
-    ensures reads { ReadsOn each_error B.chip B.faults reader.old reader.new result }
+    ensures octets_read { IfOk result (λ next. IfSome (costs_shown chosen.now (slots_read reader.old))
+        (λ costs. Becomes (RisesBetween 0 (cost_behind stamp next costs)) (read_so_far reader.old) (read_so_far reader.new))) }
+    ensures reads { ReadsOn each_error reader.old reader.new result }
 {
     if chosen.shows_all() {
         Ok(stamp_behind(
@@ -68,12 +67,11 @@ pub(crate) fn next_chosen_row<B: Eeprom>(
     out: &mut Row,
     room: &mut RowRoom,
 ) -> Result<Option<u32>, EepromFault>
-    requires stands { Stands B.chip reader.old }
-    ensures next { IfOk result (λ next. IfSome (rows_shown chosen.now (slots_of reader.old.store.now reader.old.side (B.chip reader.old.bench.now)))
+    ensures next { IfOk result (λ next. IfSome (rows_shown chosen.now (slots_read reader.old))
         (λ rows. row_handed next out.new ≡ moves.row_behind (Place.At stamp) rows)) }
-    ensures octets_read { IfOk result (λ next. IfSome (costs_shown chosen.now (slots_of reader.old.store.now reader.old.side (B.chip reader.old.bench.now)))
-        (λ costs. Becomes (RisesBetween (size_handed next out.new) (cost_behind stamp next costs)) (B.octets_read reader.old.bench.now) (B.octets_read reader.new.bench.now))) }
-    ensures reads { ReadsOn each_error B.chip B.faults reader.old reader.new result }
+    ensures octets_read { IfOk result (λ next. IfSome (costs_shown chosen.now (slots_read reader.old))
+        (λ costs. Becomes (RisesBetween (size_handed next out.new) (cost_behind stamp next costs)) (read_so_far reader.old) (read_so_far reader.new))) }
+    ensures reads { ReadsOn each_error reader.old reader.new result }
 {
     if shown_behind(reader, chosen, stamp, room)? {
         cut_into(chosen.places, &room.row.row, out);
@@ -91,12 +89,11 @@ pub(crate) fn chosen_row<B: Eeprom>(
     out: &mut Row,
     room: &mut RowRoom,
 ) -> Result<bool, EepromFault>
-    requires stands { Stands B.chip reader.old }
-    ensures there { IfOk result (λ there. IfSome (rows_shown chosen.now (slots_of reader.old.store.now reader.old.side (B.chip reader.old.bench.now)))
+    ensures there { IfOk result (λ there. IfSome (rows_shown chosen.now (slots_read reader.old))
         (λ rows. handed there out.new ≡ option_map (λ row. row.values) (moves.row_at stamp rows))) }
-    ensures octets_read { IfOk result (λ there. IfSome (costs_shown chosen.now (slots_of reader.old.store.now reader.old.side (B.chip reader.old.bench.now)))
-        (λ costs. Becomes (RisesBetween (if there then row_size out.new else 0) (cost_of stamp costs)) (B.octets_read reader.old.bench.now) (B.octets_read reader.new.bench.now))) }
-    ensures reads { ReadsOn each_error B.chip B.faults reader.old reader.new result }
+    ensures octets_read { IfOk result (λ there. IfSome (costs_shown chosen.now (slots_read reader.old))
+        (λ costs. Becomes (RisesBetween (if there then row_size out.new else 0) (cost_of stamp costs)) (read_so_far reader.old) (read_so_far reader.new))) }
+    ensures reads { ReadsOn each_error reader.old reader.new result }
 {
     if !row_of_table(reader, chosen.table, stamp, room)? {
         return Ok(false);
@@ -130,12 +127,11 @@ fn next_read<B: Eeprom>(
     stamp: u32,
     room: &mut RowRoom,
 ) -> Result<Option<u32>, EepromFault>
-    requires stands { Stands B.chip reader.old }
-    ensures next { IfOk result (λ next. IfSome (rows_shown chosen.now (slots_of reader.old.store.now reader.old.side (B.chip reader.old.bench.now)))
+    ensures next { IfOk result (λ next. IfSome (rows_shown chosen.now (slots_read reader.old))
         (λ rows. next ≡ option_map (λ row. row.stamp) (moves.row_behind (Place.At stamp) rows))) }
-    ensures octets_read { IfOk result (λ next. IfSome (costs_shown chosen.now (slots_of reader.old.store.now reader.old.side (B.chip reader.old.bench.now)))
-        (λ costs. Becomes (RisesBetween 0 (cost_behind stamp next costs)) (B.octets_read reader.old.bench.now) (B.octets_read reader.new.bench.now))) }
-    ensures reads { ReadsOn each_error B.chip B.faults reader.old reader.new result }
+    ensures octets_read { IfOk result (λ next. IfSome (costs_shown chosen.now (slots_read reader.old))
+        (λ costs. Becomes (RisesBetween 0 (cost_behind stamp next costs)) (read_so_far reader.old) (read_so_far reader.new))) }
+    ensures reads { ReadsOn each_error reader.old reader.new result }
 {
     if shown_behind(reader, chosen, stamp, room)? {
         Ok(Some(room.row.stamp))
@@ -153,11 +149,10 @@ fn shown_behind<B: Eeprom>(
     stamp: u32,
     room: &mut RowRoom,
 ) -> Result<bool, EepromFault>
-    requires stands { Stands B.chip reader.old }
-    ensures next { IfOk result (λ there. IfSome (slots_of reader.old.store.now reader.old.side (B.chip reader.old.bench.now)) (IsNextShown chosen.now stamp (row_read there room.new.row))) }
-    ensures octets_read { IfOk result (λ there. IfSome (slots_of reader.old.store.now reader.old.side (B.chip reader.old.bench.now))
-        (λ slots. Becomes (RisesBetween (least_of (row_read there room.new.row)) (cost_passed chosen.now.table stamp slots (row_read there room.new.row))) (B.octets_read reader.old.bench.now) (B.octets_read reader.new.bench.now))) }
-    ensures reads { ReadsOn each_error B.chip B.faults reader.old reader.new result }
+    ensures next { IfOk result (λ there. IfSome (slots_read reader.old) (IsNextShown chosen.now stamp (row_read there room.new.row))) }
+    ensures octets_read { IfOk result (λ there. IfSome (slots_read reader.old)
+        (λ slots. Becomes (RisesBetween (least_of (row_read there room.new.row)) (cost_passed chosen.now.table stamp slots (row_read there room.new.row))) (read_so_far reader.old) (read_so_far reader.new))) }
+    ensures reads { ReadsOn each_error reader.old reader.new result }
 {
     let mut passed = stamp;
     while row_behind(reader, chosen.table, passed, room)? {
@@ -177,12 +172,11 @@ fn row_behind<B: Eeprom>(
     stamp: u32,
     room: &mut RowRoom,
 ) -> Result<bool, EepromFault>
-    requires stands { Stands B.chip reader.old }
     ensures behind { IfOk result (λ there. IsTrue there → stamp < room.new.row.stamp) }
-    ensures next { IfOk result (λ there. IfSome (slots_of reader.old.store.now reader.old.side (B.chip reader.old.bench.now)) (λ slots. row_read there room.new.row ≡ find (is_row_after table stamp) (listed row_kind slots))) }
-    ensures octets_read { IfOk result (λ there. IfSome (slots_of reader.old.store.now reader.old.side (B.chip reader.old.bench.now))
-        (λ slots. Becomes (RisesBetween (least_of (row_read there room.new.row)) (cost_reached table slots (row_read there room.new.row))) (B.octets_read reader.old.bench.now) (B.octets_read reader.new.bench.now))) }
-    ensures reads { ReadsOn each_error B.chip B.faults reader.old reader.new result }
+    ensures next { IfOk result (λ there. IfSome (slots_read reader.old) (λ slots. row_read there room.new.row ≡ find (is_row_after table stamp) (listed row_kind slots))) }
+    ensures octets_read { IfOk result (λ there. IfSome (slots_read reader.old)
+        (λ slots. Becomes (RisesBetween (least_of (row_read there room.new.row)) (cost_reached table slots (row_read there room.new.row))) (read_so_far reader.old) (read_so_far reader.new))) }
+    ensures reads { ReadsOn each_error reader.old reader.new result }
 {
     let (store, index) = (reader.store, reader.index);
     let Some((_, slot)) = index.next_after(store, reader.side, table, stamp, &mut room.near) else {
@@ -205,12 +199,11 @@ fn row_of_table<B: Eeprom>(
     stamp: u32,
     room: &mut RowRoom,
 ) -> Result<bool, EepromFault>
-    requires stands { Stands B.chip reader.old }
-    ensures found { IfOk result (λ there. IfSome (slots_of reader.old.store.now reader.old.side (B.chip reader.old.bench.now))
+    ensures found { IfOk result (λ there. IfSome (slots_read reader.old)
         (λ slots. row_read there room.new.row ≡ option_filter (λ row. row.table == table) (find (has row_kind.key stamp) (listed row_kind slots)))) }
-    ensures octets_read { IfOk result (λ there. IfSome (slots_of reader.old.store.now reader.old.side (B.chip reader.old.bench.now))
-        (λ slots. Becomes (RisesBetween (least_of (row_read there room.new.row)) (cost_of stamp (row_costs table slots))) (B.octets_read reader.old.bench.now) (B.octets_read reader.new.bench.now))) }
-    ensures reads { ReadsOn each_error B.chip B.faults reader.old reader.new result }
+    ensures octets_read { IfOk result (λ there. IfSome (slots_read reader.old)
+        (λ slots. Becomes (RisesBetween (least_of (row_read there room.new.row)) (cost_of stamp (row_costs table slots))) (read_so_far reader.old) (read_so_far reader.new))) }
+    ensures reads { ReadsOn each_error reader.old reader.new result }
 {
     let (store, index) = (reader.store, reader.index);
     let Some(slot) = index.find(store, reader.side, table, stamp, room.near) else {
@@ -226,12 +219,11 @@ pub fn row_in<B: Eeprom>(
     slot: u16,
     room: &mut RowRoom,
 ) -> Result<bool, EepromFault>
-    requires over { IsOver reader.old.store.now (B.chip reader.old.bench.now) }
     requires slot { slot < reader.old.store.now.chains.cells }
-    ensures value { IfOk result (λ there. IfSome (slots_of reader.old.store.now reader.old.side (B.chip reader.old.bench.now)) (λ slots. row_read there room.new.row ≡ at_slot row_kind slot slots)) }
-    ensures octets_read { IfOk result (λ there. IfSome (slots_of reader.old.store.now reader.old.side (B.chip reader.old.bench.now))
-        (λ slots. Becomes (RisesBetween (least_of (row_read there room.new.row)) (cell_size * kind_cells row_kind (slice_index_or slots slot None))) (B.octets_read reader.old.bench.now) (B.octets_read reader.new.bench.now))) }
-    ensures reads { ReadsOn each_error B.chip B.faults reader.old reader.new result }
+    ensures value { IfOk result (λ there. IfSome (slots_read reader.old) (λ slots. row_read there room.new.row ≡ at_slot row_kind slot slots)) }
+    ensures octets_read { IfOk result (λ there. IfSome (slots_read reader.old)
+        (λ slots. Becomes (RisesBetween (least_of (row_read there room.new.row)) (cell_size * kind_cells row_kind (slice_index_or slots slot None))) (read_so_far reader.old) (read_so_far reader.new))) }
+    ensures reads { ReadsOn each_error reader.old reader.new result }
 {
     if !is_row(reader.store, reader.side, slot) {
         return Ok(false);

@@ -2,7 +2,6 @@
 ghost use Rattle.std.specs.Prelude.{◌≡◌, List, Some, IfOk, IfSome, IsNone, option_map, true, false};
 ghost use Rattle.eeprom.specs.Fault.{each_error};
 ghost use Rattle.eeprom.specs.Frame.{Reads};
-ghost use Rattle.record_store.specs.Held.{IsOver};
 ghost use Rattle.scql_base.specs.Row.{are_a_row};
 ghost use Rattle.scql_base.specs.declared.cursor.Place.{Place};
 ghost use Rattle.scql_model.specs.Defining.{is_table_or_view};
@@ -58,10 +57,9 @@ pub(crate) fn next_told<B: Eeprom>(
     told: &Told<'_>,
     stamp: u32,
 ) -> Result<Option<u32>, EepromFault>
-    requires over { IsOver reader.old.store.now (B.chip reader.old.bench.now) }
     ensures next { IfOk result (λ next. (rows : List StampedRow) → TellsRows told.now reader.old.store.now reader.old.side (B.chip reader.old.bench.now) rows
         → next ≡ option_map (λ row. row.stamp) (moves.row_behind (Place.At stamp) rows)) }
-    ensures reads { ReadsOn each_error B.chip B.faults reader.old reader.new result }
+    ensures reads { ReadsOn each_error reader.old reader.new result }
 {
     let mut row = Row::new();
     told_behind(reader, told, stamp, &mut row)
@@ -74,10 +72,9 @@ pub(crate) fn next_told_row<B: Eeprom>(
     stamp: u32,
     out: &mut Row,
 ) -> Result<Option<u32>, EepromFault>
-    requires over { IsOver reader.old.store.now (B.chip reader.old.bench.now) }
     ensures next { IfOk result (λ next. (rows : List StampedRow) → TellsRows told.now reader.old.store.now reader.old.side (B.chip reader.old.bench.now) rows
         → row_handed next out.new ≡ moves.row_behind (Place.At stamp) rows) }
-    ensures reads { ReadsOn each_error B.chip B.faults reader.old reader.new result }
+    ensures reads { ReadsOn each_error reader.old reader.new result }
 {
     let mut row = Row::new();
     let Some(next) = told_behind(reader, told, stamp, &mut row)? else {
@@ -94,12 +91,11 @@ fn told_behind<B: Eeprom>(
     stamp: u32,
     row: &mut Row,
 ) -> Result<Option<u32>, EepromFault>
-    requires over { IsOver reader.old.store.now (B.chip reader.old.bench.now) }
     ensures next { IfOk result (λ next. (rows : List StampedRow) → TellsRows told.now reader.old.store.now reader.old.side (B.chip reader.old.bench.now) rows
         → shown_told told.now next row.new ≡ moves.row_behind (Place.At stamp) rows) }
     ensures can_cut { IfOk result (λ next. IfSome next (λ _. (rows : List StampedRow) → TellsRows told.now reader.old.store.now reader.old.side (B.chip reader.old.bench.now) rows
         → are_a_row (values_at told.now.places.now.items row.new) ≡ true)) }
-    ensures reads { ReadsOn each_error B.chip B.faults reader.old reader.new result }
+    ensures reads { ReadsOn each_error reader.old reader.new result }
 {
     let mut passed = stamp;
     while let Some(next) = next_after(
@@ -130,10 +126,9 @@ pub(crate) fn told_row<B: Eeprom>(
     stamp: u32,
     out: &mut Row,
 ) -> Result<bool, EepromFault>
-    requires over { IsOver reader.old.store.now (B.chip reader.old.bench.now) }
     ensures there { IfOk result (λ there. (rows : List StampedRow) → TellsRows told.now reader.old.store.now reader.old.side (B.chip reader.old.bench.now) rows
         → handed there out.new ≡ option_map (λ row. row.values) (moves.row_at stamp rows)) }
-    ensures reads { ReadsOn each_error B.chip B.faults reader.old reader.new result }
+    ensures reads { ReadsOn each_error reader.old reader.new result }
 {
     if stamp == 0 {
         return Ok(false);

@@ -1,5 +1,5 @@
 -- DELETE: which row goes, or the first refusal; and how the index follows.
-use Rattle.std.proofs.Common.{◌≡◌, ℕ, true, List, [], ◌∷◌, Option, Some, None, Ok, Err, refl, sym, ap, ◌∙◌}
+use Rattle.std.proofs.Common.{◌≡◌, ℕ, true, List, [], ◌∷◌, Option, Some, None, Ok, Err, refl, sym, ◌∙◌}
 use Rattle.std.proofs.lemmas.Bool.{ltb-false}
 use Rattle.eeprom.specs.Chip.{Chip}
 use Rattle.scql_base.specs.Words.{conditions_not_satisfied, record_not_found}
@@ -18,7 +18,6 @@ use Rattle.scql_model.proofs.KeepsRows.{deleted-keeps}
 use Rattle.record_table.specs.Making.{IsValidWith}
 use Rattle.record_table.specs.declared.stop.Stop.{Stop}
 use Rattle.record_table.specs.declared.stop.Stop.TheVariants.{Refused, Fault}
-use Rattle.row_index.specs.Index.{Index}
 use Rattle.row_table.specs.Tables.{RemovesRow, Stand}
 use Rattle.row_table.specs.declared.tables.Tables.{Tables}
 use Rattle.row_table.proofs.Endings.{Follows}

@@ -1,11 +1,8 @@
 // INSERT.
 ghost use Rattle.std.specs.Prelude.{◌≡◌, true, length};
-ghost use Rattle.eeprom.specs.Frame.{Reads};
-ghost use Rattle.record_store.specs.Held.{IsOver};
 ghost use Rattle.record_store.specs.declared.side.Side.TheVariants.{Working};
 ghost use Rattle.scql_base.specs.declared.operation.Operation.TheVariants as operation;
 ghost use Rattle.scql_model.specs.Database as model;
-ghost use Rattle.scql_model.specs.Database.{Database};
 ghost use Rattle.scql_model.specs.Edits.{making};
 ghost use Rattle.scql_model.specs.Objects.{columns_of};
 ghost use Rattle.scql_model.specs.Records.{of_row};
@@ -13,14 +10,15 @@ ghost use Rattle.scql_model.specs.WellFormed.{FitsCard, HasForm};
 ghost use Rattle.scql_model.specs.Writing.{row_inserted};
 ghost use Rattle.catalog_codec.specs.Catalog.{row_kind};
 ghost use Rattle.catalog_codec.specs.Kinds.{FitsChain};
-ghost use Rattle.record_table.specs.Making.{IsHeld, is_stop_fault};
+ghost use Rattle.record_table.specs.Asking.{Asks};
+ghost use Rattle.record_table.specs.Making.{is_stop_fault};
 ghost use Rattle.row_table.specs.Tables.{Ended, InTransaction};
 ghost use Rattle.db_write.specs.Reached.{AnswersEdits};
 
 use eeprom::Eeprom;
 use object_table::find_name_into;
 use privilege_table::{Privilege, rights_on};
-use record_store::{Side, Store};
+use record_store::{Side, SideReader};
 use record_table::{Stop, next_stamp, refused};
 use row_table::Tables;
 use scql_base::{Actor, Name, ObjectKind, Row, RowRecord, StatusWord};
@@ -37,7 +35,12 @@ pub fn insert<B: Eeprom>(
     ensures { Ended B.chip B.faults (λ db. HasForm (operation.Insert table row.now) × FitsCard db.limit (operation.Insert table row.now)) (λ db. row_inserted db actor table row.now)
         bench.old bench.new tables.old tables.new result }
 {
-    let table = find_table(&tables.store, bench, actor, table, row)?;
+    let mut reader = SideReader {
+        store: &tables.store,
+        bench,
+        side: Side::Working,
+    };
+    let table = find_table(&mut reader, actor, table, row)?;
     let counter = next_stamp(&tables.store, bench)?;
     let record = new_record(counter.value.next, table, row);
     tables.make_row(bench, &counter, &record)
@@ -45,23 +48,19 @@ pub fn insert<B: Eeprom>(
 
 // The stamp of the table into which the actor may insert the row, or the first refusal.
 fn find_table<B: Eeprom>(
-    store: &Store,
-    bench: &mut B,
+    reader: &mut SideReader<'_, '_, B>,
     actor: Actor,
     name: Name,
     row: &Row,
 ) -> Result<u32, Stop>
-    requires over { IsOver store.now (B.chip bench.old) }
-    ensures found { (db : Database) → IsHeld store.now Working (B.chip bench.old) db
-        → AnswersEdits (λ table. making db (of_row (record { stamp = db.next; table = table; row = row.now }))) (row_inserted db actor name row.now) result }
-    ensures frame { Reads is_stop_fault B.chip B.faults bench.old bench.new result }
+    ensures { Asks is_stop_fault (λ db. AnswersEdits (λ table. making db (of_row (record { stamp = db.next; table = table; row = row.now }))) (row_inserted db actor name row.now)) reader.old reader.new result }
 {
     let mut place = None;
-    find_name_into(store, bench, Side::Working, name, &mut place)?;
+    find_name_into(reader.store, reader.bench, reader.side, name, &mut place)?;
     let Some(object) = &place else {
         return refused(StatusWord::NOT_FOUND);
     };
-    let rights = rights_on(store, bench, Side::Working, actor, object)?;
+    let rights = rights_on(reader.store, reader.bench, reader.side, actor, object)?;
     if !rights.see() {
         return refused(StatusWord::NOT_FOUND);
     }

@@ -14,7 +14,7 @@ ghost use Rattle.privilege_table.specs.Rights.{privilege_bit};
 ghost use Rattle.record_table.specs.Making.{IsHeld, is_stop_fault};
 ghost use Rattle.row_table.specs.Tables.{Stand};
 ghost use Rattle.search_cond.specs.Bound.{passes};
-ghost use Rattle.db_read.specs.Reader.{ReadsOn};
+ghost use Rattle.db_read.specs.Reader.{ReadsFrom, ReadsOn};
 ghost use Rattle.db_read.specs.Scan.{IsRight, found_in};
 ghost use Rattle.db_write.specs.Reached.{FindsRow, HasTable, IsChosen, IsInSlot, IsStopOf, IsWritten, is_reached};
 ghost use Rattle.db_write.specs.Reached as reached;
@@ -114,9 +114,9 @@ fn find_object<B: Eeprom>(
 }
 
 /// The slot of the row at which a cursor on the chosen object stands, where the row is among the cursor's rows. It is read into a place.
-pub(crate) fn find_row<B: Eeprom>(
-    tables: &Tables,
-    bench: &mut B,
+pub(crate) fn find_row<'a, B: Eeprom>(
+    tables: &'a Tables,
+    bench: &'a mut B,
     cursor: &Cursor,
     is_found: bool,
     choice: &mut Choice,
@@ -162,10 +162,9 @@ fn find_table<B: Eeprom>(
     is_found: bool,
     choice: &mut Choice,
 ) -> Result<bool, EepromFault>
-    requires over { IsOver reader.old.store.now (B.chip reader.old.bench.now) }
-    ensures found { (db : Database) → IsHeld reader.old.store.now reader.old.side (B.chip reader.old.bench.now) db → IsChosen db cursor.now is_found choice.old → IfOk result (HasTable db cursor.now choice.new) }
+    ensures found { (db : Database) → ReadsFrom reader.old db → IsChosen db cursor.now is_found choice.old → IfOk result (HasTable db cursor.now choice.new) }
     ensures same { found_in is_found choice.new ≡ found_in is_found choice.old }
-    ensures reads { ReadsOn each_error B.chip B.faults reader.old reader.new result }
+    ensures reads { ReadsOn each_error reader.old reader.new result }
 {
     if is_found {
         return Ok(true);

@@ -4,6 +4,7 @@ pub mod Faults
 pub mod FreshImage
 pub mod Header
 pub mod Held
+pub mod HeldLaws
 pub mod Kept
 pub mod Opening
 pub mod Put

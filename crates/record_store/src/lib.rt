@@ -11,6 +11,7 @@ mod layout;
 mod opening;
 mod refusal;
 mod side;
+mod side_reader;
 mod slot_tags;
 mod slots;
 mod store;
@@ -23,6 +24,7 @@ pub use found::Found;
 pub use opening::Opening;
 pub use refusal::{FormatRefusal, OpenRefusal, StoreRefusal};
 pub use side::Side;
+pub use side_reader::SideReader;
 pub use store::Store;
 pub use tags::{Tag, name_tag, pair_tag};
 

@@ -1,3 +1,4 @@
+pub mod Asking
 pub mod Asked
 pub mod AtRest
 pub mod ChangedDatabase

@@ -1,3 +1,4 @@
+pub mod Asking
 pub mod AtRest
 pub mod Changed
 pub mod Editable

@@ -1,4 +1,5 @@
 pub mod Index
+pub mod IndexLaws
 pub mod Ordered
 pub mod Places
 pub mod SideRows

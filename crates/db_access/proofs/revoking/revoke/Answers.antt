@@ -20,17 +20,18 @@ use Rattle.db_access.proofs.PrivilegesChanged.{Ends-unfound, left-none, left-som
 use Rattle.db_access.proofs.revoking.revoke.Goals as goal
 
 pub returns-in_err-pair : goal.returns-in_err-pair
-returns-in_err-pair g c = Ended-before c.requires.open.stand c.in_err-pair.ensures.frame.same (search rules) (λ db held any.
+returns-in_err-pair g c = Ended-before c.requires.open.stand (search rules) (search rules) (λ db held any.
     Ends-unfound (λ (p : Pair). (p.object, p.grantee)) (pair_named db c.args.actor c.args.object c.args.grantee) db (privileges_revoked db c.args.actor c.args.privileges c.args.object c.args.grantee) c.from_residual.result
-    c.in_err-pair.field-0.0 c.args.tables.now.store _ _ c.from_residual.ensures.1 (c.in_err-pair.ensures.pair db held) (revokes-none db c.args.actor c.args.privileges c.args.object c.args.grantee) c.in_err-pair.ensures.frame.same)
+    c.in_err-pair.field-0.0 c.args.tables.now.store _ _ c.from_residual.ensures.1 (c.in_err-pair.ensures.answers db held) (revokes-none db c.args.actor c.args.privileges c.args.object c.args.grantee) (search rules))
 
 pub returns-in_default : goal.returns-in_default
-returns-in_default g c = Ended-before c.requires.open.stand (c.in_ok-found.ensures.frame.same ∙ c.in_ok-pair.ensures.frame.same) (search rules) (λ db held any.
+returns-in_default g c = Ended-before c.requires.open.stand (search rules) (search rules) (λ db held any.
     let pair = c.in_ok-pair.pair in
-    let none = pair-held c.args.tables.now.store Working (g.B.Eeprom.chip c.args.bench.now) db pair.object.stamp pair.grantee None held (rw c.in_ok-pair.ensures.frame.same at (rw c.in_default.is at c.in_ok-found.ensures.found)) in
-    let is = revokes db c.args.actor c.args.privileges c.args.object c.args.grantee pair.object pair.grantee (c.in_ok-pair.ensures.pair db held)
+    let still : g.B.Eeprom.chip c.find_pair.new.bench ≡ g.B.Eeprom.chip c.args.bench.now = search rules in
+    let none = pair-held c.args.tables.now.store Working (g.B.Eeprom.chip c.args.bench.now) db pair.object.stamp pair.grantee None held (rw (sym c.in_ok-found.ensures.frame.same ∙ still) at (rw c.in_default.is at c.in_ok-found.ensures.found)) in
+    let is = revokes db c.args.actor c.args.privileges c.args.object c.args.grantee pair.object pair.grantee (c.in_ok-pair.ensures.answers db held)
     ∙ ap (λ o. or_refused o not_found >>= λ (g : Grant). Ok (less_granted g c.args.privileges)) (sym none) in
-    rw c.refused.ensures (ap (λ outcome. outcome >>= with_edits db) is, refl, c.in_ok-found.ensures.frame.same ∙ c.in_ok-pair.ensures.frame.same))
+    rw c.refused.ensures (ap (λ outcome. outcome >>= with_edits db) is, refl, search rules))
 
 -- the edits of a grant that is found
 found-edits : (db : Database) (actor : Actor) (privileges : ℕ) (name grantee_name : List ℕ) (pair : Pair) (given : Grant) → pair_named db actor name grantee_name ≡ Ok (pair.object, pair.grantee)
@@ -42,12 +43,13 @@ pub returns-in-None : goal.returns-in-None
 returns-in-None g c =
     let chip = g.B.Eeprom.chip c.args.bench.now in
     let given = c.in-Some.found.value in
-    let still = c.in_ok-found.ensures.frame.same ∙ c.in_ok-pair.ensures.frame.same in
-    let at = rw c.in_ok-pair.ensures.frame.same at (rw c.in-Some.is at c.in_ok-found.ensures.at) in
-    Ended-in_memory c.requires.open.stand still (search rules) refl (λ db held any.
+    let still : g.B.Eeprom.chip c.find_pair.new.bench ≡ g.B.Eeprom.chip c.args.bench.now = search rules in
+    let at = rw (sym c.in_ok-found.ensures.frame.same ∙ still) at (rw c.in-Some.is at c.in_ok-found.ensures.at) in
+    Ended-in_memory c.requires.open.stand (search rules) (search rules) refl (λ db held any.
     let pair = c.in_ok-pair.pair in
-    let found = pair-held c.args.tables.now.store Working chip db pair.object.stamp pair.grantee (Some given) held (rw c.in_ok-pair.ensures.frame.same at (rw c.in-Some.is at c.in_ok-found.ensures.found)) in
-    let is = found-edits db c.args.actor c.args.privileges c.args.object c.args.grantee pair given (c.in_ok-pair.ensures.pair db held) found
+    let still : g.B.Eeprom.chip c.find_pair.new.bench ≡ g.B.Eeprom.chip c.args.bench.now = search rules in
+    let found = pair-held c.args.tables.now.store Working chip db pair.object.stamp pair.grantee (Some given) held (rw (sym c.in_ok-found.ensures.frame.same ∙ still) at (rw c.in-Some.is at c.in_ok-found.ensures.found)) in
+    let is = found-edits db c.args.actor c.args.privileges c.args.object c.args.grantee pair given (c.in_ok-pair.ensures.answers db held) found
     ∙ ap Ok (left-none given c.args.privileges c.left_of.result c.left_of.ensures c.in-None.is) in
     (removing (of_grant given) ∷ [], is, c.take_out.ensures.makes db given chip held at c.requires.open.stand.over (valid-revoked db c.args.actor c.args.privileges c.args.object c.args.grantee (removing (of_grant given) ∷ []) held.valid is)))
     (c.take_out.ensures.goes_on chip c.requires.open.stand.over)
@@ -55,11 +57,12 @@ returns-in-None g c =
     (c.take_out.ensures.committed chip c.requires.open.stand.over)
 
 pub returns-in-Some-left_of : goal.returns-in-Some-left_of
-returns-in-Some-left_of g c = Ended-after c.change_in_place.ensures (c.in_ok-found.ensures.frame.same ∙ c.in_ok-pair.ensures.frame.same) (c.in_ok-found.ensures.frame.counts.1 ∙ c.in_ok-pair.ensures.frame.counts.1) (λ db held any.
+returns-in-Some-left_of g c = Ended-after c.change_in_place.ensures (search rules) (search rules) (λ db held any.
     let pair = c.in_ok-pair.pair in
+    let still : g.B.Eeprom.chip c.find_pair.new.bench ≡ g.B.Eeprom.chip c.args.bench.now = search rules in
     let given = c.in-Some.found.value in
     let less : Grant = c.with_privileges-less.result in
-    let found = pair-held c.args.tables.now.store Working (g.B.Eeprom.chip c.args.bench.now) db pair.object.stamp pair.grantee (Some given) held (rw c.in_ok-pair.ensures.frame.same at (rw c.in-Some.is at c.in_ok-found.ensures.found)) in
-    let is = found-edits db c.args.actor c.args.privileges c.args.object c.args.grantee pair given (c.in_ok-pair.ensures.pair db held) found
+    let found = pair-held c.args.tables.now.store Working (g.B.Eeprom.chip c.args.bench.now) db pair.object.stamp pair.grantee (Some given) held (rw (sym c.in_ok-found.ensures.frame.same ∙ still) at (rw c.in-Some.is at c.in_ok-found.ensures.found)) in
+    let is = found-edits db c.args.actor c.args.privileges c.args.object c.args.grantee pair given (c.in_ok-pair.ensures.answers db held) found
     ∙ ap Ok (left-some given c.args.privileges c.in-Some-left_of.left c.left_of.result c.left_of.ensures c.in-Some-left_of.is) ∙ ap (λ (g : Grant). Ok (changing (of_grant g) ∷ [])) (sym c.with_privileges-less.ensures) in
     (valid-revoked db c.args.actor c.args.privileges c.args.object c.args.grantee (changing (of_grant less) ∷ []) held.valid is, is))

@@ -76,4 +76,4 @@ returns-clause-octets_read g c = λ db held cursor.
     let way = c.in_ok-resolve.ensures.octets_read db (rw (c.in_ok-find_selected.ensures.reads.goes_on.store, c.in_ok-find_selected.ensures.reads.goes_on.side, c.in_ok-find_selected.ensures.reads.frame.same) held) in
     way-chosen reader.store.now reader.side chip db held (cells_selected db c.args.actor on) (way_cells db on) _ _ _ (c.in_ok-find_selected.ensures.octets_read db held) c.in_ok-find_selected.ensures.rises
     (subst (λ (o : Option Object). ReadsAtMost (option_map_or (λ (x : Object). cells_under db.objects x.kind) o 0) (g.B.Eeprom.octets_read c.find_selected.new.reader.bench.now) (g.B.Eeprom.octets_read c.resolve.new.reader.bench.now)) (sym there) way)
-    (rw (c.in_ok-find_selected.ensures.reads.goes_on.store, c.in_ok-find_selected.ensures.reads.goes_on.side, c.in_ok-find_selected.ensures.reads.frame.same) at c.in_ok-resolve.ensures.rises)
+    (simp (c.in_ok-find_selected.ensures.reads.goes_on.store, c.in_ok-find_selected.ensures.reads.goes_on.side, c.in_ok-find_selected.ensures.reads.frame.same) at c.in_ok-resolve.ensures.rises)

@@ -9,41 +9,41 @@ use Rattle.db_read.proofs.rows.row_behind.Goals as goal
 pub returns-in_default-clause-next : goal.returns-in_default-clause-next
 returns-in_default-clause-next g c =
     none-found (slots_of c.args.reader.now.store.now c.args.reader.now.side (g.B.Eeprom.chip c.args.reader.now.bench.now)) (λ (answer : ℕ × ℕ). answer.1) c.next_after.result (is_row_after c.args.table c.args.stamp) c.in_default.is
-    (finds-behind c.args.table c.args.stamp (slots_of c.args.reader.now.store.now c.args.reader.now.side (g.B.Eeprom.chip c.args.reader.now.bench.now)) c.next_after.result (c.next_after.ensures.value (g.B.Eeprom.chip c.args.reader.now.bench.now) c.requires.stands.over c.requires.stands.index))
+    (finds-behind c.args.table c.args.stamp (slots_of c.args.reader.now.store.now c.args.reader.now.side (g.B.Eeprom.chip c.args.reader.now.bench.now)) c.next_after.result (c.next_after.ensures.value (g.B.Eeprom.chip c.args.reader.now.bench.now) c.args.reader.now.over c.args.reader.now.indexes))
 
 pub returns-then-not-branch-clause-next : goal.returns-then-not-branch-clause-next
 returns-then-not-branch-clause-next g c =
     behind-missing c.args.table c.args.stamp c.in-Some.field-0-0 c.in-Some.slot (slots_of c.args.reader.now.store.now c.args.reader.now.side (g.B.Eeprom.chip c.args.reader.now.bench.now)) c.next_after.result _ c.in-Some.is
-    (finds-behind c.args.table c.args.stamp (slots_of c.args.reader.now.store.now c.args.reader.now.side (g.B.Eeprom.chip c.args.reader.now.bench.now)) c.next_after.result (c.next_after.ensures.value (g.B.Eeprom.chip c.args.reader.now.bench.now) c.requires.stands.over c.requires.stands.index))
+    (finds-behind c.args.table c.args.stamp (slots_of c.args.reader.now.store.now c.args.reader.now.side (g.B.Eeprom.chip c.args.reader.now.bench.now)) c.next_after.result (c.next_after.ensures.value (g.B.Eeprom.chip c.args.reader.now.bench.now) c.args.reader.now.over c.args.reader.now.indexes))
     (rw c.if-not-branch.true at c.in_ok-row_in.ensures.value)
 
 pub returns-then-not-branch-clause-octets_read : goal.returns-then-not-branch-clause-octets_read
 returns-then-not-branch-clause-octets_read g c =
     behind-missing c.args.table c.args.stamp c.in-Some.field-0-0 c.in-Some.slot (slots_of c.args.reader.now.store.now c.args.reader.now.side (g.B.Eeprom.chip c.args.reader.now.bench.now)) c.next_after.result _ c.in-Some.is
-    (finds-behind c.args.table c.args.stamp (slots_of c.args.reader.now.store.now c.args.reader.now.side (g.B.Eeprom.chip c.args.reader.now.bench.now)) c.next_after.result (c.next_after.ensures.value (g.B.Eeprom.chip c.args.reader.now.bench.now) c.requires.stands.over c.requires.stands.index))
+    (finds-behind c.args.table c.args.stamp (slots_of c.args.reader.now.store.now c.args.reader.now.side (g.B.Eeprom.chip c.args.reader.now.bench.now)) c.next_after.result (c.next_after.ensures.value (g.B.Eeprom.chip c.args.reader.now.bench.now) c.args.reader.now.over c.args.reader.now.indexes))
     (rw c.if-not-branch.true at c.in_ok-row_in.ensures.value)
 
 pub returns-then-room-stamp-clause-next : goal.returns-then-room-stamp-clause-next
 returns-then-room-stamp-clause-next g c =
     row-later c.args.table c.args.stamp (slots_of c.args.reader.now.store.now c.args.reader.now.side (g.B.Eeprom.chip c.args.reader.now.bench.now)) c.row_in.new.room.row _ (behind-found c.args.table c.args.stamp c.in-Some.field-0-0 c.in-Some.slot (slots_of c.args.reader.now.store.now c.args.reader.now.side (g.B.Eeprom.chip c.args.reader.now.bench.now)) c.next_after.result (Some c.row_in.new.room.row) c.in-Some.is
-    (finds-behind c.args.table c.args.stamp (slots_of c.args.reader.now.store.now c.args.reader.now.side (g.B.Eeprom.chip c.args.reader.now.bench.now)) c.next_after.result (c.next_after.ensures.value (g.B.Eeprom.chip c.args.reader.now.bench.now) c.requires.stands.over c.requires.stands.index))
+    (finds-behind c.args.table c.args.stamp (slots_of c.args.reader.now.store.now c.args.reader.now.side (g.B.Eeprom.chip c.args.reader.now.bench.now)) c.next_after.result (c.next_after.ensures.value (g.B.Eeprom.chip c.args.reader.now.bench.now) c.args.reader.now.over c.args.reader.now.indexes))
     (rw c.if-not-branch.false at c.in_ok-row_in.ensures.value)) c.if-room-stamp.true
 
 pub returns-then-room-stamp-clause-octets_read : goal.returns-then-room-stamp-clause-octets_read
 returns-then-room-stamp-clause-octets_read g c =
     row-later c.args.table c.args.stamp (slots_of c.args.reader.now.store.now c.args.reader.now.side (g.B.Eeprom.chip c.args.reader.now.bench.now)) c.row_in.new.room.row _ (behind-found c.args.table c.args.stamp c.in-Some.field-0-0 c.in-Some.slot (slots_of c.args.reader.now.store.now c.args.reader.now.side (g.B.Eeprom.chip c.args.reader.now.bench.now)) c.next_after.result (Some c.row_in.new.room.row) c.in-Some.is
-    (finds-behind c.args.table c.args.stamp (slots_of c.args.reader.now.store.now c.args.reader.now.side (g.B.Eeprom.chip c.args.reader.now.bench.now)) c.next_after.result (c.next_after.ensures.value (g.B.Eeprom.chip c.args.reader.now.bench.now) c.requires.stands.over c.requires.stands.index))
+    (finds-behind c.args.table c.args.stamp (slots_of c.args.reader.now.store.now c.args.reader.now.side (g.B.Eeprom.chip c.args.reader.now.bench.now)) c.next_after.result (c.next_after.ensures.value (g.B.Eeprom.chip c.args.reader.now.bench.now) c.args.reader.now.over c.args.reader.now.indexes))
     (rw c.if-not-branch.false at c.in_ok-row_in.ensures.value)) c.if-room-stamp.true
 
 pub returns-clause-next : goal.returns-clause-next
 returns-clause-next g c = (behind-found c.args.table c.args.stamp c.in-Some.field-0-0 c.in-Some.slot (slots_of c.args.reader.now.store.now c.args.reader.now.side (g.B.Eeprom.chip c.args.reader.now.bench.now)) c.next_after.result (Some c.row_in.new.room.row) c.in-Some.is
-    (finds-behind c.args.table c.args.stamp (slots_of c.args.reader.now.store.now c.args.reader.now.side (g.B.Eeprom.chip c.args.reader.now.bench.now)) c.next_after.result (c.next_after.ensures.value (g.B.Eeprom.chip c.args.reader.now.bench.now) c.requires.stands.over c.requires.stands.index))
+    (finds-behind c.args.table c.args.stamp (slots_of c.args.reader.now.store.now c.args.reader.now.side (g.B.Eeprom.chip c.args.reader.now.bench.now)) c.next_after.result (c.next_after.ensures.value (g.B.Eeprom.chip c.args.reader.now.bench.now) c.args.reader.now.over c.args.reader.now.indexes))
     (rw c.if-not-branch.false at c.in_ok-row_in.ensures.value))
 
 pub returns-clause-octets_read : goal.returns-clause-octets_read
 returns-clause-octets_read g c =
     row-reached c.args.table c.args.stamp c.in-Some.slot (slots_of c.args.reader.now.store.now c.args.reader.now.side (g.B.Eeprom.chip c.args.reader.now.bench.now)) c.row_in.new.room.row _ _ (rw c.if-not-branch.false at c.in_ok-row_in.ensures.value)
     (behind-found c.args.table c.args.stamp c.in-Some.field-0-0 c.in-Some.slot (slots_of c.args.reader.now.store.now c.args.reader.now.side (g.B.Eeprom.chip c.args.reader.now.bench.now)) c.next_after.result (Some c.row_in.new.room.row) c.in-Some.is
-    (finds-behind c.args.table c.args.stamp (slots_of c.args.reader.now.store.now c.args.reader.now.side (g.B.Eeprom.chip c.args.reader.now.bench.now)) c.next_after.result (c.next_after.ensures.value (g.B.Eeprom.chip c.args.reader.now.bench.now) c.requires.stands.over c.requires.stands.index))
+    (finds-behind c.args.table c.args.stamp (slots_of c.args.reader.now.store.now c.args.reader.now.side (g.B.Eeprom.chip c.args.reader.now.bench.now)) c.next_after.result (c.next_after.ensures.value (g.B.Eeprom.chip c.args.reader.now.bench.now) c.args.reader.now.over c.args.reader.now.indexes))
     (rw c.if-not-branch.false at c.in_ok-row_in.ensures.value))
     (rw c.if-not-branch.false at c.in_ok-row_in.ensures.octets_read)

@@ -9,5 +9,5 @@ use Rattle.db_read.proofs.rows.row_in.Goals as goal
 pub returns-clause-octets_read : goal.returns-clause-octets_read
 returns-clause-octets_read g c =
     let spelled = said-read c.decode_into.result c.is_some.result c.decode_into.new.row (λ (x : RowRecord). (row_kind.form.fits x ≡ true) × (c.get.new.out.items ≡ row_kind.form.spell x)) c.is_some.ensures (rw c.as_slice.ensures.value at c.decode_into.ensures.found) in
-    reads-row c.args.reader.now.store.now c.args.reader.now.side c.args.slot (g.B.Eeprom.chip c.args.reader.now.bench.now).image c.is_row.result c.get.new.out.items (row_read c.is_some.result c.decode_into.new.row) _ _ c.requires.over.stands c.is_row.ensures c.if-not-is_row.false
+    reads-row c.args.reader.now.store.now c.args.reader.now.side c.args.slot (g.B.Eeprom.chip c.args.reader.now.bench.now).image c.is_row.result c.get.new.out.items (row_read c.is_some.result c.decode_into.new.row) _ _ c.args.reader.now.over.stands c.is_row.ensures c.if-not-is_row.false
     (rw c.if-not-branch.false at c.in_ok-get.ensures.found) (rw c.if-not-branch.false at c.in_ok-get.ensures.octets_read) spelled

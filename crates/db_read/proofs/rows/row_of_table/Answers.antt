@@ -7,16 +7,16 @@ use Rattle.db_read.proofs.rows.row_of_table.Goals as goal
 
 pub returns-in_default-clause-found : goal.returns-in_default-clause-found
 returns-in_default-clause-found g c =
-    indexed-none c.args.table c.args.stamp (slots_of c.args.reader.now.store.now c.args.reader.now.side (g.B.Eeprom.chip c.args.reader.now.bench.now)) c.find.result (c.find.ensures.value (g.B.Eeprom.chip c.args.reader.now.bench.now) c.requires.stands.over c.requires.stands.index) c.in_default.is
+    indexed-none c.args.table c.args.stamp (slots_of c.args.reader.now.store.now c.args.reader.now.side (g.B.Eeprom.chip c.args.reader.now.bench.now)) c.find.result (c.find.ensures.value (g.B.Eeprom.chip c.args.reader.now.bench.now) c.args.reader.now.over c.args.reader.now.indexes) c.in_default.is
 
 pub returns-clause-found : goal.returns-clause-found
 returns-clause-found g c =
     let chip = g.B.Eeprom.chip c.args.reader.now.bench.now in
-    let told = indexed-told c.args.reader.now.index.now c.args.reader.now.store.now chip c.args.reader.now.side c.args.table c.args.stamp c.in-Some.slot c.find.result (c.find.ensures.value chip c.requires.stands.over c.requires.stands.index) c.requires.stands.index c.in-Some.is in
+    let told = indexed-told c.args.reader.now.index.now c.args.reader.now.store.now chip c.args.reader.now.side c.args.table c.args.stamp c.in-Some.slot c.find.result (c.find.ensures.value chip c.args.reader.now.over c.args.reader.now.indexes) c.args.reader.now.indexes c.in-Some.is in
     IfOk-weaker c.row_in.result _ _ (λ there value. indexed-found c.args.table c.args.stamp c.in-Some.slot (slots_of c.args.reader.now.store.now c.args.reader.now.side (g.B.Eeprom.chip c.args.reader.now.bench.now)) (row_read there c.row_in.new.room.row) told value) c.row_in.ensures.value
 
 pub returns-clause-octets_read : goal.returns-clause-octets_read
 returns-clause-octets_read g c =
     let chip = g.B.Eeprom.chip c.args.reader.now.bench.now in
-    let told = indexed-told c.args.reader.now.index.now c.args.reader.now.store.now chip c.args.reader.now.side c.args.table c.args.stamp c.in-Some.slot c.find.result (c.find.ensures.value chip c.requires.stands.over c.requires.stands.index) c.requires.stands.index c.in-Some.is in
+    let told = indexed-told c.args.reader.now.index.now c.args.reader.now.store.now chip c.args.reader.now.side c.args.table c.args.stamp c.in-Some.slot c.find.result (c.find.ensures.value chip c.args.reader.now.over c.args.reader.now.indexes) c.args.reader.now.indexes c.in-Some.is in
     IfOk-weaker c.row_in.result _ _ (λ there reads. indexed-reads c.args.table c.args.stamp c.in-Some.slot (slots_of c.args.reader.now.store.now c.args.reader.now.side (g.B.Eeprom.chip c.args.reader.now.bench.now)) (row_read there c.row_in.new.room.row) _ _ told reads) c.row_in.ensures.octets_read

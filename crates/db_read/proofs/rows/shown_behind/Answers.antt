@@ -15,7 +15,7 @@ pub returns-then-shows-clause-octets_read : goal.returns-then-shows-clause-octet
 returns-then-shows-clause-octets_read g c =
     let slots : Option Slots = slots_of c.args.reader.now.store.now c.args.reader.now.side (g.B.Eeprom.chip c.args.reader.now.bench.now) in
     let behind : c.loop-room.passed < c.row_behind.new.room.row.stamp = c.in_ok-row_behind.ensures.behind c.if-branch.true in
-    reads-next c.args.chosen.now c.args.stamp c.loop-room.passed slots c.row_behind.new.room.row _ _ _ _ c.loop-room.invariant.low behind c.loop-room.invariant.read (rw (c.loop-room.invariant.goes_on.store, c.loop-room.invariant.goes_on.side, c.loop-room.invariant.same, c.if-branch.true) at c.in_ok-row_behind.ensures.octets_read)
+    reads-next c.args.chosen.now c.args.stamp c.loop-room.passed slots c.row_behind.new.room.row _ _ _ _ c.loop-room.invariant.low behind c.loop-room.invariant.read (simp (c.loop-room.invariant.goes_on.store, c.loop-room.invariant.goes_on.side, c.loop-room.invariant.same, c.if-branch.true) at c.in_ok-row_behind.ensures.octets_read)
 
 pub loop-room-preserved : goal.loop-room-preserved
 loop-room-preserved g c =
@@ -28,7 +28,7 @@ loop-room-preserved g c =
       goes_on = on-further _ _ _ c.loop-room.invariant.goes_on c.in_ok-row_behind.ensures.reads.goes_on;
       low = rw c.stamp-passed.ensures (omega arith);
       left = rw c.stamp-passed.ensures (left-next c.args.chosen.now c.args.stamp c.loop-room.passed slots c.row_behind.new.room.row c.loop-room.invariant.left (rw (c.loop-room.invariant.goes_on.store, c.loop-room.invariant.goes_on.side, c.loop-room.invariant.same, c.if-branch.true) at c.in_ok-row_behind.ensures.next) (sym c.shows.ensures ∙ c.if-shows.false));
-      read = rw c.stamp-passed.ensures (reads-passed c.args.chosen.now c.args.stamp slots c.row_behind.new.room.row _ _ _ (reads-next c.args.chosen.now c.args.stamp c.loop-room.passed slots c.row_behind.new.room.row _ _ _ _ low behind c.loop-room.invariant.read (rw (c.loop-room.invariant.goes_on.store, c.loop-room.invariant.goes_on.side, c.loop-room.invariant.same, c.if-branch.true) at c.in_ok-row_behind.ensures.octets_read)));
+      read = rw c.stamp-passed.ensures (reads-passed c.args.chosen.now c.args.stamp slots c.row_behind.new.room.row _ _ _ (reads-next c.args.chosen.now c.args.stamp c.loop-room.passed slots c.row_behind.new.room.row _ _ _ _ low behind c.loop-room.invariant.read (simp (c.loop-room.invariant.goes_on.store, c.loop-room.invariant.goes_on.side, c.loop-room.invariant.same, c.if-branch.true) at c.in_ok-row_behind.ensures.octets_read)));
     }
 
 pub returns-clause-next : goal.returns-clause-next
@@ -39,4 +39,4 @@ returns-clause-next g c =
 pub returns-clause-octets_read : goal.returns-clause-octets_read
 returns-clause-octets_read g c =
     let slots : Option Slots = slots_of c.args.reader.now.store.now c.args.reader.now.side (g.B.Eeprom.chip c.args.reader.now.bench.now) in
-    reads-end c.args.chosen.now c.args.stamp c.loop-room.passed slots _ _ _ c.loop-room.invariant.read (rw (c.loop-room.invariant.goes_on.store, c.loop-room.invariant.goes_on.side, c.loop-room.invariant.same, c.if-branch.false) at c.in_ok-row_behind.ensures.octets_read)
+    reads-end c.args.chosen.now c.args.stamp c.loop-room.passed slots _ _ _ c.loop-room.invariant.read (simp (c.loop-room.invariant.goes_on.store, c.loop-room.invariant.goes_on.side, c.loop-room.invariant.same, c.if-branch.false) at c.in_ok-row_behind.ensures.octets_read)

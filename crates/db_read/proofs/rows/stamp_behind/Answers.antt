@@ -1,5 +1,5 @@
 -- The index answers the stamp with the slot.
-use Rattle.std.proofs.Common.{ℕ, None, option_map, sym, ap, ◌∙◌}
+use Rattle.std.proofs.Common.{ℕ, option_map, sym, ap, ◌∙◌}
 use Rattle.record_table.specs.Listed.{slots_of}
 use Rattle.row_index.proofs.Stamped.{IfSome-both}
 use Rattle.db_read.proofs.RowReads.{first-answered}

@@ -10,13 +10,13 @@ use Rattle.db_write.proofs.RowInserted.{valid-inserted}
 use Rattle.db_write.proofs.inserting.insert.Goals as goal
 
 pub returns-in_err-table : goal.returns-in_err-table
-returns-in_err-table g c = Ended-before c.requires.open.stand c.in_err-table.ensures.frame.same (search rules) (λ db held may.
-    Ends-before db _ c.from_residual.result c.in_err-table.field-0.0 c.args.tables.now.store _ _ c.from_residual.ensures.1 (c.in_err-table.ensures.found db held) c.in_err-table.ensures.frame.same)
+returns-in_err-table g c = Ended-before c.requires.open.stand (search rules) (search rules) (λ db held may.
+    Ends-before db _ c.from_residual.result c.in_err-table.field-0.0 c.args.tables.now.store _ _ c.from_residual.ensures.1 (c.in_err-table.ensures.answers db held) (search rules))
 
 pub returns : goal.returns
-returns g c = Ended-after c.make_row.ensures (c.in_ok-counter.ensures.frame.same ∙ c.in_ok-table.ensures.frame.same) (c.in_ok-counter.ensures.frame.counts.1 ∙ c.in_ok-table.ensures.frame.counts.1) (λ db held may.
-    let is = c.in_ok-table.ensures.found db held in
-    let next = ap (λ counter. counter.value) c.counter.view_is ∙ c.in_ok-counter.ensures.next db (subst (λ chip. IsHeld c.args.tables.now.store Working chip db) (sym c.in_ok-table.ensures.frame.same) held) in
+returns g c = Ended-after c.make_row.ensures (search rules) (search rules) (λ db held may.
+    let is = c.in_ok-table.ensures.answers db held in
+    let next = ap (λ counter. counter.value) c.counter.view_is ∙ c.in_ok-counter.ensures.next db (subst (λ chip. IsHeld c.args.tables.now.store Working chip db) (search rules) held) in
     let same = ap of_row (c.new_record-record.ensures.record ∙ ap (λ stamp. record { stamp = stamp; table = c.in_ok-table.table; row = c.args.row.now }) next) in (
       (
         ap (λ r. r.stamp) c.new_record-record.ensures.record ∙ next,
