@@ -1,4 +1,5 @@
 mod Asked
+mod CarryingOut
 mod CatalogKept
 mod ChangedStore
 mod ChangingOperations

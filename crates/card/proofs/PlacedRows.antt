@@ -1,15 +1,11 @@
 -- Where the rows stand that were gathered: they are the row places of the slots, and an index can hold them.
-use Rattle.std.proofs.Common.{◌≡◌, ℕ, suc, ◌+◌, ◌<◌, ◌≤◌, Bool, false, cond, eqb, List, [], ◌∷◌, ◌++◌, length, Option, Some, None, option_map, inl, inr, refl, sym, ap, subst, ◌∙◌, arith}
+use Rattle.std.proofs.Common.{◌≡◌, ℕ, suc, ◌+◌, ◌<◌, ◌≤◌, Bool, false, List, [], ◌∷◌, Option, Some, None, option_map, refl, sym, ap, subst, ◌∙◌, arith}
 use Rattle.std.specs.Prelude.{IfSome, if◌then◌else◌}
 use Rattle.std.specs.Option.{option_and_then}
-use Rattle.std.specs.List.{filter_map, cons_option, count_by, AllByRecursion}
-use Rattle.std.proofs.lemmas.Bool.{cases_Bool, eqb-true}
-use Rattle.std.proofs.lemmas.List.{append-nil}
-use Rattle.std.proofs.lemmas.List.Elements.{filter_map-append}
-use Rattle.std.proofs.lemmas.List.Sums.{sum_by-append}
+use Rattle.std.specs.List.{filter_map, cons_option}
 use Rattle.std.proofs.lemmas.Option.{none-some, same_Some}
 use Rattle.eeprom.specs.Chip.{Chip, Becomes, RisesAtMost}
-use Rattle.eeprom.specs.Slots.{AreApart, Rises, has, in_order, in_slot}
+use Rattle.eeprom.specs.Slots.{AreApart, Rises, in_order, in_slot}
 use Rattle.eeprom.specs.StoreOf.{Slots, Stored, slots_at, store_of}
 use Rattle.eeprom.proofs.InOrder.{AreApart-rising, Rises-in_order}
 use Rattle.record_store.specs.declared.side.Side.TheVariants.{Committed, Working}
@@ -26,7 +22,7 @@ use Rattle.scql_model.specs.Records.{row_in, user_in, object_in, grant_in}
 use Rattle.scql_model.specs.Database.{Database}
 use Rattle.scql_model.specs.Opens.{Opens}
 use Rattle.row_index.specs.Index.{ArePlacesIn, HasRows, Index, Indexes}
-use Rattle.row_index.specs.Places.{numbered, place_in, place_of, place_slot, place_stamp, row_places}
+use Rattle.row_index.specs.Places.{numbered, place_in, place_of, place_stamp}
 use Rattle.row_index.specs.declared.place.RowPlace.{RowPlace}
 use Rattle.record_table.specs.Listed.{slots_of}
 use Rattle.record_table.specs.AtRest.{IsAtRest}

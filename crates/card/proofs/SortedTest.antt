@@ -4,7 +4,7 @@ use Rattle.std.specs.List.Sorted.{IsPermutation}
 use Rattle.std.proofs.lemmas.Bool.{false≢true}
 use Rattle.std.proofs.lemmas.List.Sorted.{IsPermutation-sym}
 use Rattle.std.proofs.lemmas.Option.{same_Some}
-use Rattle.eeprom.specs.Slots.{AreApart, Rises, in_order}
+use Rattle.eeprom.specs.Slots.{Rises, in_order}
 use Rattle.eeprom.proofs.InOrder.{AreApart-rising}
 use Rattle.card.specs.Opening.{PassTest}
 use Rattle.card.specs.KeptRecords.{stamp_of, users_in, objects_in, grants_in, rows_in}

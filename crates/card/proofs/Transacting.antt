@@ -27,7 +27,6 @@ use Rattle.scql_model.specs.Opens.{Holds}
 use Rattle.scql_model.specs.Refusals.{◌>>=◌}
 use Rattle.scql_model.specs.Replies.{said}
 use Rattle.scql_model.specs.Sessions.{cursor_of, without_pending}
-use Rattle.scql_model.specs.Sessions as sessions
 use Rattle.scql_model.specs.Step.{Answer, answered, changed, done_with, transaction_begun, transaction_committed}
 use Rattle.scql_model.specs.Transactions.{for_others, own_transaction}
 use Rattle.scql_model.specs.Cursors.{IsCursorOf}

@@ -1,5 +1,5 @@
 -- What a card keeps in memory, and at which machine it is together with its EEPROM.
-use Rattle.std.specs.Prelude.{◌≡◌, ℕ, ◌≤◌, Bool, List, Option, Some, is_some, option_map, option_and_then, IsTrue, IfSome}
+use Rattle.std.specs.Prelude.{◌≡◌, ℕ, Bool, List, Option, Some, is_some, option_map, option_and_then, IsTrue, IfSome}
 use Rattle.eeprom.specs.Chip.{Chip}
 use Rattle.eeprom.specs.StoreOf.{Slots}
 use Rattle.record_store.specs.Held.{Held, contents, IsOver}

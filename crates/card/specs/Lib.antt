@@ -2,6 +2,7 @@ pub mod Acting
 pub mod Answering
 pub mod Apart
 pub mod Behind
+pub mod CarryingOut
 pub mod Card
 pub mod CardLaws
 pub mod Changing

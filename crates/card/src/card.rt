@@ -15,6 +15,7 @@ ghost use Rattle.scql_model.specs.Database as database;
 ghost use Rattle.scql_model.specs.Database.{Database, fresh};
 ghost use Rattle.eeprom.specs.Image.{overwrite};
 ghost use Rattle.card.specs.Behind.{KeepsBehind, own_cells};
+ghost use Rattle.card.specs.CarryingOut.{IsReset};
 ghost use Rattle.card.specs.Card.{Kept, IsReady, IsAt, fresh_card};
 ghost use Rattle.record_table.specs.AtRest.{LeavesOneOf};
 ghost use Rattle.card.specs.Counting.{counts_of};
@@ -128,6 +129,7 @@ impl Card {
             }
             Err(EepromFault) => {
                 self.engine.fall_silent();
+                reply.body.clear();
                 reply.word = StatusWord::MEMORY_FAILURE;
                 Outcome::Mute
             }
@@ -144,9 +146,7 @@ impl Card {
     /// Ends all sessions, and undoes a transaction that is open. Channel 0 is then open, without a user.
     pub fn reset(&mut self)
         requires ready { (chip : Chip) × IsReady self.old chip }
-        ensures at { (chip : Chip) (m : machine.Machine) → IsAt self.old chip m → IsAt self.new chip (machine.reset m) }
-        ensures ready { (chip : Chip) → IsReady self.old chip → IsReady self.new chip }
-        ensures cells { self.new.store.chains.cells ≡ self.old.store.chains.cells }
+        ensures { IsReset self.old self.new }
     {
         self.engine.reset();
     }
@@ -158,7 +158,7 @@ impl Card {
         ensures unchanged { bench.new ≡ bench.old }
         ensures cause { Counts (B.faults bench.old) (B.faults bench.new) result }
     {
-        self.engine.counts(bench)
+        Ok(self.engine.counts())
     }
 }
 

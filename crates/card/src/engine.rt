@@ -1,24 +1,24 @@
 // The engine of a card: its store, its sessions, and what carries out a command.
-ghost use Rattle.std.specs.Prelude.{◌≡◌, ◌==◌, ℕ, List, slice_get, ◌<◌, ◌*◌, [], Some, None, true, false, map, is_some, length, drop, option_map, IfSome, IfOk, OnOk, OnErr, if◌then◌else◌};
-ghost use Rattle.eeprom.specs.Chip.{Chip, Becomes, Keeps};
+ghost use Rattle.std.specs.Prelude.{◌≡◌, ◌==◌, ℕ, List, slice_get, ◌<◌, ◌*◌, [], Some, None, true, false, map, is_some, length, option_map, IfSome, IfOk, OnOk, if◌then◌else◌};
+ghost use Rattle.eeprom.specs.Chip.{Chip, Becomes};
 ghost use Rattle.eeprom.specs.Fault.{Counts, each_error};
 ghost use Rattle.eeprom.specs.Frame.{Reads};
-ghost use Rattle.eeprom.specs.StoreOf.{cell_size, image_size};
+ghost use Rattle.eeprom.specs.StoreOf.{cell_size};
 ghost use Rattle.scql_base.specs.declared.operation.Operation.TheVariants as asks;
 ghost use Rattle.scql_model.specs.Creating.{actor_stamp};
-ghost use Rattle.scql_model.specs.Replies as model;
 ghost use Rattle.scql_model.specs.Machine as machine;
 ghost use Rattle.scql_model.specs.Step as stepping;
 ghost use Rattle.scql_model.specs.Database.{Database};
 ghost use Rattle.card.specs.Card.{Kept, FindsAgain, IsReady, IsAt, StandsOver};
-ghost use Rattle.card.specs.Answering.{HoldsAnswer, LeavesFirstOfTwo, Performs, changing_session, settled, with_session, with_session_for};
+ghost use Rattle.card.specs.CarryingOut.{CarriesOut, IsReset, MayCarryOut};
+ghost use Rattle.card.specs.Answering.{LeavesFirstOfTwo, changing_session, settled, with_session, with_session_for};
 ghost use Rattle.card.specs.Changing.{gone_after};
 ghost use Rattle.card.specs.Changing as changing;
 ghost use Rattle.card.specs.Counting.{counts_of};
 ghost use Rattle.card.specs.ReadCosts.{ReadsAsked, ReadsFor};
 ghost use Rattle.card.specs.Reading as reading;
 ghost use Rattle.card.specs.Acting.{acting};
-ghost use Rattle.card.specs.Sessions.{cursor_on, is_open, proved_user, session_on, session_seen, sessions_of};
+ghost use Rattle.card.specs.Sessions.{cursor_on, proved_user, session_on, session_seen, sessions_of};
 ghost use Rattle.scql_model.specs.Bound.{octets_bound, octets_carried_out, octets_changed, or_nothing};
 ghost use Rattle.scql_model.specs.Accepting as accepting;
 ghost use Rattle.scql_model.specs.Sessions.{without_pending};
@@ -29,7 +29,6 @@ ghost use Rattle.db_read.specs.Scan.{IsRightFor};
 ghost use Rattle.db_read.specs.Searched.{user_cells};
 ghost use Rattle.record_table.specs.Making.{IsHeld};
 ghost use Rattle.scql_model.specs.Operations.{kind_of};
-ghost use Rattle.scql_model.specs.WellFormed.{HasForm, FitsCard, IsWellFormed};
 ghost use Rattle.std.specs.Option.{option_flatten};
 
 mod channels;
@@ -38,6 +37,7 @@ mod transacting;
 mod verifying;
 
 use crate::changing::{actor_of, change, change_within, changes_rows};
+use crate::channel::Channel;
 use crate::counting::count_records;
 use crate::engine::channels::channel_meant;
 use crate::found::{ChannelActor, Found};
@@ -118,9 +118,7 @@ impl Engine {
     /// Ends all sessions, and undoes a transaction that is open. Channel 0 is then open, without a user.
     pub(crate) fn reset(&mut self)
         requires ready { (chip : Chip) × IsReady self.old chip }
-        ensures at { (chip : Chip) (m : machine.Machine) → IsAt self.old chip m → IsAt self.new chip (machine.reset m) }
-        ensures ready { (chip : Chip) → IsReady self.old chip → IsReady self.new chip }
-        ensures cells { self.new.store.chains.cells ≡ self.old.store.chains.cells }
+        ensures { IsReset self.old self.new }
     {
         if self.transaction.is_some() {
             self.undo();
@@ -131,13 +129,10 @@ impl Engine {
     }
 
     /// How many records of each kind are committed. Their kinds are kept in memory, so that nothing is read.
-    pub(crate) fn counts<B: Eeprom>(&self, bench: &mut B) -> Result<crate::Counts, EepromFault>
-        requires ready { IsReady self.now (B.chip bench.old) }
-        ensures counts { (m : machine.Machine) → IsAt self.now (B.chip bench.old) m → IfOk result (λ counts. counts ≡ counts_of m.committed) }
-        ensures unchanged { bench.new ≡ bench.old }
-        ensures cause { Counts (B.faults bench.old) (B.faults bench.new) result }
+    pub(crate) fn counts(&self) -> crate::Counts
+        ensures { (chip : Chip) (m : machine.Machine) → IsReady self.now chip → IsAt self.now chip m → result ≡ counts_of m.committed }
     {
-        Ok(count_records(&self.tables.store))
+        count_records(&self.tables.store)
     }
 
     /// The word that a command is answered with. The body of the reply, which is empty before, is written. The command is read into a place.
@@ -150,17 +145,11 @@ impl Engine {
     ) -> Result<StatusWord, EepromFault>
         requires ready { IsReady self.old (B.chip bench.old) }
         requires empty { reply.old.body ≡ [] }
-        ensures performs { (m : machine.Machine) → IsAt self.old (B.chip bench.old) m
-            → Performs m (stepping.step m octets.now) (octets_bound m octets.now) reply.new.body result self.new (B.chip bench.old) (B.chip bench.new) }
+        ensures carries { CarriesOut B.chip B.faults IsReady (λ m. stepping.step m octets.now) (λ m. octets_bound m octets.now) reply.new.body bench.old bench.new self.old self.new result }
         ensures lowered { (m : machine.Machine) → IsAt self.old (B.chip bench.old) m
             → OnOk result (LeavesFirstOfTwo (stepping.step m octets.now) (B.chip bench.old) (B.chip bench.new)) }
         ensures octets_read { (m : machine.Machine) → IsAt self.old (B.chip bench.old) m
             → OnOk result (ReadsAsked m octets.now (B.octets_read bench.old) (B.octets_read bench.new)) }
-        ensures ready { OnOk result (IsReady self.new (B.chip bench.new)) }
-        ensures cause { Counts (B.faults bench.old) (B.faults bench.new) result }
-        ensures cells { OnOk result (self.new.store.chains.cells ≡ self.old.store.chains.cells) }
-        ensures behind { Keeps (drop (image_size self.old.store.chains.cells)) (B.chip bench.old) (B.chip bench.new) }
-        ensures unsaid { OnErr result (reply.new.body ≡ []) }
     {
         let channels = self.open_channels();
         match self
@@ -186,21 +175,13 @@ impl Engine {
     ) -> Result<StatusWord, EepromFault>
         requires ready { IsReady self.old (B.chip bench.old) }
         requires empty { reply.old.body ≡ [] }
-        requires formed { IsWellFormed command.now }
-        requires fits { FitsCard self.old.store.row_limit command.now.operation }
-        requires open { is_open self.old.sessions command.now.channel ≡ true }
-        ensures performs { (m : machine.Machine) → IsAt self.old (B.chip bench.old) m
-            → Performs m (stepping.answered m (stepping.carried_out m command.now)) (or_nothing (octets_carried_out m command.now)) reply.new.body result self.new (B.chip bench.old) (B.chip bench.new) }
+        requires asked { MayCarryOut self.old command.now }
+        ensures carries { CarriesOut B.chip B.faults IsReady (λ m. stepping.answered m (stepping.carried_out m command.now)) (λ m. or_nothing (octets_carried_out m command.now)) reply.new.body bench.old bench.new self.old self.new result }
         // A second database is committed by VERIFY alone. Then there was a moment at which a power loss may leave the first.
         ensures lowered { (m : machine.Machine) → IsAt self.old (B.chip bench.old) m
             → OnOk result (LeavesFirstOfTwo (stepping.answered m (stepping.carried_out m command.now)) (B.chip bench.old) (B.chip bench.new)) }
         ensures octets_read { (m : machine.Machine) → IsAt self.old (B.chip bench.old) m
             → OnOk result (ReadsFor m command.now (B.octets_read bench.old) (B.octets_read bench.new)) }
-        ensures ready { OnOk result (IsReady self.new (B.chip bench.new)) }
-        ensures cause { Counts (B.faults bench.old) (B.faults bench.new) result }
-        ensures cells { OnOk result (self.new.store.chains.cells ≡ self.old.store.chains.cells) }
-        ensures behind { Keeps (drop (image_size self.old.store.chains.cells)) (B.chip bench.old) (B.chip bench.new) }
-        ensures unsaid { OnErr result (reply.new.body ≡ []) }
     {
         if is_reading(&command.operation) {
             return self.read(bench, command, reply);
@@ -223,41 +204,36 @@ impl Engine {
         requires ready { StandsOver self.old (B.chip bench.old) }
         requires found { FindsAgain self.old (B.chip bench.old) }
         requires empty { reply.old.body ≡ [] }
-        requires formed { IsWellFormed command.now }
-        requires fits { FitsCard self.old.store.row_limit command.now.operation }
+        requires asked { MayCarryOut self.old command.now }
         requires other { reading.is_reading (kind_of command.now.operation) ≡ false }
-        requires open { is_open self.old.sessions command.now.channel ≡ true }
-        ensures performs { (m : machine.Machine) → IsAt self.old (B.chip bench.old) m
-            → Performs m (stepping.answered m (stepping.carried_out m command.now)) (or_nothing (octets_carried_out m command.now)) reply.new.body result self.new (B.chip bench.old) (B.chip bench.new) }
+        ensures carries { CarriesOut B.chip B.faults StandsOver (λ m. stepping.answered m (stepping.carried_out m command.now)) (λ m. or_nothing (octets_carried_out m command.now)) reply.new.body bench.old bench.new self.old self.new result }
         // A second database is committed by VERIFY alone. Then there was a moment at which a power loss may leave the first.
         ensures lowered { (m : machine.Machine) → IsAt self.old (B.chip bench.old) m
             → OnOk result (LeavesFirstOfTwo (stepping.answered m (stepping.carried_out m command.now)) (B.chip bench.old) (B.chip bench.new)) }
-        ensures ready { OnOk result (StandsOver self.new (B.chip bench.new)) }
         // Rows are no part of what was found.
         ensures found { changing.changes_rows (kind_of command.now.operation) ≡ true → OnOk result (FindsAgain self.new (B.chip bench.new)) }
-        ensures cause { Counts (B.faults bench.old) (B.faults bench.new) result }
-        ensures cells { OnOk result (self.new.store.chains.cells ≡ self.old.store.chains.cells) }
-        ensures behind { Keeps (drop (image_size self.old.store.chains.cells)) (B.chip bench.old) (B.chip bench.new) }
-        ensures unsaid { OnErr result (reply.new.body ≡ []) }
     {
         if self.keeps_waiting(command) {
             return Ok(StatusWord::CONDITIONS_NOT_SATISFIED);
         }
-        let channel = command.channel;
+        let channel = Channel {
+            number: command.channel,
+        };
         match &command.operation {
             Operation::Begin => Ok(self.begin(channel)),
             Operation::Commit => self.commit(bench, channel),
             Operation::Rollback => Ok(self.roll_back(channel)),
             Operation::PresentUser { name } => self.present_user(bench, channel, name.copy()),
-            Operation::OpenChannel { number } => Ok(self.open_channel(channel, *number, reply)),
+            Operation::OpenChannel { number } => {
+                Ok(self.open_channel(channel, Channel { number: *number }, reply))
+            }
             Operation::CloseChannel { number } => {
-                Ok(self.close_channel(channel, channel_meant(channel, *number)))
+                let number = channel_meant(channel, Channel { number: *number });
+                Ok(self.close_channel(channel, number))
             }
             Operation::Verify { secret } => self.verify(bench, channel, secret.as_slice()),
-            Operation::DeleteUser { name } => {
-                self.delete_user(bench, channel, name.copy(), &command.operation)
-            }
-            operation => self.change(bench, channel, operation, &mut None),
+            Operation::DeleteUser { name } => self.delete_user(bench, command, name.copy()),
+            _ => self.change(bench, command, &mut None),
         }
     }
 
@@ -270,23 +246,18 @@ impl Engine {
     ) -> Result<StatusWord, EepromFault>
         requires ready { IsReady self.old (B.chip bench.old) }
         requires empty { reply.old.body ≡ [] }
-        requires formed { IsWellFormed command.now }
+        requires asked { MayCarryOut self.old command.now }
         requires reads { reading.is_reading (kind_of command.now.operation) ≡ true }
-        requires open { is_open self.old.sessions command.now.channel ≡ true }
-        ensures performs { (m : machine.Machine) → IsAt self.old (B.chip bench.old) m
-            → Performs m (stepping.answered m (stepping.carried_out m command.now)) (or_nothing (octets_carried_out m command.now)) reply.new.body result self.new (B.chip bench.old) (B.chip bench.new) }
-        ensures ready { OnOk result (IsReady self.new (B.chip bench.new)) }
-        ensures cause { Counts (B.faults bench.old) (B.faults bench.new) result }
+        ensures carries { CarriesOut B.chip B.faults IsReady (λ m. stepping.answered m (stepping.carried_out m command.now)) (λ m. or_nothing (octets_carried_out m command.now)) reply.new.body bench.old bench.new self.old self.new result }
         ensures octets_read { (m : machine.Machine) → IsAt self.old (B.chip bench.old) m
             → OnOk result (ReadsFor m command.now (B.octets_read bench.old) (B.octets_read bench.new)) }
-        ensures same { B.chip bench.new ≡ B.chip bench.old }
-        ensures store { self.new.store ≡ self.old.store }
-        ensures unsaid { OnErr result (reply.new.body ≡ []) }
     {
-        let channel = command.channel;
+        let channel = Channel {
+            number: command.channel,
+        };
         let actor = self.actor_reading(bench, channel)?;
         let side = self.side(channel);
-        let Some(session) = &mut self.sessions[usize::from(channel)] else {
+        let Some(session) = &mut self.sessions[usize::from(channel.number)] else {
             unreachable!();
         };
         let mut reader = Reader {
@@ -305,24 +276,30 @@ impl Engine {
             &mut *self.row,
             scan,
         )?;
-        self.found.last = Some(ChannelActor { channel, actor });
+        self.found.last = Some(ChannelActor {
+            channel: channel.number,
+            actor,
+        });
         Ok(word)
     }
 
     // Who acts on a channel that reads. Where another channel read last, or none, what was found for it is let go.
-    fn actor_reading<B: Eeprom>(&mut self, bench: &mut B, channel: u8) -> Result<Actor, EepromFault>
+    fn actor_reading<B: Eeprom>(
+        &mut self,
+        bench: &mut B,
+        channel: Channel,
+    ) -> Result<Actor, EepromFault>
         requires ready { IsReady self.old (B.chip bench.old) }
-        requires channel { channel < 4 }
-        ensures actor { (db : Database) → IsHeld self.old.store (side_of self.old.transaction channel) (B.chip bench.old) db
-            → IfOk result (λ actor. actor ≡ acting db (proved_user (session_on self.old.sessions channel))) }
-        ensures right { (db : Database) → IsHeld self.old.store (side_of self.old.transaction channel) (B.chip bench.old) db
-            → IfOk result (λ actor. IsRightFor db actor self.new.found.scan (cursor_on self.old.sessions channel)) }
+        ensures actor { (db : Database) → IsHeld self.old.store (side_of self.old.transaction channel.number) (B.chip bench.old) db
+            → IfOk result (λ actor. actor ≡ acting db (proved_user (session_on self.old.sessions channel.number))) }
+        ensures right { (db : Database) → IsHeld self.old.store (side_of self.old.transaction channel.number) (B.chip bench.old) db
+            → IfOk result (λ actor. IsRightFor db actor self.new.found.scan (cursor_on self.old.sessions channel.number)) }
         ensures kept { self.new ≡ record self.old { found = self.new.found } }
-        ensures octets_read { (db : Database) → IsHeld self.old.store (side_of self.old.transaction channel) (B.chip bench.old) db
+        ensures octets_read { (db : Database) → IsHeld self.old.store (side_of self.old.transaction channel.number) (B.chip bench.old) db
             → IfOk result (λ actor. Becomes (RisesBetween 0 (cell_size * user_cells db.users (actor_stamp actor))) (B.octets_read bench.old) (B.octets_read bench.new)) }
         ensures frame { Reads each_error B.chip B.faults bench.old bench.new result }
     {
-        if let Some(actor) = self.found.actor_on(channel) {
+        if let Some(actor) = self.found.actor_on(channel.number) {
             return Ok(actor);
         }
         self.found.forget();
@@ -346,18 +323,12 @@ impl Engine {
     fn present_user<B: Eeprom>(
         &mut self,
         bench: &mut B,
-        channel: u8,
+        channel: Channel,
         name: Name,
     ) -> Result<StatusWord, EepromFault>
         requires ready { StandsOver self.old (B.chip bench.old) }
-        requires channel { channel < 4 }
         requires closed { self.old.transaction ≡ None }
-        ensures step { (m : machine.Machine) → IsAt self.old (B.chip bench.old) m
-            → IfOk result (λ word. HoldsAnswer (stepping.answered m (stepping.user_presented m channel name)) (model.said word) self.new (B.chip bench.new)) }
-        ensures ready { OnOk result (StandsOver self.new (B.chip bench.new)) }
-        ensures cause { Counts (B.faults bench.old) (B.faults bench.new) result }
-        ensures same { B.chip bench.new ≡ B.chip bench.old }
-        ensures store { self.new.store ≡ self.old.store }
+        ensures { CarriesOut B.chip B.faults StandsOver (λ m. stepping.answered m (stepping.user_presented m channel.number name)) (λ m. 0) [] bench.old bench.new self.old self.new result }
     {
         let user = match present(&self.tables.store, bench, name)? {
             db_access::Presented::Unknown => return Ok(StatusWord::NOT_FOUND),
@@ -372,28 +343,23 @@ impl Engine {
     fn change<B: Eeprom>(
         &mut self,
         bench: &mut B,
-        channel: u8,
-        operation: &Operation,
+        command: &Command,
         gone: &mut Option<u32>,
     ) -> Result<StatusWord, EepromFault>
         requires ready { StandsOver self.old (B.chip bench.old) }
-        requires channel { channel < 4 }
-        requires there { is_open self.old.sessions channel ≡ true }
         requires found { FindsAgain self.old (B.chip bench.old) }
-        requires mine { keeps_waiting for_others self.old.transaction channel ≡ false }
-        requires formed { HasForm operation.now }
-        requires fits { FitsCard self.old.store.row_limit operation.now }
-        ensures performs { (m : machine.Machine) → IsAt self.old (B.chip bench.old) m
-            → Performs m (stepping.answered m (stepping.changed m channel operation.now)) (or_nothing (octets_changed m channel operation.now)) [] result self.new (B.chip bench.old) (B.chip bench.new) }
-        ensures ready { OnOk result (StandsOver self.new (B.chip bench.new)) }
-        ensures gone { (m : machine.Machine) (name : List ℕ) → IsAt self.old (B.chip bench.old) m → self.old.transaction ≡ None → operation.now ≡ asks.DeleteUser name
+        requires asked { MayCarryOut self.old command.now }
+        requires mine { keeps_waiting for_others self.old.transaction command.now.channel ≡ false }
+        ensures carries { CarriesOut B.chip B.faults StandsOver (λ m. stepping.answered m (stepping.changed m command.now.channel command.now.operation)) (λ m. or_nothing (octets_changed m command.now.channel command.now.operation)) [] bench.old bench.new self.old self.new result }
+        ensures gone { (m : machine.Machine) (name : List ℕ) → IsAt self.old (B.chip bench.old) m → self.old.transaction ≡ None → command.now.operation ≡ asks.DeleteUser name
             → IfOk result (λ word. gone.new ≡ gone_after m.committed name word gone.old) }
         // Rows are no part of what was found.
-        ensures found { changing.changes_rows (kind_of operation.now) ≡ true → OnOk result (FindsAgain self.new (B.chip bench.new)) }
-        ensures cause { Counts (B.faults bench.old) (B.faults bench.new) result }
-        ensures cells { OnOk result (self.new.store.chains.cells ≡ self.old.store.chains.cells) }
-        ensures behind { Keeps (drop (image_size self.old.store.chains.cells)) (B.chip bench.old) (B.chip bench.new) }
+        ensures found { changing.changes_rows (kind_of command.now.operation) ≡ true → OnOk result (FindsAgain self.new (B.chip bench.new)) }
     {
+        let channel = Channel {
+            number: command.channel,
+        };
+        let operation = &command.operation;
         let known = self.known_actor(channel);
         let user = self.proved_user(channel);
         let Engine {
@@ -405,7 +371,7 @@ impl Engine {
         } = self;
         let sessions = &**sessions;
         let scan = &mut found.scan;
-        let Some(session) = &sessions[usize::from(channel)] else {
+        let Some(session) = &sessions[usize::from(channel.number)] else {
             unreachable!();
         };
         let word = match transaction {
@@ -426,15 +392,15 @@ impl Engine {
     }
 
     // Who acts on a channel, where that was found. What was found for another channel is let go.
-    fn known_actor(&mut self, channel: u8) -> Option<Actor>
+    fn known_actor(&mut self, channel: Channel) -> Option<Actor>
         ensures kept { self.new ≡ record self.old { found = self.new.found } }
         ensures found { (chip : Chip) → FindsAgain self.old chip → FindsAgain self.new chip }
-        ensures actor { (chip : Chip) (db : Database) → FindsAgain self.old chip → IsHeld self.old.store (side_of self.old.transaction channel) chip db
-            → IfSome result (λ actor. actor ≡ acting db (proved_user (session_on self.old.sessions channel))) }
-        ensures right { (chip : Chip) (db : Database) → FindsAgain self.old chip → IsHeld self.old.store (side_of self.old.transaction channel) chip db
-            → IsRightFor db (acting db (proved_user (session_on self.old.sessions channel))) self.new.found.scan (cursor_on self.old.sessions channel) }
+        ensures actor { (chip : Chip) (db : Database) → FindsAgain self.old chip → IsHeld self.old.store (side_of self.old.transaction channel.number) chip db
+            → IfSome result (λ actor. actor ≡ acting db (proved_user (session_on self.old.sessions channel.number))) }
+        ensures right { (chip : Chip) (db : Database) → FindsAgain self.old chip → IsHeld self.old.store (side_of self.old.transaction channel.number) chip db
+            → IsRightFor db (acting db (proved_user (session_on self.old.sessions channel.number))) self.new.found.scan (cursor_on self.old.sessions channel.number) }
     {
-        let known = self.found.actor_on(channel);
+        let known = self.found.actor_on(channel.number);
         if known.is_none() {
             self.found.forget();
         }
@@ -442,28 +408,25 @@ impl Engine {
     }
 
     // The stamp of a channel's user, where that one is proved.
-    fn proved_user(&self, channel: u8) -> Option<u32>
-        requires channel { channel < 4 }
-        ensures { result ≡ proved_user (option_flatten (slice_get self.now.sessions channel)) }
+    fn proved_user(&self, channel: Channel) -> Option<u32>
+        ensures { result ≡ proved_user (option_flatten (slice_get self.now.sessions channel.number)) }
     {
-        match &self.sessions[channel as usize] {
+        match &self.sessions[channel.number as usize] {
             Some(session) => session.proved_user(),
             None => None,
         }
     }
 
     // A new session of a channel, for this user.
-    fn set_user(&mut self, channel: u8, user: Option<PresentedUser>)
-        requires channel { channel < 4 }
-        ensures { self.new ≡ with_session_for self.old channel user }
+    fn set_user(&mut self, channel: Channel, user: Option<PresentedUser>)
+        ensures { self.new ≡ with_session_for self.old channel.number user }
     {
         self.set_session(channel, Some(Session::new(user)));
     }
 
     // What is done drops what is pending on its channel.
-    fn settle(&mut self, channel: u8, word: StatusWord)
-        requires channel { channel < 4 }
-        ensures { self.new ≡ settled word self.old channel }
+    fn settle(&mut self, channel: Channel, word: StatusWord)
+        ensures { self.new ≡ settled word self.old channel.number }
     {
         if word.word == StatusWord::DONE.word {
             self.drop_pending(channel);
@@ -471,32 +434,29 @@ impl Engine {
     }
 
     // Nothing is pending on a channel any more.
-    fn drop_pending(&mut self, channel: u8)
-        requires channel { channel < 4 }
-        ensures { self.new ≡ changing_session without_pending self.old channel }
+    fn drop_pending(&mut self, channel: Channel)
+        ensures { self.new ≡ changing_session without_pending self.old channel.number }
     {
-        if let Some(session) = &mut self.sessions[channel as usize] {
+        if let Some(session) = &mut self.sessions[channel.number as usize] {
             session.pending.forget();
         }
     }
 
     // A channel has this session from now on, or is closed. It has no parts of a command.
-    fn set_session(&mut self, channel: u8, session: Option<Session>)
-        requires channel { channel < 4 }
-        ensures { self.new ≡ with_session self.old channel (option_map (session_seen None) session) }
+    fn set_session(&mut self, channel: Channel, session: Option<Session>)
+        ensures { self.new ≡ with_session self.old channel.number (option_map (session_seen None) session) }
     {
-        self.sessions[channel as usize] = session;
-        self.chains.forget(channel);
+        self.sessions[channel.number as usize] = session;
+        self.chains.forget(channel.number);
     }
 }
 
 // The channel that the class of a command names.
-fn channel_named(command: &[u8]) -> u8
-    ensures named { result ≡ accepting.channel_named command.now }
-    ensures few { result < 4 }
+fn channel_named(command: &[u8]) -> Channel
+    ensures { result.number ≡ accepting.channel_named command.now }
 {
     match command {
-        [class, ..] => class % 4,
-        [] => 0,
+        [class, ..] => Channel { number: class % 4 },
+        [] => Channel { number: 0 },
     }
 }

@@ -4,6 +4,7 @@
 mod apart;
 mod card;
 mod changing;
+mod channel;
 mod counting;
 mod engine;
 mod found;

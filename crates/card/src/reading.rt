@@ -1,9 +1,7 @@
 // The commands that read through the cursor of a session (ISO/IEC 7816-7), and GET RESPONSE (ISO/IEC 7816-4).
-ghost use Rattle.std.specs.Prelude.{◌≡◌, ◌≤◌, [], Option, Some, true, if◌then◌else◌, IfOk, IfSome, OnErr, OnOk};
+ghost use Rattle.std.specs.Prelude.{◌≡◌, ◌≤◌, [], Option, Some, true, if◌then◌else◌, IfOk, IfSome, OnOk};
 ghost use Rattle.eeprom.specs.Chip.{Becomes, RisesAtMost};
 ghost use Rattle.eeprom.specs.Fault.{each_error};
-ghost use Rattle.record_store.specs.Held.{IsOver};
-ghost use Rattle.record_table.specs.Making.{IsHeld};
 ghost use Rattle.scql_base.specs.declared.cursor.Cursor as model;
 ghost use Rattle.scql_model.specs.Cursors.{IsCursorOf};
 ghost use Rattle.scql_model.specs.Database.{Database};
@@ -14,7 +12,7 @@ ghost use Rattle.scql_model.specs.ReadingCommands.{or_stays};
 ghost use Rattle.scql_model.specs.WellFormed.{IsWellFormed};
 ghost use Rattle.cursor.specs.Moved as outcomes;
 ghost use Rattle.db_read.specs.Answered.{given};
-ghost use Rattle.db_read.specs.Reader.{ReadsOn, Stands};
+ghost use Rattle.db_read.specs.Reader.{read_so_far, ReadsFrom, ReadsOn};
 ghost use Rattle.db_read.specs.Scan.{IsRightFor};
 ghost use Rattle.db_read.specs.Searched.{octets_for_operation};
 ghost use Rattle.card.specs.ReadCosts.{OperatesWithin};
@@ -55,18 +53,16 @@ pub(crate) fn read<B: Eeprom>(
     row: &mut Row,
     scan: &mut Scan,
 ) -> Result<StatusWord, EepromFault>
-    requires stands { Stands B.chip reader.old }
     requires formed { IsWellFormed command.now }
     requires reads { specs.is_reading (kind_of command.now.operation) ≡ true }
     requires empty { reply.old.body ≡ [] }
-    ensures moves { (db : Database) → IsHeld reader.old.store.now reader.old.side (B.chip reader.old.bench.now) db → IfSome session.old.cursor (IsCursorOf db) → IsRightFor db actor scan.old session.old.cursor
+    ensures moves { (db : Database) → ReadsFrom reader.old db → IfSome session.old.cursor (IsCursorOf db) → IsRightFor db actor scan.old session.old.cursor
         → IfOk result (λ word. MovesSo db actor command.now (reading_in session.old) (move_to reply.new.body word session.new.cursor session.new.pending)) }
-    ensures octets_read { (db : Database) → IsHeld reader.old.store.now reader.old.side (B.chip reader.old.bench.now) db → IfSome session.old.cursor (IsCursorOf db) → IsRightFor db actor scan.old session.old.cursor
-        → OnOk result (OperatesWithin db actor command.now (reading_in session.old) (B.octets_read reader.old.bench.now) (B.octets_read reader.new.bench.now)) }
-    ensures right { (db : Database) → IsHeld reader.old.store.now reader.old.side (B.chip reader.old.bench.now) db → IsRightFor db actor scan.old session.old.cursor → IsRightFor db actor scan.new session.new.cursor }
+    ensures octets_read { (db : Database) → ReadsFrom reader.old db → IfSome session.old.cursor (IsCursorOf db) → IsRightFor db actor scan.old session.old.cursor
+        → OnOk result (OperatesWithin db actor command.now (reading_in session.old) (read_so_far reader.old) (read_so_far reader.new)) }
+    ensures right { (db : Database) → ReadsFrom reader.old db → IsRightFor db actor scan.old session.old.cursor → IsRightFor db actor scan.new session.new.cursor }
     ensures user { session.new.user ≡ session.old.user }
-    ensures unsaid { OnErr result (reply.new.body ≡ []) }
-    ensures reads { ReadsOn each_error B.chip B.faults reader.old reader.new result }
+    ensures reads { ReadsOn each_error reader.old reader.new result }
 {
     let le = command.le.unwrap_or(Command::LARGEST_LE);
     match &command.operation {
@@ -111,18 +107,16 @@ fn give_rest<B: Eeprom>(
     le: u16,
     reply: &mut Reply,
 ) -> Result<StatusWord, EepromFault>
-    requires over { IsOver reader.old.store.now (B.chip reader.old.bench.now) }
     requires least { 1 ≤ le }
     requires most { le ≤ 256 }
     requires empty { reply.old.body ≡ [] }
-    ensures moves { (db : Database) → IsHeld reader.old.store.now reader.old.side (B.chip reader.old.bench.now) db
+    ensures moves { (db : Database) → ReadsFrom reader.old db
         → IfOk result (λ word. move_of db actor (reading_in session.old) (commands.get_response le) ≡ move_to reply.new.body word session.new.cursor session.new.pending) }
-    ensures octets_read { (db : Database) → IsHeld reader.old.store.now reader.old.side (B.chip reader.old.bench.now) db
-        → OnOk result (Becomes (RisesAtMost (octets_for_operation db actor session.old.cursor (commands.get_response le))) (B.octets_read reader.old.bench.now) (B.octets_read reader.new.bench.now)) }
+    ensures octets_read { (db : Database) → ReadsFrom reader.old db
+        → OnOk result (Becomes (RisesAtMost (octets_for_operation db actor session.old.cursor (commands.get_response le))) (read_so_far reader.old) (read_so_far reader.new)) }
     ensures cursor { session.new.cursor ≡ session.old.cursor }
     ensures user { session.new.user ≡ session.old.user }
-    ensures unsaid { OnErr result (reply.new.body ≡ []) }
-    ensures reads { ReadsOn each_error B.chip B.faults reader.old reader.new result }
+    ensures reads { ReadsOn each_error reader.old reader.new result }
 {
     let Some(cursor) = &session.cursor else {
         return Ok(StatusWord::CONDITIONS_NOT_SATISFIED);

@@ -1,8 +1,6 @@
 // BEGIN, COMMIT and ROLLBACK on the card (ISO/IEC 7816-7, PERFORM TRANSACTION OPERATION), and what an open transaction is to its channels.
-ghost use Rattle.std.specs.Prelude.{◌≡◌, ◌<◌, [], None, drop, is_some, IsTrue, OnOk};
-ghost use Rattle.eeprom.specs.Chip.{Chip, Keeps};
-ghost use Rattle.eeprom.specs.Fault.{Counts};
-ghost use Rattle.eeprom.specs.StoreOf.{image_size};
+ghost use Rattle.std.specs.Prelude.{◌≡◌, ◌<◌, [], None, is_some, IsTrue};
+ghost use Rattle.eeprom.specs.Chip.{Chip};
 ghost use Rattle.scql_model.specs.Bound.{octets_committed, or_nothing};
 ghost use Rattle.scql_model.specs.Machine as machine;
 ghost use Rattle.scql_model.specs.Operations.{kind_of};
@@ -10,10 +8,12 @@ ghost use Rattle.scql_model.specs.Replies as model;
 ghost use Rattle.scql_model.specs.Sessions.{without_cursor};
 ghost use Rattle.scql_model.specs.Step as stepping;
 ghost use Rattle.scql_model.specs.Transactions.{waits};
-ghost use Rattle.card.specs.Answering.{HoldsAnswer, Performs, changing_session};
-ghost use Rattle.card.specs.Card.{HoldsMachine, IsAt, StandsOver};
+ghost use Rattle.card.specs.Answering.{changing_session};
+ghost use Rattle.card.specs.Card.{HoldsMachine, StandsOver};
+ghost use Rattle.card.specs.CarryingOut.{CarriesOut, RepliesAtOnce};
 ghost use Rattle.card.specs.Waiting.{has_own, keeps_waiting, side_of};
 
+use crate::channel::Channel;
 use crate::engine::Engine;
 use crate::reading::is_reading;
 use eeprom::{Eeprom, EepromFault};
@@ -39,18 +39,18 @@ impl Engine {
     }
 
     // Whether a channel has the open transaction.
-    pub(super) fn has_transaction(&self, channel: u8) -> bool
-        ensures { result ≡ has_own self.now.transaction channel }
+    pub(super) fn has_transaction(&self, channel: Channel) -> bool
+        ensures { result ≡ has_own self.now.transaction channel.number }
     {
         match self.transaction {
-            Some(own) => own == channel,
+            Some(own) => own == channel.number,
             None => false,
         }
     }
 
     // The side that a channel reads and changes: the working one where it has the open transaction.
-    pub(super) fn side(&self, channel: u8) -> Side
-        ensures { result ≡ side_of self.now.transaction channel }
+    pub(super) fn side(&self, channel: Channel) -> Side
+        ensures { result ≡ side_of self.now.transaction channel.number }
     {
         if self.has_transaction(channel) {
             Side::Working
@@ -60,20 +60,16 @@ impl Engine {
     }
 
     // Begins a transaction of a channel, where none is open.
-    pub(super) fn begin(&mut self, channel: u8) -> StatusWord
-        requires channel { channel < 4 }
+    pub(super) fn begin(&mut self, channel: Channel) -> StatusWord
         requires begun { self.old.store.begun ≡ is_some self.old.transaction }
         requires index_begun { self.old.index.begun ≡ is_some self.old.transaction }
-        ensures step { (chip : Chip) (m : machine.Machine) → IsAt self.old chip m
-            → HoldsAnswer (stepping.answered m (stepping.transaction_begun m channel)) (model.said result) self.new chip }
-        ensures ready { (chip : Chip) → StandsOver self.old chip → StandsOver self.new chip }
-        ensures cells { self.new.store.chains.cells ≡ self.old.store.chains.cells }
+        ensures { RepliesAtOnce (λ m. stepping.answered m (stepping.transaction_begun m channel.number)) (model.said result) self.old self.new }
     {
         if self.transaction.is_some() {
             return StatusWord::CONDITIONS_NOT_SATISFIED;
         }
         self.tables.begin();
-        self.transaction = Some(channel);
+        self.transaction = Some(channel.number);
         self.drop_pending(channel);
         StatusWord::DONE
     }
@@ -82,16 +78,10 @@ impl Engine {
     pub(super) fn commit<B: Eeprom>(
         &mut self,
         bench: &mut B,
-        channel: u8,
+        channel: Channel,
     ) -> Result<StatusWord, EepromFault>
         requires ready { StandsOver self.old (B.chip bench.old) }
-        requires channel { channel < 4 }
-        ensures performs { (m : machine.Machine) → IsAt self.old (B.chip bench.old) m
-            → Performs m (stepping.answered m (stepping.transaction_committed m channel)) (or_nothing (octets_committed m channel)) [] result self.new (B.chip bench.old) (B.chip bench.new) }
-        ensures ready { OnOk result (StandsOver self.new (B.chip bench.new)) }
-        ensures cause { Counts (B.faults bench.old) (B.faults bench.new) result }
-        ensures cells { OnOk result (self.new.store.chains.cells ≡ self.old.store.chains.cells) }
-        ensures behind { Keeps (drop (image_size self.old.store.chains.cells)) (B.chip bench.old) (B.chip bench.new) }
+        ensures { CarriesOut B.chip B.faults StandsOver (λ m. stepping.answered m (stepping.transaction_committed m channel.number)) (λ m. or_nothing (octets_committed m channel.number)) [] bench.old bench.new self.old self.new result }
     {
         if !self.has_transaction(channel) {
             return Ok(StatusWord::CONDITIONS_NOT_SATISFIED);
@@ -103,14 +93,10 @@ impl Engine {
     }
 
     // Drops the transaction of a channel, where it has one, and the channel's cursor.
-    pub(super) fn roll_back(&mut self, channel: u8) -> StatusWord
-        requires channel { channel < 4 }
+    pub(super) fn roll_back(&mut self, channel: Channel) -> StatusWord
         requires begun { self.old.store.begun ≡ is_some self.old.transaction }
         requires index_begun { self.old.index.begun ≡ is_some self.old.transaction }
-        ensures step { (chip : Chip) (m : machine.Machine) → HoldsMachine self.old chip m
-            → HoldsAnswer (stepping.answered m (stepping.transaction_rolled_back m channel)) (model.said result) self.new chip }
-        ensures ready { (chip : Chip) → StandsOver self.old chip → StandsOver self.new chip }
-        ensures cells { self.new.store.chains.cells ≡ self.old.store.chains.cells }
+        ensures { RepliesAtOnce (λ m. stepping.answered m (stepping.transaction_rolled_back m channel.number)) (model.said result) self.old self.new }
     {
         if !self.has_transaction(channel) {
             return StatusWord::CONDITIONS_NOT_SATISFIED;
@@ -136,11 +122,10 @@ impl Engine {
     }
 
     // A channel has no cursor any more, nor is anything pending on it.
-    fn drop_cursor(&mut self, channel: u8)
-        requires channel { channel < 4 }
-        ensures { self.new ≡ changing_session without_cursor self.old channel }
+    fn drop_cursor(&mut self, channel: Channel)
+        ensures { self.new ≡ changing_session without_cursor self.old channel.number }
     {
-        if let Some(session) = &mut self.sessions[channel as usize] {
+        if let Some(session) = &mut self.sessions[channel.number as usize] {
             session.cursor = None;
             session.pending.forget();
         }

@@ -1,5 +1,5 @@
 -- Each way in which a change ends.
-use Rattle.std.proofs.Common.{List, Result, Err, ◌≡◌, ℕ, true, Option, is_some, sym, ap, subst, ◌∙◌, rules}
+use Rattle.std.proofs.Common.{List, Result, Err, ◌≡◌, ℕ, Option, is_some, sym, ap, subst, ◌∙◌, rules}
 use Rattle.eeprom.specs.Chip.{Chip, Keeps}
 use Rattle.eeprom.specs.StoreOf.{store_of}
 use Rattle.record_store.specs.Held.{Held}

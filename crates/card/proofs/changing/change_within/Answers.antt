@@ -1,5 +1,5 @@
 -- Each way in which a change within a transaction ends.
-use Rattle.std.proofs.Common.{◌≡◌, ℕ, List, Option, Result, Ok, Err, is_some, refl, sym, ap, subst, ◌∙◌, inl, inr, arith}
+use Rattle.std.proofs.Common.{◌≡◌, ℕ, List, Option, Result, Ok, Err, is_some, refl, sym, ap, subst, ◌∙◌, inl, inr}
 use Rattle.std.specs.Prelude.{IfSome, IsErrOf}
 use Rattle.eeprom.specs.Chip.{Chip}
 use Rattle.record_store.specs.Held.{Held}
@@ -14,7 +14,6 @@ use Rattle.scql_model.specs.Creating.{IsActorOf}
 use Rattle.scql_model.specs.Cursors.{IsCursorOf}
 use Rattle.scql_model.specs.Database.{Database}
 use Rattle.scql_model.specs.WellFormed.{FitsCard}
-use Rattle.scql_model.proofs.ObjectsFollow.{Follows-edits_of}
 use Rattle.record_table.specs.Making.{Ends, IsHeld, Makes}
 use Rattle.record_table.specs.declared.stop.Stop.{Stop}
 use Rattle.record_table.specs.declared.stop.Stop.TheVariants.{Fault, Refused}

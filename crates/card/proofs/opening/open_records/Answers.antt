@@ -8,7 +8,7 @@ use Rattle.eeprom.specs.StoreOf.{Stored, is_gate_open, store_of}
 use Rattle.record_store.specs.Faults.{is_open_fault}
 use Rattle.record_store.specs.declared.side.Side.TheVariants.{Committed}
 use Rattle.record_store.specs.Held.{stored}
-use Rattle.record_store.specs.Opening.{IsOverSoFar, front_octets, slot_with}
+use Rattle.record_store.specs.Opening.{IsOverSoFar, front_octets}
 use Rattle.record_store.specs.Recovery.{KeepsStore}
 use Rattle.row_index.specs.Index.{Index}
 use Rattle.row_index.proofs.Changes.{length-in_order}

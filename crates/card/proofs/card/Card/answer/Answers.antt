@@ -23,17 +23,17 @@ engine-at : (card engine : Kept) (chip : Chip) (m : Machine) → engine ≡ card
 engine-at card engine chip m same at = subst (λ (kept : Kept). IsAt kept chip m) (sym same) at
 
 pub returns-in-Ok-clause-moments : goal.returns-in-Ok-clause-moments
-returns-in-Ok-clause-moments g c = λ m at. (c.in-Ok.ensures.performs m (engine-at _ _ _ m c.self.view_is at)).moments
+returns-in-Ok-clause-moments g c = λ m at. (c.in-Ok.ensures.carries.performs m (engine-at _ _ _ m c.self.view_is at)).moments
 
 pub returns-in-Err-clause-moments : goal.returns-in-Err-clause-moments
-returns-in-Err-clause-moments g c = λ m at. (c.in-Err.ensures.performs m (engine-at _ _ _ m c.self.view_is at)).moments
+returns-in-Err-clause-moments g c = λ m at. (c.in-Err.ensures.carries.performs m (engine-at _ _ _ m c.self.view_is at)).moments
 
 pub returns-in-Ok-clause-replied : goal.returns-in-Ok-clause-replied
 unfolding step octets_bound
 returns-in-Ok-clause-replied g c = λ m at is.
     let octets = c.args.command.now in
     let before = engine-at _ _ _ m c.self.view_is at in
-    let performs = c.in-Ok.ensures.performs m before in
+    let performs = c.in-Ok.ensures.carries.performs m before in
     let says = performs.step in
     let word = ap (λ (sent : Reply). sent.word) says.reply in
     let valid = (IsValidAnswer-step m octets (λ i. omega (arith, c.type_inv.command i)) at.valid).machine in
@@ -41,7 +41,7 @@ returns-in-Ok-clause-replied g c = λ m at is.
     let reply = ap (λ (sent : Reply). replied sent.body c.in-Ok.word) c.reply-2.view_is ∙ says.reply in
     record {
       step = record { reply = reply; at = record { held = says.held; valid = valid } };
-      in_turn = leaves-each _ _ _ m (step m octets) performs.moments c.in-Ok.ensures.ready.stands says.held valid.committed (last-step m octets) (two-step m octets) (c.in-Ok.ensures.lowered m before);
+      in_turn = leaves-each _ _ _ m (step m octets) performs.moments c.in-Ok.ensures.carries.ready.stands says.held valid.committed (last-step m octets) (two-step m octets) (c.in-Ok.ensures.lowered m before);
       unwritten = performs.unwritten;
       refused = elim (step-accepts_or_leaves m octets) [
         | inl accepts ↦ inl (accepts_so accepts)

@@ -1,5 +1,5 @@
 -- A command reads, or what was found for the one that read last is let go behind it.
-use Rattle.std.proofs.Common.{◌≡◌, ℕ, List, Result, Ok, Err, sym, ◌∙◌, ap, subst}
+use Rattle.std.proofs.Common.{rules, ◌≡◌, ℕ, List, Result, Ok, Err, sym, ◌∙◌, ap, subst}
 use Rattle.std.specs.Prelude.{OnOk}
 use Rattle.eeprom.specs.Chip.{Chip}
 use Rattle.eeprom.specs.declared.EepromFault.{EepromFault}
@@ -24,8 +24,14 @@ pub returns-then-is_reading-clause-lowered : goal.returns-then-is_reading-clause
 returns-then-is_reading-clause-lowered g c = λ m at. not_twice m c.args.command.now c.read.result _ _ (λ secret is. let reads = sym c.is_reading.ensures ∙ c.if-is_reading.true in let wrong = rw is at reads in absurd cc)
 
 -- What was found is let go.
-pub returns-then-not-changes_rows-clause-ready : goal.returns-then-not-changes_rows-clause-ready
-returns-then-not-changes_rows-clause-ready g c =
-    let new = g.B.Eeprom.chip c.carry_out_otherwise.new.bench in
-    subst (λ (kept : Kept). IsReady (record kept { found = c.forget.new.self }) new) (sym c.self.view_is)
-    (IsReady-none c.carry_out_otherwise.new.self c.forget.new.self new (ap (λ (f : Found). f.last) c.forget.ensures) c.in_ok-word.ensures.ready)
+
+pub returns-then-not-changes_rows-clause-carries : goal.returns-then-not-changes_rows-clause-carries
+returns-then-not-changes_rows-clause-carries g c = record {
+  performs = search rules;
+  ready = (let new = g.B.Eeprom.chip c.carry_out_otherwise.new.bench in
+      subst (λ (kept : Kept). IsReady (record kept { found = c.forget.new.self }) new) (sym c.self.view_is)
+      (IsReady-none c.carry_out_otherwise.new.self c.forget.new.self new (ap (λ (f : Found). f.last) c.forget.ensures) c.in_ok-word.ensures.carries.ready));
+  cause = search rules;
+  cells = search rules;
+  behind = search rules;
+}

@@ -1,5 +1,5 @@
 -- A change of a channel is one of the machine's, within its transaction or in one of its own.
-use Rattle.std.proofs.Common.{◌≡◌, ◌≤◌, ◌∙◌, ◌==◌, ℕ, Bool, true, false, Option, Some, Ok, is_some, refl, sym, ap, subst, drop, arith, if◌then◌else◌}
+use Rattle.std.proofs.Common.{rules, ◌≡◌, ◌∙◌, ◌==◌, ℕ, Bool, true, false, Option, Some, Ok, is_some, refl, sym, ap, subst, drop, arith, if◌then◌else◌}
 use Rattle.std.specs.Prelude.{IfOk, IfSome, not}
 use Rattle.std.proofs.lemmas.Bool.{false≢true}
 use Rattle.eeprom.specs.Chip.{Keeps}
@@ -23,7 +23,7 @@ use Rattle.card.specs.Sessions as opened
 use Rattle.card.specs.Waiting.{keeps_waiting, side_of}
 use Rattle.card.specs.declared.found.Found.{Found}
 use Rattle.card.proofs.FoundAgain.{found-at_once, found-within}
-use Rattle.card.proofs.ReadingCard.{Performs-err, cursor-card}
+use Rattle.card.proofs.ReadingCard.{Performs-err, cursor-card, err-on}
 use Rattle.card.proofs.SeenSessions.{closed-none, cursor-seen, index-there}
 use Rattle.card.proofs.Sides.{StandsOver-found, StandsOver-idle, StandsOver-settled, StandsOver-within}
 use Rattle.card.proofs.Performing.{HoldsMachine-found, IsAtRest-at}
@@ -41,94 +41,105 @@ side-own transaction own channel is mine = rw is (of (own == channel) (rw is at 
 
 pub unreachable-requires : goal.unreachable-requires
 unreachable-requires g c =
-    let there = index-there c.self.inside.sessions.value c.from.result c.index-sessions-from.result (omega (arith, c.from.ensures, c.requires.channel, c.self.invariant.0)) (rw c.deref-sessions.ensures at c.index-sessions-from.is) ∙ (c.index-sessions-from.is ∙ c.in_default.is) in
+    let there = index-there c.self.inside.sessions.value c.from.result c.index-sessions-from.result (omega (arith, c.from.ensures, c.requires.asked.formed.channel, c.self.invariant.0)) (rw c.deref-sessions.ensures at c.index-sessions-from.is) ∙ (c.index-sessions-from.is ∙ c.in_default.is) in
     let closed = rw c.from.ensures at (closed-none c.self.inside.sessions.value c.self.inside.chains.value c.from.result there) in
-    false≢true (sym closed ∙ (ap (λ (kept : Kept). opened.is_open kept.sessions c.args.channel) (c.self.view_is ∙ c.known_actor-known.ensures.kept) ∙ c.requires.there))
+    false≢true (sym closed ∙ (ap (λ (kept : Kept). opened.is_open kept.sessions c.args.command.now.channel) (c.self.view_is ∙ c.known_actor-known.ensures.kept) ∙ c.requires.asked.opened))
 
-pub returns-in_err-word-in-None-clause-performs : goal.returns-in_err-word-in-None-clause-performs
-returns-in_err-word-in-None-clause-performs g c = λ m from.
-    let old = g.B.Eeprom.chip c.args.bench.now in
-    let new = g.B.Eeprom.chip c.change.new.bench in
-    let there = index-there c.self.inside.sessions.value c.from.result c.index-sessions-from.result (omega (arith, c.from.ensures, c.requires.channel, c.self.invariant.0)) (rw c.deref-sessions.ensures at c.index-sessions-from.is) ∙ (c.index-sessions-from.is ∙ c.in-Some.is) in
-    let reads = cursor-card c.args.self.now old m c.self.inside.sessions.value c.self.inside.chains.value c.args.channel c.in-Some.session from (ap (λ (kept : Kept). kept.sessions) (sym (c.self.view_is ∙ c.known_actor-known.ensures.kept))) (c.self.invariant.0 ∙ sym c.self.invariant.1)
-    (rw c.from.ensures at there) in
-    let by = Performs-at_once (record c.args.self.now { found = c.known_actor-known.new.self.found }) (record c.args.self.now { found = c.known_actor-known.new.self.found }) c.change.new.tables.store c.change.new.tables.index old new m c.args.channel c.args.operation.now c.proved_user-user.result c.in-Some.session.cursor c.change.result (StandsOver-found c.args.self.now c.known_actor-known.new.self.found old c.requires.ready) (record { held = HoldsMachine-found c.args.self.now c.known_actor-known.new.self.found old m from.held; valid = from.valid })
-    (ap (λ (kept : Kept). kept.transaction) (sym (c.self.view_is ∙ c.known_actor-known.ensures.kept)) ∙ c.in-None.is) (c.proved_user-user.ensures ∙ ap (λ (kept : Kept). opened.proved_user (opened.session_on kept.sessions c.args.channel)) c.known_actor-known.ensures.kept) reads (rw c.in_err-word-in-None.was tt)
-    (subst (λ (kept : Kept). (db : Database) → IsAtRest kept.store old db → IfSome c.in-Some.session.cursor (IsCursorOf db)
-    → Changes db (edits_of db (acting db c.proved_user-user.result) c.in-Some.session.cursor c.args.operation.now) c.change.result c.change.new.tables.store old new) (c.self.view_is ∙ c.known_actor-known.ensures.kept) c.change.ensures.changes) in
-    Performs-err _ c.from_residual.ensures.1 by.moments
+pub returns-in_err-word-in-None-clause-carries : goal.returns-in_err-word-in-None-clause-carries
+returns-in_err-word-in-None-clause-carries g c = record {
+  performs = λ m from.
+      let old = g.B.Eeprom.chip c.args.bench.now in
+      let new = g.B.Eeprom.chip c.change.new.bench in
+      let there = index-there c.self.inside.sessions.value c.from.result c.index-sessions-from.result (omega (arith, c.from.ensures, c.requires.asked.formed.channel, c.self.invariant.0)) (rw c.deref-sessions.ensures at c.index-sessions-from.is) ∙ (c.index-sessions-from.is ∙ c.in-Some.is) in
+      let reads = cursor-card c.args.self.now old m c.self.inside.sessions.value c.self.inside.chains.value c.args.command.now.channel c.in-Some.session from (ap (λ (kept : Kept). kept.sessions) (sym (c.self.view_is ∙ c.known_actor-known.ensures.kept))) (c.self.invariant.0 ∙ sym c.self.invariant.1)
+      (rw c.from.ensures at there) in
+      let by = Performs-at_once (record c.args.self.now { found = c.known_actor-known.new.self.found }) (record c.args.self.now { found = c.known_actor-known.new.self.found }) c.change.new.tables.store c.change.new.tables.index old new m c.args.command.now.channel c.args.command.now.operation c.proved_user-user.result c.in-Some.session.cursor c.change.result (StandsOver-found c.args.self.now c.known_actor-known.new.self.found old c.requires.ready) (record { held = HoldsMachine-found c.args.self.now c.known_actor-known.new.self.found old m from.held; valid = from.valid })
+      (ap (λ (kept : Kept). kept.transaction) (sym (c.self.view_is ∙ c.known_actor-known.ensures.kept)) ∙ c.in-None.is) (c.proved_user-user.ensures ∙ ap (λ (kept : Kept). opened.proved_user (opened.session_on kept.sessions c.args.command.now.channel)) c.known_actor-known.ensures.kept) reads (rw c.in_err-word-in-None.was tt)
+      (subst (λ (kept : Kept). (db : Database) → IsAtRest kept.store old db → IfSome c.in-Some.session.cursor (IsCursorOf db)
+      → Changes db (edits_of db (acting db c.proved_user-user.result) c.in-Some.session.cursor c.args.command.now.operation) c.change.result c.change.new.tables.store old new) (c.self.view_is ∙ c.known_actor-known.ensures.kept) c.change.ensures.changes) in
+      Performs-err _ c.from_residual.ensures.1 by.moments;
+  ready = err-on _ _ c.from_residual.result c.from_residual.ensures.1;
+  cause = search rules;
+  cells = err-on _ _ c.from_residual.result c.from_residual.ensures.1;
+  behind = search rules;
+}
 
-pub returns-in_err-word-in-Some-transaction-clause-performs : goal.returns-in_err-word-in-Some-transaction-clause-performs
-returns-in_err-word-in-Some-transaction-clause-performs g c = λ m from.
-    let old = g.B.Eeprom.chip c.args.bench.now in
-    let new = g.B.Eeprom.chip c.change_within.new.bench in
-    let there = index-there c.self.inside.sessions.value c.from.result c.index-sessions-from.result (omega (arith, c.from.ensures, c.requires.channel, c.self.invariant.0)) (rw c.deref-sessions.ensures at c.index-sessions-from.is) ∙ (c.index-sessions-from.is ∙ c.in-Some.is) in
-    let reads = cursor-card c.args.self.now old m c.self.inside.sessions.value c.self.inside.chains.value c.args.channel c.in-Some.session from (ap (λ (kept : Kept). kept.sessions) (sym (c.self.view_is ∙ c.known_actor-known.ensures.kept))) (c.self.invariant.0 ∙ sym c.self.invariant.1)
-    (rw c.from.ensures at there) in
-    let by = Performs-in_transaction (record c.args.self.now { found = c.known_actor-known.new.self.found }) (record c.args.self.now { found = c.known_actor-known.new.self.found }) c.change_within.new.tables.store c.change_within.new.tables.index old new m c.args.channel c.in-Some-transaction.field-0 c.args.operation.now c.proved_user-user.result c.in-Some.session.cursor
-    c.change_within.result (StandsOver-found c.args.self.now c.known_actor-known.new.self.found old c.requires.ready) (record { held = HoldsMachine-found c.args.self.now c.known_actor-known.new.self.found old m from.held; valid = from.valid }) (ap (λ (kept : Kept). kept.transaction) (sym (c.self.view_is ∙ c.known_actor-known.ensures.kept)) ∙ c.in-Some-transaction.is) c.requires.mine (c.proved_user-user.ensures ∙ ap (λ (kept : Kept). opened.proved_user (opened.session_on kept.sessions c.args.channel)) c.known_actor-known.ensures.kept) reads (rw c.in_err-word-in-Some-transaction.was tt)
-    (subst (λ (kept : Kept). (db : Database) → IsHeld kept.store Working old db → IfSome c.in-Some.session.cursor (IsCursorOf db)
-    → IfOk c.change_within.result (λ word. ConcludesWithin db (edits_of db (acting db c.proved_user-user.result) c.in-Some.session.cursor c.args.operation.now) word kept.store c.change_within.new.tables.store old new)) (c.self.view_is ∙ c.known_actor-known.ensures.kept) c.change_within.ensures.changes)
-    (rw c.in_err-word-in-Some-transaction.was tt) (rw c.in_err-word-in-Some-transaction.was tt) c.change_within.ensures.moments in
-    Performs-err _ c.from_residual-in_err-word-in-Some-transaction.ensures.1 by.moments
+pub returns-in_err-word-in-Some-transaction-clause-carries : goal.returns-in_err-word-in-Some-transaction-clause-carries
+returns-in_err-word-in-Some-transaction-clause-carries g c = record {
+  performs = λ m from.
+      let old = g.B.Eeprom.chip c.args.bench.now in
+      let new = g.B.Eeprom.chip c.change_within.new.bench in
+      let there = index-there c.self.inside.sessions.value c.from.result c.index-sessions-from.result (omega (arith, c.from.ensures, c.requires.asked.formed.channel, c.self.invariant.0)) (rw c.deref-sessions.ensures at c.index-sessions-from.is) ∙ (c.index-sessions-from.is ∙ c.in-Some.is) in
+      let reads = cursor-card c.args.self.now old m c.self.inside.sessions.value c.self.inside.chains.value c.args.command.now.channel c.in-Some.session from (ap (λ (kept : Kept). kept.sessions) (sym (c.self.view_is ∙ c.known_actor-known.ensures.kept))) (c.self.invariant.0 ∙ sym c.self.invariant.1)
+      (rw c.from.ensures at there) in
+      let by = Performs-in_transaction (record c.args.self.now { found = c.known_actor-known.new.self.found }) (record c.args.self.now { found = c.known_actor-known.new.self.found }) c.change_within.new.tables.store c.change_within.new.tables.index old new m c.args.command.now.channel c.in-Some-transaction.field-0 c.args.command.now.operation c.proved_user-user.result c.in-Some.session.cursor
+      c.change_within.result (StandsOver-found c.args.self.now c.known_actor-known.new.self.found old c.requires.ready) (record { held = HoldsMachine-found c.args.self.now c.known_actor-known.new.self.found old m from.held; valid = from.valid }) (ap (λ (kept : Kept). kept.transaction) (sym (c.self.view_is ∙ c.known_actor-known.ensures.kept)) ∙ c.in-Some-transaction.is) c.requires.mine (c.proved_user-user.ensures ∙ ap (λ (kept : Kept). opened.proved_user (opened.session_on kept.sessions c.args.command.now.channel)) c.known_actor-known.ensures.kept) reads (rw c.in_err-word-in-Some-transaction.was tt)
+      (subst (λ (kept : Kept). (db : Database) → IsHeld kept.store Working old db → IfSome c.in-Some.session.cursor (IsCursorOf db)
+      → IfOk c.change_within.result (λ word. ConcludesWithin db (edits_of db (acting db c.proved_user-user.result) c.in-Some.session.cursor c.args.command.now.operation) word kept.store c.change_within.new.tables.store old new)) (c.self.view_is ∙ c.known_actor-known.ensures.kept) c.change_within.ensures.changes)
+      (rw c.in_err-word-in-Some-transaction.was tt) (rw c.in_err-word-in-Some-transaction.was tt) c.change_within.ensures.moments in
+      Performs-err _ c.from_residual-in_err-word-in-Some-transaction.ensures.1 by.moments;
+  ready = err-on _ _ c.from_residual-in_err-word-in-Some-transaction.result c.from_residual-in_err-word-in-Some-transaction.ensures.1;
+  cause = search rules;
+  cells = err-on _ _ c.from_residual-in_err-word-in-Some-transaction.result c.from_residual-in_err-word-in-Some-transaction.ensures.1;
+  behind = search rules;
+}
 
-pub returns-clause-performs : goal.returns-clause-performs
-returns-clause-performs g c = λ m from.
-    let old = g.B.Eeprom.chip c.args.bench.now in
-    let there = index-there c.self.inside.sessions.value c.from.result c.index-sessions-from.result (omega (arith, c.from.ensures, c.requires.channel, c.self.invariant.0)) (rw c.deref-sessions.ensures at c.index-sessions-from.is) ∙ (c.index-sessions-from.is ∙ c.in-Some.is) in
-    let reads = cursor-card c.args.self.now old m c.self.inside.sessions.value c.self.inside.chains.value c.args.channel c.in-Some.session from (ap (λ (kept : Kept). kept.sessions) (sym (c.self.view_is ∙ c.known_actor-known.ensures.kept))) (c.self.invariant.0 ∙ sym c.self.invariant.1)
-    (rw c.from.ensures at there) in
-    elim c.match-transaction.branch [
-      | in-None+in_ok-word-in-None w ↦ (
-          let new = g.B.Eeprom.chip w.change.new.bench in
-          let word = w.in_ok-word-in-None.word in
-          rw (w.bench-is, w.word-is) (Performs-at_once (record c.args.self.now { found = c.known_actor-known.new.self.found }) c.settle.new.self w.change.new.tables.store w.change.new.tables.index old new m c.args.channel c.args.operation.now c.proved_user-user.result c.in-Some.session.cursor (Ok word) (StandsOver-found c.args.self.now c.known_actor-known.new.self.found old c.requires.ready) (record { held = HoldsMachine-found c.args.self.now c.known_actor-known.new.self.found old m from.held; valid = from.valid })
-          (ap (λ (kept : Kept). kept.transaction) (sym (c.self.view_is ∙ c.known_actor-known.ensures.kept)) ∙ w.in-None.is) (c.proved_user-user.ensures ∙ ap (λ (kept : Kept). opened.proved_user (opened.session_on kept.sessions c.args.channel)) c.known_actor-known.ensures.kept) reads
-          ((rw (w.word-is, w.self-inside-is, w.change.ensures.scan_same, c.deref_mut.ensures.value) at c.settle.ensures) ∙ ap (λ (kept : Kept). settled word (record kept { store = w.change.new.tables.store; index = w.change.new.tables.index }) c.args.channel) (c.self.view_is ∙ c.known_actor-known.ensures.kept))
-          (subst (λ (kept : Kept). (db : Database) → IsAtRest kept.store old db → IfSome c.in-Some.session.cursor (IsCursorOf db)
-          → Changes db (edits_of db (acting db c.proved_user-user.result) c.in-Some.session.cursor c.args.operation.now) (Ok word) w.change.new.tables.store old new) (c.self.view_is ∙ c.known_actor-known.ensures.kept) w.in_ok-word-in-None.ensures.changes)))
-      | in-Some-transaction+in_ok-word-in-Some-transaction w ↦ (
-          let new = g.B.Eeprom.chip w.change_within.new.bench in
-          let word = w.in_ok-word-in-Some-transaction.word in
-          rw (w.bench-is, w.word-is) (Performs-in_transaction (record c.args.self.now { found = c.known_actor-known.new.self.found }) c.settle.new.self w.change_within.new.tables.store w.change_within.new.tables.index old new m c.args.channel w.in-Some-transaction.field-0 c.args.operation.now c.proved_user-user.result c.in-Some.session.cursor
-          (Ok word) (StandsOver-found c.args.self.now c.known_actor-known.new.self.found old c.requires.ready) (record { held = HoldsMachine-found c.args.self.now c.known_actor-known.new.self.found old m from.held; valid = from.valid }) (ap (λ (kept : Kept). kept.transaction) (sym (c.self.view_is ∙ c.known_actor-known.ensures.kept)) ∙ w.in-Some-transaction.is) c.requires.mine (c.proved_user-user.ensures ∙ ap (λ (kept : Kept). opened.proved_user (opened.session_on kept.sessions c.args.channel)) c.known_actor-known.ensures.kept) reads
-          ((rw (w.word-is, w.self-inside-is, w.change_within.ensures.scan_same, c.deref_mut.ensures.value) at c.settle.ensures) ∙ ap (λ (kept : Kept). settled word (record kept { store = w.change_within.new.tables.store; index = w.change_within.new.tables.index }) c.args.channel) (c.self.view_is ∙ c.known_actor-known.ensures.kept))
-          (subst (λ (kept : Kept). (db : Database) → IsHeld kept.store Working old db → IfSome c.in-Some.session.cursor (IsCursorOf db)
-          → ConcludesWithin db (edits_of db (acting db c.proved_user-user.result) c.in-Some.session.cursor c.args.operation.now) word kept.store w.change_within.new.tables.store old new) (c.self.view_is ∙ c.known_actor-known.ensures.kept) w.in_ok-word-in-Some-transaction.ensures.changes)
-          (subst (λ (kept : Kept). slots_of w.change_within.new.tables.store Committed new ≡ slots_of kept.store Committed old) (c.self.view_is ∙ c.known_actor-known.ensures.kept) w.in_ok-word-in-Some-transaction.ensures.committed)
-          (subst (λ (kept : Kept). GoesOn kept.store w.change_within.new.tables.store old new) (c.self.view_is ∙ c.known_actor-known.ensures.kept) w.in_ok-word-in-Some-transaction.ensures.goes_on) w.in_ok-word-in-Some-transaction.ensures.moments))
-    ]
-
-pub returns-clause-ready : goal.returns-clause-ready
-returns-clause-ready g c =
-    let old = g.B.Eeprom.chip c.args.bench.now in
-    elim c.match-transaction.branch [
-      | in-None+in_ok-word-in-None w ↦ (
-          let changed : Kept = record (record c.args.self.now { found = c.known_actor-known.new.self.found }) { store = w.change.new.tables.store; index = w.change.new.tables.index } in
-          let is = (rw (w.word-is, w.self-inside-is, w.change.ensures.scan_same, c.deref_mut.ensures.value) at c.settle.ensures) ∙ ap (λ (kept : Kept). settled w.in_ok-word-in-None.word (record kept { store = w.change.new.tables.store; index = w.change.new.tables.index }) c.args.channel) (c.self.view_is ∙ c.known_actor-known.ensures.kept) in
-          let new = g.B.Eeprom.chip w.change.new.bench in
-          let ensures = w.in_ok-word-in-None.ensures in
-          rw w.bench-is (subst (λ (kept : Kept). StandsOver kept new) (sym is) (StandsOver-settled w.in_ok-word-in-None.word changed c.args.channel new
-          (StandsOver-idle changed new c.requires.ready.live (ap (λ (kept : Kept). kept.transaction) (sym (c.self.view_is ∙ c.known_actor-known.ensures.kept)) ∙ w.in-None.is) ensures.idle ensures.stand.over ensures.holds (ensures.stand.together ∙ ensures.idle) ensures.stand.index))))
-      | in-Some-transaction+in_ok-word-in-Some-transaction w ↦ (
-          let changed : Kept = record (record c.args.self.now { found = c.known_actor-known.new.self.found }) { store = w.change_within.new.tables.store; index = w.change_within.new.tables.index } in
-          let is = (rw (w.word-is, w.self-inside-is, w.change_within.ensures.scan_same, c.deref_mut.ensures.value) at c.settle.ensures) ∙ ap (λ (kept : Kept). settled w.in_ok-word-in-Some-transaction.word (record kept { store = w.change_within.new.tables.store; index = w.change_within.new.tables.index }) c.args.channel) (c.self.view_is ∙ c.known_actor-known.ensures.kept) in
-          let new = g.B.Eeprom.chip w.change_within.new.bench in
-          let ensures = w.in_ok-word-in-Some-transaction.ensures in
-          let ready = StandsOver-found c.args.self.now c.known_actor-known.new.self.found old c.requires.ready in
-          let there : is_some c.args.self.now.transaction ≡ true = ap is_some (ap (λ (kept : Kept). kept.transaction) (sym (c.self.view_is ∙ c.known_actor-known.ensures.kept)) ∙ w.in-Some-transaction.is) in
-          let goes_on = subst (λ (kept : Kept). GoesOn kept.store w.change_within.new.tables.store old new) (c.self.view_is ∙ c.known_actor-known.ensures.kept) ensures.goes_on in
-          rw w.bench-is (subst (λ (kept : Kept). StandsOver kept new) (sym is) (StandsOver-settled w.in_ok-word-in-Some-transaction.word changed c.args.channel new
-          (StandsOver-within (record c.args.self.now { found = c.known_actor-known.new.self.found }) w.change_within.new.tables.store w.change_within.new.tables.index old new ready there
-          goes_on (subst (λ (kept : Kept). slots_of w.change_within.new.tables.store Committed new ≡ slots_of kept.store Committed old) (c.self.view_is ∙ c.known_actor-known.ensures.kept) ensures.committed)
-          ensures.works (ensures.stand.together ∙ (goes_on.begun ∙ (ready.begun ∙ there))) ensures.stand.index))))
-    ]
-
-pub returns-clause-behind : goal.returns-clause-behind
-returns-clause-behind g c = elim c.match-transaction.branch [
-  | in-None+in_ok-word-in-None w ↦ rw w.bench-is (subst (λ (kept : Kept). Keeps (drop (image_size kept.store.chains.cells)) (g.B.Eeprom.chip c.args.bench.now) (g.B.Eeprom.chip w.change.new.bench)) (c.self.view_is ∙ c.known_actor-known.ensures.kept) w.change.ensures.behind)
-  | in-Some-transaction+in_ok-word-in-Some-transaction w ↦ rw w.bench-is (subst (λ (kept : Kept). Keeps (drop (image_size kept.store.chains.cells)) (g.B.Eeprom.chip c.args.bench.now) (g.B.Eeprom.chip w.change_within.new.bench)) (c.self.view_is ∙ c.known_actor-known.ensures.kept) w.change_within.ensures.behind)
-]
+pub returns-clause-carries : goal.returns-clause-carries
+returns-clause-carries g c = record {
+  performs = λ m from.
+      let old = g.B.Eeprom.chip c.args.bench.now in
+      let there = index-there c.self.inside.sessions.value c.from.result c.index-sessions-from.result (omega (arith, c.from.ensures, c.requires.asked.formed.channel, c.self.invariant.0)) (rw c.deref-sessions.ensures at c.index-sessions-from.is) ∙ (c.index-sessions-from.is ∙ c.in-Some.is) in
+      let reads = cursor-card c.args.self.now old m c.self.inside.sessions.value c.self.inside.chains.value c.args.command.now.channel c.in-Some.session from (ap (λ (kept : Kept). kept.sessions) (sym (c.self.view_is ∙ c.known_actor-known.ensures.kept))) (c.self.invariant.0 ∙ sym c.self.invariant.1)
+      (rw c.from.ensures at there) in
+      elim c.match-transaction.branch [
+        | in-None+in_ok-word-in-None w ↦ (
+            let new = g.B.Eeprom.chip w.change.new.bench in
+            let word = w.in_ok-word-in-None.word in
+            rw (w.bench-is, w.word-is) (Performs-at_once (record c.args.self.now { found = c.known_actor-known.new.self.found }) c.settle.new.self w.change.new.tables.store w.change.new.tables.index old new m c.args.command.now.channel c.args.command.now.operation c.proved_user-user.result c.in-Some.session.cursor (Ok word) (StandsOver-found c.args.self.now c.known_actor-known.new.self.found old c.requires.ready) (record { held = HoldsMachine-found c.args.self.now c.known_actor-known.new.self.found old m from.held; valid = from.valid })
+            (ap (λ (kept : Kept). kept.transaction) (sym (c.self.view_is ∙ c.known_actor-known.ensures.kept)) ∙ w.in-None.is) (c.proved_user-user.ensures ∙ ap (λ (kept : Kept). opened.proved_user (opened.session_on kept.sessions c.args.command.now.channel)) c.known_actor-known.ensures.kept) reads
+            ((rw (w.word-is, w.self-inside-is, w.change.ensures.scan_same, c.deref_mut.ensures.value) at c.settle.ensures) ∙ ap (λ (kept : Kept). settled word (record kept { store = w.change.new.tables.store; index = w.change.new.tables.index }) c.args.command.now.channel) (c.self.view_is ∙ c.known_actor-known.ensures.kept))
+            (subst (λ (kept : Kept). (db : Database) → IsAtRest kept.store old db → IfSome c.in-Some.session.cursor (IsCursorOf db)
+            → Changes db (edits_of db (acting db c.proved_user-user.result) c.in-Some.session.cursor c.args.command.now.operation) (Ok word) w.change.new.tables.store old new) (c.self.view_is ∙ c.known_actor-known.ensures.kept) w.in_ok-word-in-None.ensures.changes)))
+        | in-Some-transaction+in_ok-word-in-Some-transaction w ↦ (
+            let new = g.B.Eeprom.chip w.change_within.new.bench in
+            let word = w.in_ok-word-in-Some-transaction.word in
+            rw (w.bench-is, w.word-is) (Performs-in_transaction (record c.args.self.now { found = c.known_actor-known.new.self.found }) c.settle.new.self w.change_within.new.tables.store w.change_within.new.tables.index old new m c.args.command.now.channel w.in-Some-transaction.field-0 c.args.command.now.operation c.proved_user-user.result c.in-Some.session.cursor
+            (Ok word) (StandsOver-found c.args.self.now c.known_actor-known.new.self.found old c.requires.ready) (record { held = HoldsMachine-found c.args.self.now c.known_actor-known.new.self.found old m from.held; valid = from.valid }) (ap (λ (kept : Kept). kept.transaction) (sym (c.self.view_is ∙ c.known_actor-known.ensures.kept)) ∙ w.in-Some-transaction.is) c.requires.mine (c.proved_user-user.ensures ∙ ap (λ (kept : Kept). opened.proved_user (opened.session_on kept.sessions c.args.command.now.channel)) c.known_actor-known.ensures.kept) reads
+            ((rw (w.word-is, w.self-inside-is, w.change_within.ensures.scan_same, c.deref_mut.ensures.value) at c.settle.ensures) ∙ ap (λ (kept : Kept). settled word (record kept { store = w.change_within.new.tables.store; index = w.change_within.new.tables.index }) c.args.command.now.channel) (c.self.view_is ∙ c.known_actor-known.ensures.kept))
+            (subst (λ (kept : Kept). (db : Database) → IsHeld kept.store Working old db → IfSome c.in-Some.session.cursor (IsCursorOf db)
+            → ConcludesWithin db (edits_of db (acting db c.proved_user-user.result) c.in-Some.session.cursor c.args.command.now.operation) word kept.store w.change_within.new.tables.store old new) (c.self.view_is ∙ c.known_actor-known.ensures.kept) w.in_ok-word-in-Some-transaction.ensures.changes)
+            (subst (λ (kept : Kept). slots_of w.change_within.new.tables.store Committed new ≡ slots_of kept.store Committed old) (c.self.view_is ∙ c.known_actor-known.ensures.kept) w.in_ok-word-in-Some-transaction.ensures.committed)
+            (subst (λ (kept : Kept). GoesOn kept.store w.change_within.new.tables.store old new) (c.self.view_is ∙ c.known_actor-known.ensures.kept) w.in_ok-word-in-Some-transaction.ensures.goes_on) w.in_ok-word-in-Some-transaction.ensures.moments))
+      ];
+  ready = (let old = g.B.Eeprom.chip c.args.bench.now in
+      elim c.match-transaction.branch [
+        | in-None+in_ok-word-in-None w ↦ (
+            let changed : Kept = record (record c.args.self.now { found = c.known_actor-known.new.self.found }) { store = w.change.new.tables.store; index = w.change.new.tables.index } in
+            let is = (rw (w.word-is, w.self-inside-is, w.change.ensures.scan_same, c.deref_mut.ensures.value) at c.settle.ensures) ∙ ap (λ (kept : Kept). settled w.in_ok-word-in-None.word (record kept { store = w.change.new.tables.store; index = w.change.new.tables.index }) c.args.command.now.channel) (c.self.view_is ∙ c.known_actor-known.ensures.kept) in
+            let new = g.B.Eeprom.chip w.change.new.bench in
+            let ensures = w.in_ok-word-in-None.ensures in
+            rw w.bench-is (subst (λ (kept : Kept). StandsOver kept new) (sym is) (StandsOver-settled w.in_ok-word-in-None.word changed c.args.command.now.channel new
+            (StandsOver-idle changed new c.requires.ready.live (ap (λ (kept : Kept). kept.transaction) (sym (c.self.view_is ∙ c.known_actor-known.ensures.kept)) ∙ w.in-None.is) ensures.idle ensures.stand.over ensures.holds (ensures.stand.together ∙ ensures.idle) ensures.stand.index))))
+        | in-Some-transaction+in_ok-word-in-Some-transaction w ↦ (
+            let changed : Kept = record (record c.args.self.now { found = c.known_actor-known.new.self.found }) { store = w.change_within.new.tables.store; index = w.change_within.new.tables.index } in
+            let is = (rw (w.word-is, w.self-inside-is, w.change_within.ensures.scan_same, c.deref_mut.ensures.value) at c.settle.ensures) ∙ ap (λ (kept : Kept). settled w.in_ok-word-in-Some-transaction.word (record kept { store = w.change_within.new.tables.store; index = w.change_within.new.tables.index }) c.args.command.now.channel) (c.self.view_is ∙ c.known_actor-known.ensures.kept) in
+            let new = g.B.Eeprom.chip w.change_within.new.bench in
+            let ensures = w.in_ok-word-in-Some-transaction.ensures in
+            let ready = StandsOver-found c.args.self.now c.known_actor-known.new.self.found old c.requires.ready in
+            let there : is_some c.args.self.now.transaction ≡ true = ap is_some (ap (λ (kept : Kept). kept.transaction) (sym (c.self.view_is ∙ c.known_actor-known.ensures.kept)) ∙ w.in-Some-transaction.is) in
+            let goes_on = subst (λ (kept : Kept). GoesOn kept.store w.change_within.new.tables.store old new) (c.self.view_is ∙ c.known_actor-known.ensures.kept) ensures.goes_on in
+            rw w.bench-is (subst (λ (kept : Kept). StandsOver kept new) (sym is) (StandsOver-settled w.in_ok-word-in-Some-transaction.word changed c.args.command.now.channel new
+            (StandsOver-within (record c.args.self.now { found = c.known_actor-known.new.self.found }) w.change_within.new.tables.store w.change_within.new.tables.index old new ready there
+            goes_on (subst (λ (kept : Kept). slots_of w.change_within.new.tables.store Committed new ≡ slots_of kept.store Committed old) (c.self.view_is ∙ c.known_actor-known.ensures.kept) ensures.committed)
+            ensures.works (ensures.stand.together ∙ (goes_on.begun ∙ (ready.begun ∙ there))) ensures.stand.index))))
+      ]);
+  cause = search rules;
+  cells = search rules;
+  behind = (elim c.match-transaction.branch [
+    | in-None+in_ok-word-in-None w ↦ rw w.bench-is (subst (λ (kept : Kept). Keeps (drop (image_size kept.store.chains.cells)) (g.B.Eeprom.chip c.args.bench.now) (g.B.Eeprom.chip w.change.new.bench)) (c.self.view_is ∙ c.known_actor-known.ensures.kept) w.change.ensures.behind)
+    | in-Some-transaction+in_ok-word-in-Some-transaction w ↦ rw w.bench-is (subst (λ (kept : Kept). Keeps (drop (image_size kept.store.chains.cells)) (g.B.Eeprom.chip c.args.bench.now) (g.B.Eeprom.chip w.change_within.new.bench)) (c.self.view_is ∙ c.known_actor-known.ensures.kept) w.change_within.ensures.behind)
+  ]);
+}
 
 pub returns-clause-found : goal.returns-clause-found
 returns-clause-found g c = λ rows.
@@ -137,17 +148,17 @@ returns-clause-found g c = λ rows.
       | in-None+in_ok-word-in-None w ↦ (
           let word = w.in_ok-word-in-None.word in
           let new = g.B.Eeprom.chip w.change.new.bench in
-          let is = (rw (w.word-is, w.self-inside-is, w.change.ensures.scan_same, c.deref_mut.ensures.value) at c.settle.ensures) ∙ ap (λ (kept : Kept). settled word (record kept { store = w.change.new.tables.store; index = w.change.new.tables.index }) c.args.channel) (c.self.view_is ∙ c.known_actor-known.ensures.kept) in
+          let is = (rw (w.word-is, w.self-inside-is, w.change.ensures.scan_same, c.deref_mut.ensures.value) at c.settle.ensures) ∙ ap (λ (kept : Kept). settled word (record kept { store = w.change.new.tables.store; index = w.change.new.tables.index }) c.args.command.now.channel) (c.self.view_is ∙ c.known_actor-known.ensures.kept) in
           rw w.bench-is (subst (λ (kept : Kept). FindsAgain kept new) (sym is)
-          (found-at_once word (record c.args.self.now { found = c.known_actor-known.new.self.found }) w.change.new.tables.store w.change.new.tables.index c.args.channel old new (ap (λ (kept : Kept). kept.transaction) (sym (c.self.view_is ∙ c.known_actor-known.ensures.kept)) ∙ w.in-None.is)
+          (found-at_once word (record c.args.self.now { found = c.known_actor-known.new.self.found }) w.change.new.tables.store w.change.new.tables.index c.args.command.now.channel old new (ap (λ (kept : Kept). kept.transaction) (sym (c.self.view_is ∙ c.known_actor-known.ensures.kept)) ∙ w.in-None.is)
           (subst (λ (kept : Kept). KeepsCatalog Committed kept.store w.change.new.tables.store old new) (c.self.view_is ∙ c.known_actor-known.ensures.kept) (w.in_ok-word-in-None.ensures.catalog rows)) (subst (λ (kept : Kept). FindsAgain kept old) c.known_actor-known.ensures.kept (c.known_actor-known.ensures.found old c.requires.found)))))
       | in-Some-transaction+in_ok-word-in-Some-transaction w ↦ (
           let word = w.in_ok-word-in-Some-transaction.word in
           let new = g.B.Eeprom.chip w.change_within.new.bench in
           let ensures = w.in_ok-word-in-Some-transaction.ensures in
-          let is = (rw (w.word-is, w.self-inside-is, w.change_within.ensures.scan_same, c.deref_mut.ensures.value) at c.settle.ensures) ∙ ap (λ (kept : Kept). settled word (record kept { store = w.change_within.new.tables.store; index = w.change_within.new.tables.index }) c.args.channel) (c.self.view_is ∙ c.known_actor-known.ensures.kept) in
+          let is = (rw (w.word-is, w.self-inside-is, w.change_within.ensures.scan_same, c.deref_mut.ensures.value) at c.settle.ensures) ∙ ap (λ (kept : Kept). settled word (record kept { store = w.change_within.new.tables.store; index = w.change_within.new.tables.index }) c.args.command.now.channel) (c.self.view_is ∙ c.known_actor-known.ensures.kept) in
           rw w.bench-is (subst (λ (kept : Kept). FindsAgain kept new) (sym is)
-          (found-within word (record c.args.self.now { found = c.known_actor-known.new.self.found }) w.change_within.new.tables.store w.change_within.new.tables.index c.args.channel w.in-Some-transaction.field-0 old new (ap (λ (kept : Kept). kept.transaction) (sym (c.self.view_is ∙ c.known_actor-known.ensures.kept)) ∙ w.in-Some-transaction.is)
+          (found-within word (record c.args.self.now { found = c.known_actor-known.new.self.found }) w.change_within.new.tables.store w.change_within.new.tables.index c.args.command.now.channel w.in-Some-transaction.field-0 old new (ap (λ (kept : Kept). kept.transaction) (sym (c.self.view_is ∙ c.known_actor-known.ensures.kept)) ∙ w.in-Some-transaction.is)
           (subst (λ (kept : Kept). KeepsCatalog Working kept.store w.change_within.new.tables.store old new) (c.self.view_is ∙ c.known_actor-known.ensures.kept) (ensures.catalog rows))
           (subst (λ (kept : Kept). slots_of w.change_within.new.tables.store Committed new ≡ slots_of kept.store Committed old) (c.self.view_is ∙ c.known_actor-known.ensures.kept) ensures.committed)
           (subst (λ (kept : Kept). GoesOn kept.store w.change_within.new.tables.store old new) (c.self.view_is ∙ c.known_actor-known.ensures.kept) ensures.goes_on) (subst (λ (kept : Kept). FindsAgain kept old) c.known_actor-known.ensures.kept (c.known_actor-known.ensures.found old c.requires.found)))))
@@ -156,9 +167,9 @@ returns-clause-found g c = λ rows.
 pub change-requires-clause-right : goal.change-requires-clause-right
 change-requires-clause-right g c = λ db held.
     let old = g.B.Eeprom.chip c.args.bench.now in
-    let channel = c.args.channel in
+    let channel = c.args.command.now.channel in
     let view = c.self.view_is ∙ c.known_actor-known.ensures.kept in
-    let there = index-there c.self.inside.sessions.value c.from.result c.index-sessions-from.result (omega (arith, c.from.ensures, c.requires.channel, c.self.invariant.0)) (rw c.deref-sessions.ensures at c.index-sessions-from.is) ∙ (c.index-sessions-from.is ∙ c.in-Some.is) in
+    let there = index-there c.self.inside.sessions.value c.from.result c.index-sessions-from.result (omega (arith, c.from.ensures, c.requires.asked.formed.channel, c.self.invariant.0)) (rw c.deref-sessions.ensures at c.index-sessions-from.is) ∙ (c.index-sessions-from.is ∙ c.in-Some.is) in
     let cursors = ap (λ (kept : Kept). opened.cursor_on kept.sessions channel) (sym view)
     ∙ cursor-seen c.self.inside.sessions.value c.self.inside.chains.value channel c.in-Some.session (c.self.invariant.0 ∙ sym c.self.invariant.1) (rw c.from.ensures at there) in
     let user = c.proved_user-user.ensures ∙ ap (λ (kept : Kept). opened.proved_user (opened.session_on kept.sessions channel)) c.known_actor-known.ensures.kept in
@@ -172,9 +183,9 @@ change-requires-clause-right g c = λ db held.
 pub change_within-requires-clause-right : goal.change_within-requires-clause-right
 change_within-requires-clause-right g c = λ db held.
     let old = g.B.Eeprom.chip c.args.bench.now in
-    let channel = c.args.channel in
+    let channel = c.args.command.now.channel in
     let view = c.self.view_is ∙ c.known_actor-known.ensures.kept in
-    let there = index-there c.self.inside.sessions.value c.from.result c.index-sessions-from.result (omega (arith, c.from.ensures, c.requires.channel, c.self.invariant.0)) (rw c.deref-sessions.ensures at c.index-sessions-from.is) ∙ (c.index-sessions-from.is ∙ c.in-Some.is) in
+    let there = index-there c.self.inside.sessions.value c.from.result c.index-sessions-from.result (omega (arith, c.from.ensures, c.requires.asked.formed.channel, c.self.invariant.0)) (rw c.deref-sessions.ensures at c.index-sessions-from.is) ∙ (c.index-sessions-from.is ∙ c.in-Some.is) in
     let cursors = ap (λ (kept : Kept). opened.cursor_on kept.sessions channel) (sym view)
     ∙ cursor-seen c.self.inside.sessions.value c.self.inside.chains.value channel c.in-Some.session (c.self.invariant.0 ∙ sym c.self.invariant.1) (rw c.from.ensures at there) in
     let user = c.proved_user-user.ensures ∙ ap (λ (kept : Kept). opened.proved_user (opened.session_on kept.sessions channel)) c.known_actor-known.ensures.kept in
@@ -188,7 +199,7 @@ change_within-requires-clause-right g c = λ db held.
 pub change-requires-clause-known : goal.change-requires-clause-known
 change-requires-clause-known g c = λ db held.
     let old = g.B.Eeprom.chip c.args.bench.now in
-    let channel = c.args.channel in
+    let channel = c.args.command.now.channel in
     let view = c.self.view_is ∙ c.known_actor-known.ensures.kept in
     let user = c.proved_user-user.ensures ∙ ap (λ (kept : Kept). opened.proved_user (opened.session_on kept.sessions channel)) c.known_actor-known.ensures.kept in
     let side : side_of c.args.self.now.transaction channel ≡ Committed = ap (λ (own : Option ℕ). side_of own channel) (ap (λ (kept : Kept). kept.transaction) (sym view) ∙ c.in-None.is) in
@@ -198,7 +209,7 @@ change-requires-clause-known g c = λ db held.
 pub change_within-requires-clause-known : goal.change_within-requires-clause-known
 change_within-requires-clause-known g c = λ db held.
     let old = g.B.Eeprom.chip c.args.bench.now in
-    let channel = c.args.channel in
+    let channel = c.args.command.now.channel in
     let view = c.self.view_is ∙ c.known_actor-known.ensures.kept in
     let user = c.proved_user-user.ensures ∙ ap (λ (kept : Kept). opened.proved_user (opened.session_on kept.sessions channel)) c.known_actor-known.ensures.kept in
     let side : side_of c.args.self.now.transaction channel ≡ Working = side-own c.args.self.now.transaction c.in-Some-transaction.field-0 channel (ap (λ (kept : Kept). kept.transaction) (sym view) ∙ c.in-Some-transaction.is) c.requires.mine in

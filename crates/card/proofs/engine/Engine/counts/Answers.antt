@@ -1,6 +1,6 @@
-use Rattle.std.proofs.Common.{rules}
+-- What is counted is what the machine has committed.
 use Rattle.card.proofs.Counted.{counted-at}
 use Rattle.card.proofs.engine.Engine.counts.Goals as goal
 
-pub returns-clause-counts : goal.returns-clause-counts
-returns-clause-counts g c = rw (← c.self.view_is) (λ m at. counted-at _ (g.B.Eeprom.chip c.args.bench.now) m c.count_records.result (search rules) at c.count_records.ensures)
+pub returns : goal.returns
+returns c = rw (← c.self.view_is) (λ chip m ready at. counted-at _ chip m c.count_records.result ready.stands at c.count_records.ensures)

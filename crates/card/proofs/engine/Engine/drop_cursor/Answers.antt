@@ -10,11 +10,11 @@ use Rattle.card.proofs.engine.Engine.drop_cursor.Goals as goal
 
 pub returns : goal.returns
 returns c =
-    let at = index-there c.self.inside.sessions.value c.args.channel c.index-deref_mut-channel.result (omega (arith, c.requires.channel, c.self.invariant.0)) (rw c.deref_mut.ensures.value at c.index-deref_mut-channel.is) in
+    let at = index-there c.self.inside.sessions.value c.args.channel.number c.index-deref_mut-channel.result (omega (arith, c.args.channel.few, c.self.invariant.0)) (rw c.deref_mut.ensures.value at c.index-deref_mut-channel.is) in
     elim c.match-deref_mut-channel.branch [
-      | in-Some w ↦ rw (w.self-inside-is, c.deref_mut.ensures.value) (card-changed without_cursor c.self.inside.tables.store c.self.inside.tables.index c.self.inside.transaction c.self.inside.found.value c.self.inside.live c.self.inside.sessions.value c.self.inside.chains.value c.args.channel w.in-Some.session
+      | in-Some w ↦ rw (w.self-inside-is, c.deref_mut.ensures.value) (card-changed without_cursor c.self.inside.tables.store c.self.inside.tables.index c.self.inside.transaction c.self.inside.found.value c.self.inside.live c.self.inside.sessions.value c.self.inside.chains.value c.args.channel.number w.in-Some.session
           (record w.in-Some.session { cursor = None; pending = w.forget.new.self }) c.args.self.now c.self.view_is (λ chain. rw w.forget.ensures refl) (at ∙ (c.index-deref_mut-channel.is ∙ w.in-Some.is)))
       | in_default w ↦ rw (w.self-inside-is, c.deref_mut.ensures.value) (ap (λ (sessions : List (Option Session)). let kept : Kept = record { store = c.self.inside.tables.store; index = c.self.inside.tables.index; sessions = sessions_of sessions c.self.inside.chains.value; transaction = c.self.inside.transaction; found = c.self.inside.found.value; live = c.self.inside.live } in kept)
-          (set-again c.self.inside.sessions.value c.args.channel c.index-deref_mut-channel.result) ∙ (c.self.view_is ∙ card-none without_cursor c.self.inside.tables.store c.self.inside.tables.index c.self.inside.transaction c.self.inside.found.value c.self.inside.live c.self.inside.sessions.value c.self.inside.chains.value c.args.channel c.args.self.now c.self.view_is
+          (set-again c.self.inside.sessions.value c.args.channel.number c.index-deref_mut-channel.result) ∙ (c.self.view_is ∙ card-none without_cursor c.self.inside.tables.store c.self.inside.tables.index c.self.inside.transaction c.self.inside.found.value c.self.inside.live c.self.inside.sessions.value c.self.inside.chains.value c.args.channel.number c.args.self.now c.self.view_is
           (at ∙ (c.index-deref_mut-channel.is ∙ w.in_default.is))))
     ]

@@ -1,5 +1,5 @@
 -- What the session of the channel reads is what the machine's does.
-use Rattle.std.proofs.Common.{rules, ◌≡◌, ◌∙◌, ℕ, Option, None, Ok, refl, sym, ap, subst, arith}
+use Rattle.std.proofs.Common.{rules, drop, ◌≡◌, ◌∙◌, ℕ, Option, None, Ok, refl, sym, ap, subst, arith}
 use Rattle.std.specs.Prelude.{IfSome, Some, slice_index_or, slice_set}
 use Rattle.std.proofs.lemmas.Bool.{false≢true}
 use Rattle.eeprom.specs.Chip.{Chip}
@@ -21,6 +21,9 @@ use Rattle.card.specs.Reading.{move_to}
 use Rattle.card.specs.Sessions as opened
 use Rattle.card.specs.Sessions.{cursor_on, proved_user, reading_in, session_on, sessions_of}
 use Rattle.card.specs.declared.found.Found.{Found}
+use Rattle.card.proofs.CarryingOut.{CarriesOut-unwritten}
+use Rattle.eeprom.specs.StoreOf.{image_size}
+use Rattle.eeprom.proofs.Leaves.{Keeps-none}
 use Rattle.card.proofs.Performing.{HoldsMachine-found, Performs-found, Performs-unwritten, actor-at}
 use Rattle.card.proofs.Sides.{IsHeld-base, IsReady-read, StandsOver-found}
 use Rattle.card.proofs.ReadingCosts.{acted-read, reads-there}
@@ -39,7 +42,7 @@ view g c = c.self.view_is ∙ c.in_ok-actor.ensures.kept
 -- its session
 session-there : (g : _) (c : After-read g) → slice_index_or c.self.inside.sessions.value c.args.command.now.channel None ≡ Some c.in-Some.session
 session-there g c =
-    rw c.from.ensures at (index-there c.self.inside.sessions.value c.from.result c.index-deref_mut-from.result (omega (arith, c.from.ensures, c.requires.formed.channel, c.self.invariant.0)) (rw c.deref_mut.ensures.value at c.index-deref_mut-from.is) ∙ (c.index-deref_mut-from.is ∙ c.in-Some.is))
+    rw c.from.ensures at (index-there c.self.inside.sessions.value c.from.result c.index-deref_mut-from.result (omega (arith, c.from.ensures, c.requires.asked.formed.channel, c.self.invariant.0)) (rw c.deref_mut.ensures.value at c.index-deref_mut-from.is) ∙ (c.index-deref_mut-from.is ∙ c.in-Some.is))
 
 -- what its side holds
 held-there : (g : _) (c : After-read g) (db : Database) → IsHeld c.args.self.now.store (side_of c.args.self.now.transaction c.args.command.now.channel) (g.B.Eeprom.chip c.args.bench.now) db
@@ -71,61 +74,59 @@ set-there g c user =
     rw c.from.ensures (card-changed (reading_so (reading_in c.read.new.session)) c.self.inside.tables.store c.self.inside.tables.index c.self.inside.transaction c.self.inside.found.value c.self.inside.live c.self.inside.sessions.value c.self.inside.chains.value c.args.command.now.channel
     c.in-Some.session c.read.new.session (now g c) (view g c) (λ chain. reads-so c.read.new.session c.in-Some.session user chain) (session-there g c))
 
-pub returns-in_err-actor-clause-performs : goal.returns-in_err-actor-clause-performs
-returns-in_err-actor-clause-performs g c = λ m from.
-    Performs-unwritten c.args.self.now c.actor_reading.new.self (g.B.Eeprom.chip c.args.bench.now) (g.B.Eeprom.chip c.actor_reading.new.bench) m _ _ c.args.reply.now.body c.from_residual.result c.requires.ready.stands from
-    c.in_err-actor.ensures.frame.same (err-ok _ _ c.from_residual.result c.from_residual.ensures.1)
+pub returns-in_err-actor-clause-carries : goal.returns-in_err-actor-clause-carries
+returns-in_err-actor-clause-carries g c = CarriesOut-unwritten c.requires.ready.stands c.in_err-actor.ensures.frame.same (λ m from. err-ok _ _ c.from_residual.result c.from_residual.ensures.1) (err-on _ _ c.from_residual.result c.from_residual.ensures.1) (search rules) (err-on _ _ c.from_residual.result c.from_residual.ensures.1)
 
-pub returns-in_err-word-clause-performs : goal.returns-in_err-word-clause-performs
-returns-in_err-word-clause-performs g c = λ m from.
-    Performs-unwritten c.args.self.now _ (g.B.Eeprom.chip c.args.bench.now) _ m _ _ c.read.new.reply.body c.from_residual-in_err-word.result c.requires.ready.stands from
-    (search rules) (err-ok _ _ c.from_residual-in_err-word.result c.from_residual-in_err-word.ensures.1)
+pub returns-in_err-word-clause-carries : goal.returns-in_err-word-clause-carries
+returns-in_err-word-clause-carries g c = CarriesOut-unwritten c.requires.ready.stands (search rules) (λ m from. err-ok _ _ c.from_residual-in_err-word.result c.from_residual-in_err-word.ensures.1) (err-on _ _ c.from_residual-in_err-word.result c.from_residual-in_err-word.ensures.1) (search rules) (err-on _ _ c.from_residual-in_err-word.result c.from_residual-in_err-word.ensures.1)
 
 pub unreachable-requires : goal.unreachable-requires
 unreachable-requires g c =
-    let there = index-there c.self.inside.sessions.value c.from.result c.index-deref_mut-from.result (omega (arith, c.from.ensures, c.requires.formed.channel, c.self.invariant.0)) (rw c.deref_mut.ensures.value at c.index-deref_mut-from.is) ∙ (c.index-deref_mut-from.is ∙ c.in_default.is) in
+    let there = index-there c.self.inside.sessions.value c.from.result c.index-deref_mut-from.result (omega (arith, c.from.ensures, c.requires.asked.formed.channel, c.self.invariant.0)) (rw c.deref_mut.ensures.value at c.index-deref_mut-from.is) ∙ (c.index-deref_mut-from.is ∙ c.in_default.is) in
     let closed = rw c.from.ensures at (closed-none c.self.inside.sessions.value c.self.inside.chains.value c.from.result there) in
-    false≢true (sym closed ∙ (ap (λ (kept : Kept). opened.is_open kept.sessions c.args.command.now.channel) (c.self.view_is ∙ c.in_ok-actor.ensures.kept) ∙ c.requires.open))
+    false≢true (sym closed ∙ (ap (λ (kept : Kept). opened.is_open kept.sessions c.args.command.now.channel) (c.self.view_is ∙ c.in_ok-actor.ensures.kept) ∙ c.requires.asked.opened))
 
-pub returns-clause-performs : goal.returns-clause-performs
-returns-clause-performs g c = λ m from.
-    let args = c.args.self.now in
-    let old = g.B.Eeprom.chip c.args.bench.now in
-    let command = c.args.command.now in
-    let channel = command.channel in
-    let session = c.in-Some.session in
-    let after = c.read.new.session in
-    let w = (goal.at.returns-clause-performs g c).After-read in
-    let db = base m channel in
-    let held = IsHeld-base args old m channel c.requires.ready.stands from in
-    let at = HoldsMachine-found args c.actor_reading.new.self.found old m from.held in
-    let seen = reading-card (now g w) old m c.self.inside.sessions.value c.self.inside.chains.value channel session at (ap (λ (kept : Kept). kept.sessions) (sym (view g w))) (c.self.invariant.0 ∙ sym c.self.invariant.1) (session-there g w) in
-    let who = actor-at args old m channel (proved_user (session_on args.sessions channel)) from.held refl ∙ sym (c.in_ok-actor.ensures.actor db held) in
-    let cursors = of_database db session.cursor (subst (λ (reading : Reading). IfSome reading.cursor (StandsOn db)) seen (from.valid.readings channel).cursor) in
-    let reads = reads-command command c.requires.formed c.requires.reads in
-    let moves = c.in_ok-word.ensures.moves db (held-there g w db held) cursors (right-there g w db held) in
-    let kept : Kept = record { store = c.self.inside.tables.store; index = c.self.inside.tables.index; sessions = sessions_of (slice_set c.self.inside.sessions.value c.from.result (Some after)) c.self.inside.chains.value; transaction = c.self.inside.transaction; found = c.self.inside.found.value; live = c.self.inside.live } in
-    rw (c.deref_mut.ensures.value, c.deref_mut-4.ensures.value) (Performs-found m _ _ c.read.new.reply.body c.in_ok-word.word kept _ old _
-    (Performs-unwritten args kept old _ m _ _ c.read.new.reply.body (Ok c.in_ok-word.word) c.requires.ready.stands from (search rules)
-    (subst (λ (chip : Chip). HoldsAnswer (answered m (carried_out m command)) (replied c.read.new.reply.body c.in_ok-word.word) kept chip) (search rules)
-    (HoldsAnswer-read (now g w) kept old m command reads.0 c.read.new.reply.body c.in_ok-word.word (reading_in after) at reads.1
-    (move-there db db c.in_ok-actor.actor (actor m channel) (reading_in session) (reading_of m channel) reads.0 (move_to c.read.new.reply.body c.in_ok-word.word after.cursor after.pending) refl who seen (moves reads.0 reads.1))
-    (set-there g w c.in_ok-word.ensures.user)))))
-
-pub returns-clause-ready : goal.returns-clause-ready
-returns-clause-ready g c =
-    let args = c.args.self.now in
-    let old = g.B.Eeprom.chip c.args.bench.now in
-    let command = c.args.command.now in
-    let channel = command.channel in
-    let session = c.in-Some.session in
-    let after = c.read.new.session in
-    let w = (goal.at.returns-clause-ready g c).After-read in
-    let found : Found = record { last = Some (record { channel = channel; actor = c.in_ok-actor.actor }); scan = c.read.new.scan } in
-    let kept : Kept = record { store = c.self.inside.tables.store; index = c.self.inside.tables.index; sessions = sessions_of (slice_set c.self.inside.sessions.value c.from.result (Some after)) c.self.inside.chains.value; transaction = c.self.inside.transaction; found = c.self.inside.found.value; live = c.self.inside.live } in
-    rw (c.deref_mut.ensures.value, c.deref_mut-4.ensures.value) (subst (λ (chip : Chip). IsReady (record kept { found = found }) chip) (search rules) (subst (λ (kept : Kept). IsReady (record kept { found = found }) old) (sym (set-there g w c.in_ok-word.ensures.user))
-    (IsReady-read (now g w) old channel (reading_in after) c.in_ok-actor.actor c.read.new.scan (StandsOver-found args c.actor_reading.new.self.found old c.requires.ready.stands)
-    (λ db held. c.in_ok-actor.ensures.actor db held) (λ db held. c.in_ok-word.ensures.right db (held-there g w db held) (right-there g w db held)))))
+pub returns-clause-carries : goal.returns-clause-carries
+returns-clause-carries g c = record {
+  performs = λ m from.
+      let args = c.args.self.now in
+      let old = g.B.Eeprom.chip c.args.bench.now in
+      let command = c.args.command.now in
+      let channel = command.channel in
+      let session = c.in-Some.session in
+      let after = c.read.new.session in
+      let w = (goal.at.returns-clause-carries g c).After-read in
+      let db = base m channel in
+      let held = IsHeld-base args old m channel c.requires.ready.stands from in
+      let at = HoldsMachine-found args c.actor_reading.new.self.found old m from.held in
+      let seen = reading-card (now g w) old m c.self.inside.sessions.value c.self.inside.chains.value channel session at (ap (λ (kept : Kept). kept.sessions) (sym (view g w))) (c.self.invariant.0 ∙ sym c.self.invariant.1) (session-there g w) in
+      let who = actor-at args old m channel (proved_user (session_on args.sessions channel)) from.held refl ∙ sym (c.in_ok-actor.ensures.actor db held) in
+      let cursors = of_database db session.cursor (subst (λ (reading : Reading). IfSome reading.cursor (StandsOn db)) seen (from.valid.readings channel).cursor) in
+      let reads = reads-command command c.requires.asked.formed c.requires.reads in
+      let moves = c.in_ok-word.ensures.moves db (held-there g w db held) cursors (right-there g w db held) in
+      let kept : Kept = record { store = c.self.inside.tables.store; index = c.self.inside.tables.index; sessions = sessions_of (slice_set c.self.inside.sessions.value c.from.result (Some after)) c.self.inside.chains.value; transaction = c.self.inside.transaction; found = c.self.inside.found.value; live = c.self.inside.live } in
+      rw (c.deref_mut.ensures.value, c.deref_mut-4.ensures.value) (Performs-found m _ _ c.read.new.reply.body c.in_ok-word.word kept _ old _
+      (Performs-unwritten args kept old _ m _ _ c.read.new.reply.body (Ok c.in_ok-word.word) c.requires.ready.stands from (search rules)
+      (subst (λ (chip : Chip). HoldsAnswer (answered m (carried_out m command)) (replied c.read.new.reply.body c.in_ok-word.word) kept chip) (search rules)
+      (HoldsAnswer-read (now g w) kept old m command reads.0 c.read.new.reply.body c.in_ok-word.word (reading_in after) at reads.1
+      (move-there db db c.in_ok-actor.actor (actor m channel) (reading_in session) (reading_of m channel) reads.0 (move_to c.read.new.reply.body c.in_ok-word.word after.cursor after.pending) refl who seen (moves reads.0 reads.1))
+      (set-there g w c.in_ok-word.ensures.user)))));
+  ready = (let args = c.args.self.now in
+      let old = g.B.Eeprom.chip c.args.bench.now in
+      let command = c.args.command.now in
+      let channel = command.channel in
+      let session = c.in-Some.session in
+      let after = c.read.new.session in
+      let w = (goal.at.returns-clause-carries g c).After-read in
+      let found : Found = record { last = Some (record { channel = channel; actor = c.in_ok-actor.actor }); scan = c.read.new.scan } in
+      let kept : Kept = record { store = c.self.inside.tables.store; index = c.self.inside.tables.index; sessions = sessions_of (slice_set c.self.inside.sessions.value c.from.result (Some after)) c.self.inside.chains.value; transaction = c.self.inside.transaction; found = c.self.inside.found.value; live = c.self.inside.live } in
+      rw (c.deref_mut.ensures.value, c.deref_mut-4.ensures.value) (subst (λ (chip : Chip). IsReady (record kept { found = found }) chip) (search rules) (subst (λ (kept : Kept). IsReady (record kept { found = found }) old) (sym (set-there g w c.in_ok-word.ensures.user))
+      (IsReady-read (now g w) old channel (reading_in after) c.in_ok-actor.actor c.read.new.scan (StandsOver-found args c.actor_reading.new.self.found old c.requires.ready.stands)
+      (λ db held. c.in_ok-actor.ensures.actor db held) (λ db held. c.in_ok-word.ensures.right db (held-there g w db held) (right-there g w db held))))));
+  cause = search rules;
+  cells = search rules;
+  behind = Keeps-none (drop (image_size c.args.self.now.store.chains.cells)) (g.B.Eeprom.chip c.args.bench.now) _ (search rules);
+}
 
 pub returns-in_err-actor-clause-octets_read : goal.returns-in_err-actor-clause-octets_read
 returns-in_err-actor-clause-octets_read g c = λ m from. err-on _ _ c.from_residual.result c.from_residual.ensures.1

@@ -1,5 +1,5 @@
 -- What was committed stays, and channel 0 alone is open.
-use Rattle.std.proofs.Common.{None, refl, sym, ap, subst, ◌∙◌}
+use Rattle.std.proofs.Common.{rules, None, refl, sym, ap, subst, ◌∙◌}
 use Rattle.eeprom.specs.Chip.{Chip}
 use Rattle.scql_model.specs.Machine.{Machine}
 use Rattle.scql_model.proofs.ValidSteps.{IsValidMachine-start}
@@ -17,17 +17,21 @@ undone c chip m at = elim c.if-is_some.branch [
       (ap (λ (kept : Kept). kept.transaction) (sym c.self.view_is) ∙ none-is c.self.inside.transaction (sym c.is_some.ensures ∙ w.if-is_some.false)))
 ]
 
-pub returns-clause-at : goal.returns-clause-at
-returns-clause-at c = λ chip m at.
-    let held = subst (λ (kept : Kept). HoldsMachine kept chip (record m { transaction = None })) (sym c.self-2.view_is) (undone (goal.at.returns-clause-at c).After-forget chip m at) in record {
-      held = record {
-        slots = held.slots;
-        committed = held.committed;
-        limit = held.limit;
-        holds = held.holds;
-        transaction = held.transaction;
-        works = tt;
-        sessions = sym (c.first_sessions.ensures m.committed) ∙ ap (sessions_of c.first_sessions.result) (sym c.clear.ensures);
+pub returns : goal.returns
+returns c = record {
+  at = λ chip m at.
+      let held = subst (λ (kept : Kept). HoldsMachine kept chip (record m { transaction = None })) (sym c.self-2.view_is) (undone (goal.at.returns c).After-forget chip m at) in record {
+        held = record {
+          slots = held.slots;
+          committed = held.committed;
+          limit = held.limit;
+          holds = held.holds;
+          transaction = held.transaction;
+          works = tt;
+          sessions = sym (c.first_sessions.ensures m.committed) ∙ ap (sessions_of c.first_sessions.result) (sym c.clear.ensures);
+        };
+        valid = IsValidMachine-start m.committed at.valid.committed;
       };
-      valid = IsValidMachine-start m.committed at.valid.committed;
-    }
+  ready = search rules;
+  cells = search rules;
+}

@@ -1,5 +1,5 @@
 -- What was taken with the card's open channels and chains is what the machine takes with its own.
-use Rattle.std.proofs.Common.{◌≡◌, ◌≤◌, ◌∙◌, ℕ, min, List, [], ◌∷◌, drop, length, map, Option, is_some, ap, Ok, Err, refl, sym, subst, arith}
+use Rattle.std.proofs.Common.{rules, ◌≡◌, ◌≤◌, ◌∙◌, ℕ, min, List, [], ◌∷◌, drop, length, map, Option, is_some, ap, Ok, Err, refl, sym, subst, arith}
 use Rattle.std.specs.Prelude.{OnOk, option_and_then}
 use Rattle.eeprom.specs.Chip.{Keeps}
 use Rattle.eeprom.specs.StoreOf.{image_size}
@@ -68,57 +68,6 @@ unwritten g c m answer word after at is says empty =
     (subst (λ (body : List ℕ). Performs m answer (octets_bound m c.args.octets.now) body (Ok word) after chip chip) (sym empty)
     (Performs-unwritten c.args.self.now after chip chip m answer (octets_bound m c.args.octets.now) [] (Ok word) c.requires.ready.stands at refl says))
 
-pub returns-in-Refused-clause-performs : goal.returns-in-Refused-clause-performs
-returns-in-Refused-clause-performs g c = λ m at.
-    let w = (goal.at.returns-in-Refused-clause-performs g c).After-take in
-    let next = taken_at m (form g w) in
-    unwritten g w m (answered next (Err c.in-Refused.word)) c.in-Refused.word (after_take g w) at (ap (answered next) (taken-refused next (form g w) c.in-Refused.word (sym c.in-Refused.is ∙ (rw c.deref_mut.ensures.value at c.take.ensures.taken))))
-    (record { reply = refl; held = (at-taken g w m at).held }) c.requires.empty
-
-pub returns-in-Kept-clause-performs : goal.returns-in-Kept-clause-performs
-returns-in-Kept-clause-performs g c = λ m at.
-    let w = (goal.at.returns-in-Kept-clause-performs g c).After-take in
-    let next = taken_at m (form g w) in
-    let channel = channel_named c.args.octets.now in
-    let chip = g.B.Eeprom.chip c.args.bench.now in
-    subst (λ (kept : Kept). Performs m (step m c.args.octets.now) (octets_bound m c.args.octets.now) c.args.reply.now.body (Ok done) (record kept { found = c.forget.new.self }) chip chip) (sym c.self-in-Kept.view_is)
-    (Performs-found m _ _ c.args.reply.now.body done c.drop_pending.new.self c.forget.new.self chip chip
-    (unwritten g w m (done_with next channel []) done c.drop_pending.new.self at
-    (ap (answered next) (taken-kept next c.args.octets.now (form g w) (named-taken c.args.octets.now c.open_channels-channels.result (chain_on c.self.inside.chains.value) (min c.row_limit.result 1020)) (sym c.in-Kept.is ∙ (rw c.deref_mut.ensures.value at c.take.ensures.taken))))
-    (HoldsAnswer-done (after_take g w) c.drop_pending.new.self chip next channel [] (at-taken g w m at).held (rw (sym c.channel_named.ensures.named) c.drop_pending.ensures)) c.requires.empty))
-
-pub carry_out-requires-clause-open : goal.carry_out-requires-clause-open
-carry_out-requires-clause-open g c =
-    open-taken c.args.octets.now c.open_channels-channels.result c.self.inside.sessions.value c.self.inside.chains.value c.take.new.self (min c.row_limit.result 1020) c.take.new.command
-    (c.open_channels-channels.ensures ∙ ap (λ (kept : Kept). map (λ (s : Option Session). is_some s) kept.sessions) (sym c.self.view_is)) (rw c.deref_mut.ensures.value at c.take.ensures.chains) ((rw c.deref_mut.ensures.value at c.take.ensures.whole) c.in-Whole.is)
-
-pub carry_out-requires-clause-fits : goal.carry_out-requires-clause-fits
-carry_out-requires-clause-fits g c =
-    subst (λ (limit : ℕ). FitsCard limit c.take.new.command.operation)
-    (rows c.row_limit.result _ c.row_limit.ensures.most c.row_limit.ensures.limit)
-    (fits-taken c.args.octets.now c.open_channels-channels.result (chain_on c.self.inside.chains.value) (min c.row_limit.result 1020) c.take.new.command (λ i. omega (arith, c.type_inv.octets i)) (omega arith) ((rw c.deref_mut.ensures.value at c.take.ensures.whole) c.in-Whole.is))
-
-pub returns-in-Whole-clause-performs : goal.returns-in-Whole-clause-performs
-returns-in-Whole-clause-performs g c = λ m at.
-    let w = (goal.at.returns-in-Whole-clause-performs g c).After-take in
-    let next = taken_at m (form g w) in
-    let most = bounds g w m at ∙ octets-whole next (form g w) c.take.new.command ((rw c.deref_mut.ensures.value at c.take.ensures.whole) c.in-Whole.is) in
-    let is = steps g w m at ∙ ap (answered next) (outcome-whole next (form g w) c.take.new.command ((rw c.deref_mut.ensures.value at c.take.ensures.whole) c.in-Whole.is)) in
-    subst (λ (answer : Answer). Performs m answer (octets_bound m c.args.octets.now) c.carry_out.new.reply.body c.carry_out.result c.carry_out.new.self (g.B.Eeprom.chip c.args.bench.now) (g.B.Eeprom.chip c.carry_out.new.bench)) (sym is)
-    (subst (λ (most : ℕ). Performs m (answered next (carried_out next c.take.new.command)) most c.carry_out.new.reply.body c.carry_out.result c.carry_out.new.self (g.B.Eeprom.chip c.args.bench.now) (g.B.Eeprom.chip c.carry_out.new.bench)) (sym most)
-    (Performs-from m next _ _ c.carry_out.new.reply.body c.carry_out.result c.carry_out.new.self (g.B.Eeprom.chip c.args.bench.now) (g.B.Eeprom.chip c.carry_out.new.bench) (taken-committed m (form g w))
-    (c.carry_out.ensures.performs next (at-taken g w m at))))
-
-pub returns-in-Refused-clause-behind : goal.returns-in-Refused-clause-behind
-returns-in-Refused-clause-behind g c = Keeps-none (drop (image_size c.args.self.now.store.chains.cells)) (g.B.Eeprom.chip c.args.bench.now) (g.B.Eeprom.chip c.args.bench.now) refl
-
-pub returns-in-Kept-clause-behind : goal.returns-in-Kept-clause-behind
-returns-in-Kept-clause-behind g c = Keeps-none (drop (image_size c.args.self.now.store.chains.cells)) (g.B.Eeprom.chip c.args.bench.now) (g.B.Eeprom.chip c.args.bench.now) refl
-
-pub returns-in-Whole-clause-behind : goal.returns-in-Whole-clause-behind
-returns-in-Whole-clause-behind g c =
-    subst (λ (kept : Kept). Keeps (drop (image_size kept.store.chains.cells)) (g.B.Eeprom.chip c.args.bench.now) (g.B.Eeprom.chip c.carry_out.new.bench)) c.self.view_is c.carry_out.ensures.behind
-
 -- a card is ready still once octets were taken
 ready-taken : (g : _) (c : After-take g) → IsReady (after_take g c) (g.B.Eeprom.chip c.args.bench.now)
 ready-taken g c =
@@ -130,21 +79,33 @@ ready-taken g c =
     (λ channel. parts-unseen (λ (s : machine.Session). s.reading.cursor) (λ chain next s. refl) c.self.inside.sessions.value c.self.inside.chains.value c.take.new.self channel same)
     (subst (λ (kept : Kept). IsReady kept chip) (sym c.self.view_is) c.requires.ready)
 
+pub carry_out-requires-clause-asked : goal.carry_out-requires-clause-asked
+carry_out-requires-clause-asked g c = record {
+  formed = search rules;
+  fits = subst (λ (limit : ℕ). FitsCard limit c.take.new.command.operation)
+      (rows c.row_limit.result _ c.row_limit.ensures.most c.row_limit.ensures.limit)
+      (fits-taken c.args.octets.now c.open_channels-channels.result (chain_on c.self.inside.chains.value) (min c.row_limit.result 1020) c.take.new.command (λ i. omega (arith, c.type_inv.octets i)) (omega arith) ((rw c.deref_mut.ensures.value at c.take.ensures.whole) c.in-Whole.is));
+  opened = open-taken c.args.octets.now c.open_channels-channels.result c.self.inside.sessions.value c.self.inside.chains.value c.take.new.self (min c.row_limit.result 1020) c.take.new.command
+      (c.open_channels-channels.ensures ∙ ap (λ (kept : Kept). map (λ (s : Option Session). is_some s) kept.sessions) (sym c.self.view_is)) (rw c.deref_mut.ensures.value at c.take.ensures.chains) ((rw c.deref_mut.ensures.value at c.take.ensures.whole) c.in-Whole.is);
+}
+
 pub carry_out-requires-clause-ready : goal.carry_out-requires-clause-ready
 carry_out-requires-clause-ready g c = ready-taken g (goal.at.carry_out-requires-clause-ready g c).After-take
 
-pub returns-in-Refused-clause-ready : goal.returns-in-Refused-clause-ready
-returns-in-Refused-clause-ready g c = ready-taken g (goal.at.returns-in-Refused-clause-ready g c).After-take
-
-pub returns-in-Kept-clause-ready : goal.returns-in-Kept-clause-ready
-returns-in-Kept-clause-ready g c =
-    let chip = g.B.Eeprom.chip c.args.bench.now in
-    let w = (goal.at.returns-in-Kept-clause-ready g c).After-take in
-    subst (λ (kept : Kept). IsReady (record kept { found = c.forget.new.self }) chip) (sym c.self-in-Kept.view_is)
-    (IsReady-none c.drop_pending.new.self c.forget.new.self chip (ap (λ (f : Found). f.last) c.forget.ensures)
-    (StandsOver-sessions (after_take g w) c.drop_pending.new.self chip chip _ c.drop_pending.ensures refl (ready-taken g w).stands))
-
 -- Nothing is committed by what is no command.
+pub returns-in-Refused-clause-carries : goal.returns-in-Refused-clause-carries
+returns-in-Refused-clause-carries g c = record {
+  performs = λ m at.
+      let w = (goal.at.returns-in-Refused-clause-carries g c).After-take in
+      let next = taken_at m (form g w) in
+      unwritten g w m (answered next (Err c.in-Refused.word)) c.in-Refused.word (after_take g w) at (ap (answered next) (taken-refused next (form g w) c.in-Refused.word (sym c.in-Refused.is ∙ (rw c.deref_mut.ensures.value at c.take.ensures.taken))))
+      (record { reply = refl; held = (at-taken g w m at).held }) c.requires.empty;
+  ready = ready-taken g (goal.at.returns-in-Refused-clause-carries g c).After-take;
+  cause = search rules;
+  cells = search rules;
+  behind = Keeps-none (drop (image_size c.args.self.now.store.chains.cells)) (g.B.Eeprom.chip c.args.bench.now) (g.B.Eeprom.chip c.args.bench.now) refl;
+}
+
 pub returns-in-Refused-clause-lowered : goal.returns-in-Refused-clause-lowered
 returns-in-Refused-clause-lowered g c = λ m at first second rest twice.
     let w = (goal.at.returns-in-Refused-clause-lowered g c).After-take in
@@ -152,6 +113,28 @@ returns-in-Refused-clause-lowered g c = λ m at first second rest twice.
     let is : step m c.args.octets.now ≡ answered next (Err c.in-Refused.word) = steps g w m at ∙ ap (answered next) (taken-refused next (form g w) c.in-Refused.word (sym c.in-Refused.is ∙ (rw c.deref_mut.ensures.value at c.take.ensures.taken))) in
     let none : [] ≡ first ∷ second ∷ rest = sym (ap (λ (answer : Answer). answer.commits) is) ∙ twice in
     absurd cc
+
+pub returns-in-Kept-clause-carries : goal.returns-in-Kept-clause-carries
+returns-in-Kept-clause-carries g c = record {
+  performs = λ m at.
+      let w = (goal.at.returns-in-Kept-clause-carries g c).After-take in
+      let next = taken_at m (form g w) in
+      let channel = channel_named c.args.octets.now in
+      let chip = g.B.Eeprom.chip c.args.bench.now in
+      subst (λ (kept : Kept). Performs m (step m c.args.octets.now) (octets_bound m c.args.octets.now) c.args.reply.now.body (Ok done) (record kept { found = c.forget.new.self }) chip chip) (sym c.self-in-Kept.view_is)
+      (Performs-found m _ _ c.args.reply.now.body done c.drop_pending.new.self c.forget.new.self chip chip
+      (unwritten g w m (done_with next channel []) done c.drop_pending.new.self at
+      (ap (answered next) (taken-kept next c.args.octets.now (form g w) (named-taken c.args.octets.now c.open_channels-channels.result (chain_on c.self.inside.chains.value) (min c.row_limit.result 1020)) (sym c.in-Kept.is ∙ (rw c.deref_mut.ensures.value at c.take.ensures.taken))))
+      (HoldsAnswer-done (after_take g w) c.drop_pending.new.self chip next channel [] (at-taken g w m at).held (rw (sym c.channel_named.ensures) c.drop_pending.ensures)) c.requires.empty));
+  ready = (let chip = g.B.Eeprom.chip c.args.bench.now in
+      let w = (goal.at.returns-in-Kept-clause-carries g c).After-take in
+      subst (λ (kept : Kept). IsReady (record kept { found = c.forget.new.self }) chip) (sym c.self-in-Kept.view_is)
+      (IsReady-none c.drop_pending.new.self c.forget.new.self chip (ap (λ (f : Found). f.last) c.forget.ensures)
+      (StandsOver-sessions (after_take g w) c.drop_pending.new.self chip chip _ c.drop_pending.ensures refl (ready-taken g w).stands)));
+  cause = search rules;
+  cells = search rules;
+  behind = Keeps-none (drop (image_size c.args.self.now.store.chains.cells)) (g.B.Eeprom.chip c.args.bench.now) (g.B.Eeprom.chip c.args.bench.now) refl;
+}
 
 pub returns-in-Kept-clause-lowered : goal.returns-in-Kept-clause-lowered
 returns-in-Kept-clause-lowered g c = λ m at first second rest twice.
@@ -161,6 +144,23 @@ returns-in-Kept-clause-lowered g c = λ m at first second rest twice.
     steps g w m at ∙ ap (answered next) (taken-kept next c.args.octets.now (form g w) (named-taken c.args.octets.now c.open_channels-channels.result (chain_on c.self.inside.chains.value) (min c.row_limit.result 1020)) (sym c.in-Kept.is ∙ (rw c.deref_mut.ensures.value at c.take.ensures.taken))) in
     let none : [] ≡ first ∷ second ∷ rest = sym (ap (λ (answer : Answer). answer.commits) is) ∙ twice in
     absurd cc
+
+pub returns-in-Whole-clause-carries : goal.returns-in-Whole-clause-carries
+returns-in-Whole-clause-carries g c = record {
+  performs = λ m at.
+      let w = (goal.at.returns-in-Whole-clause-carries g c).After-take in
+      let next = taken_at m (form g w) in
+      let most = bounds g w m at ∙ octets-whole next (form g w) c.take.new.command ((rw c.deref_mut.ensures.value at c.take.ensures.whole) c.in-Whole.is) in
+      let is = steps g w m at ∙ ap (answered next) (outcome-whole next (form g w) c.take.new.command ((rw c.deref_mut.ensures.value at c.take.ensures.whole) c.in-Whole.is)) in
+      subst (λ (answer : Answer). Performs m answer (octets_bound m c.args.octets.now) c.carry_out.new.reply.body c.carry_out.result c.carry_out.new.self (g.B.Eeprom.chip c.args.bench.now) (g.B.Eeprom.chip c.carry_out.new.bench)) (sym is)
+      (subst (λ (most : ℕ). Performs m (answered next (carried_out next c.take.new.command)) most c.carry_out.new.reply.body c.carry_out.result c.carry_out.new.self (g.B.Eeprom.chip c.args.bench.now) (g.B.Eeprom.chip c.carry_out.new.bench)) (sym most)
+      (Performs-from m next _ _ c.carry_out.new.reply.body c.carry_out.result c.carry_out.new.self (g.B.Eeprom.chip c.args.bench.now) (g.B.Eeprom.chip c.carry_out.new.bench) (taken-committed m (form g w))
+      (c.carry_out.ensures.carries.performs next (at-taken g w m at))));
+  ready = search rules;
+  cause = search rules;
+  cells = search rules;
+  behind = subst (λ (kept : Kept). Keeps (drop (image_size kept.store.chains.cells)) (g.B.Eeprom.chip c.args.bench.now) (g.B.Eeprom.chip c.carry_out.new.bench)) c.self.view_is c.carry_out.ensures.carries.behind;
+}
 
 pub returns-in-Whole-clause-lowered : goal.returns-in-Whole-clause-lowered
 returns-in-Whole-clause-lowered g c = λ m at.

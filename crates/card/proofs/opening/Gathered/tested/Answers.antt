@@ -1,5 +1,5 @@
 -- The records are put in rising order, where they rise and pass the test.
-use Rattle.std.proofs.Common.{refl, sym, ◌∙◌, arith, rules}
+use Rattle.std.proofs.Common.{refl, sym, ◌∙◌, rules}
 use Rattle.card.specs.KeptRecords.{stamp_of}
 use Rattle.card.proofs.Sorting.{in_order-permuted}
 use Rattle.card.proofs.SortedTest.{passed-sorted, refused-sorted}
