@@ -2,14 +2,26 @@
 use Rattle.std.proofs.Common.{◌≡◌, ℕ, nat_le, ◌&&◌, Bool, true, false, List, [], ◌∷◌, length, take, drop, Option, Some, None, refl, ap, sym, ◌∙◌}
 use Rattle.std.specs.Prelude.{option_map}
 use Rattle.scql_base.specs.declared.condition.Condition.{Condition}
+use Rattle.scql_base.specs.declared.operation.Operation.{Operation}
 use Rattle.scql_base.specs.declared.operation.Operation.TheVariants.{CreateUser, Update}
 use Rattle.scql_base.specs.declared.words.Profile.{Profile}
 use Rattle.scql_base.specs.Strings.{with_string}
 use Rattle.scql_base.specs.Name.{is_name, name_of}
 use Rattle.scql_model.specs.Records.{is_privileges}
 use Rattle.scql_model.specs.Parameters as parameters
-use Rattle.scql_model.specs.Parameters.{◌>>=◌, only_where, are_chosen_columns, are_conditions, are_changes, Choice, choice_in, create_user_in, is_new_secret, made_profile_of, update_in}
-use Rattle.apdu.specs.Fields.{granted_in, names_in, choice_of, conditions_in, changes_in, made_profile_in, octet_in, privileges_in}
+use Rattle.scql_model.specs.Parameters.{◌>>=◌, only_where, are_chosen_columns, are_conditions, are_changes, Choice, choice_in, create_user_in, is_new_secret, made_profile_of, named_in, update_in}
+use Rattle.apdu.specs.Fields.{granted_in, name_in, names_in, choice_of, conditions_in, changes_in, made_profile_in, octet_in, privileges_in}
+
+-- A name alone.
+pub named-read : (make : List ℕ → Operation) (whole : Option (List (List ℕ))) → option_map make (whole >>= name_in) ≡ whole >>= named_in make
+named-read make None = refl
+named-read make (Some []) = refl
+named-read make (Some (name ∷ [])) = go (is_name name)
+  where
+    go : (named : Bool) → option_map make (only_where named name) ≡ only_where named (make name)
+    go true = refl
+    go false = refl
+named-read make (Some (name ∷ other ∷ strings)) = refl
 
 -- Privileges and two names.
 granted-steps : (string object grantee : List ℕ)

@@ -1,6 +1,6 @@
 -- What is read of octets comes of the APDU that they are.
-use Rattle.std.proofs.Common.{◌≡◌, ◌≤◌, ◌<◌, ◌-◌, ℕ, Bool, true, List, [], ◌∷◌, length, take, drop, Option, Some, None, Result, Ok, Err, refl, ap, sym, ◌∙◌, arith, length-drop, if◌then◌else◌}
-use Rattle.std.specs.Prelude.{IfOk, slice_get, slice_index}
+use Rattle.std.proofs.Common.{◌≡◌, ◌≤◌, ◌<◌, ◌-◌, ℕ, Bool, List, [], ◌∷◌, length, take, drop, Option, Some, None, Result, Ok, Err, refl, ap, sym, ◌∙◌, arith, length-drop, if◌then◌else◌}
+use Rattle.std.specs.Prelude.{IfOk, slice_index}
 use Rattle.std.proofs.lemmas.List.{take_all}
 use Rattle.scql_base.specs.declared.words.StatusWord.{StatusWord}
 use Rattle.scql_base.specs.declared.operation.Command.{Command}
@@ -124,10 +124,9 @@ form_of-apdu octets channels chain limit channel a enough is at same =
     ∙ ap (λ (n : ℕ). formed_on n (with_parts a (parts_of a.kind (chain a.channel)) limit)) (sym same))
 
 -- A command is on the channel of its APDU.
-pub command_of-open : (a : Apdu) (limit : ℕ) (body : List ℕ) (channels : List Bool) → slice_get channels a.channel ≡ Some true → IfOk (command_of a limit body) (λ c. slice_get channels c.channel ≡ Some true)
-command_of-open a limit body channels is = go (operation_in (has_secrets operations) a.kind limit body)
+pub command_of-channel : (a : Apdu) (limit : ℕ) (body : List ℕ) → IfOk (command_of a limit body) (λ c. c.channel ≡ a.channel)
+command_of-channel a limit body = go (operation_in (has_secrets operations) a.kind limit body)
   where
-    go : (o : Option Operation)
-        → IfOk (or_refused o wrong_data >>= λ (operation : Operation). let c : Command = record { channel = a.channel; operation = operation; le = a.le } in Ok c) (λ c. slice_get channels c.channel ≡ Some true)
+    go : (o : Option Operation) → IfOk (or_refused o wrong_data >>= λ (operation : Operation). let c : Command = record { channel = a.channel; operation = operation; le = a.le } in Ok c) (λ c. c.channel ≡ a.channel)
     go None = tt
-    go (Some operation) = is
+    go (Some operation) = refl

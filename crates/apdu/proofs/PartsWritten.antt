@@ -9,7 +9,7 @@ use Rattle.scql_base.specs.declared.operation.Line.{Line}
 use Rattle.scql_base.specs.declared.operation.OperationKind.{OperationKind}
 use Rattle.scql_model.specs.Operations.{operations, comes_in_parts, kind_of}
 use Rattle.scql_model.specs.Spelling.{field_of, fits, line_for, part_by, part_count, part_octets}
-use Rattle.apdu.specs.Writing.{size_in_parts, with_more}
+use Rattle.apdu.specs.Writing.{part_of, size_in_parts, with_more}
 use Rattle.apdu.proofs.FieldsWritten.{with_some}
 
 -- at most 255 octets are taken, and no more than there are
@@ -52,18 +52,21 @@ pub field-there : (c : Command) (field : Option (List ℕ)) → fits c ≡ true 
 field-there c field fit put = rw (put ∙ with_some (field_of c.operation) [] (let short : length (field_of c.operation) ≤ 1275 = field-short c fit in omega (arith, short))) (search rules)
 
 -- the part at a place, by the line that is found, and where none is
-pub part-found : (c : Command) (place : ℕ) (asked : OperationKind) (line : Line) (field octets : List ℕ) → asked ≡ kind_of c.operation → Some line ≡ line_for operations asked → field ≡ field_of c.operation
-    → octets ≡ part_by line c.channel c.le field place → octets ≡ part_octets c place
-unfolding part_octets
-part-found c place asked line field octets same at is written =
+pub part-found : (c : Command) (place : ℕ) (asked : OperationKind) (line : Line) (field octets : List ℕ) → asked ≡ kind_of c.operation → Some line ≡ line_for operations asked
+    → octets ≡ part_by line c.channel c.le field place → octets ≡ part_of c field place
+part-found c place asked line field octets same at written =
     let found : line_for operations (kind_of c.operation) ≡ Some line = ap (line_for operations) (sym same) ∙ sym at in
-    rw found (written ∙ ap (λ (f : List ℕ). part_by line c.channel c.le f place) is)
+    rw found written
 
-pub part-not_found : (c : Command) (place : ℕ) (asked : OperationKind) (octets : List ℕ) → asked ≡ kind_of c.operation → None ≡ line_for operations asked → octets ≡ [] → octets ≡ part_octets c place
-unfolding part_octets
-part-not_found c place asked octets same at none =
+pub part-not_found : (c : Command) (place : ℕ) (asked : OperationKind) (field octets : List ℕ) → asked ≡ kind_of c.operation → None ≡ line_for operations asked → octets ≡ [] → octets ≡ part_of c field place
+part-not_found c place asked field octets same at none =
     let found : line_for operations (kind_of c.operation) ≡ None = ap (line_for operations) (sym same) ∙ sym at in
     rw found none
+
+-- a part of the command's own data field
+pub part-own : (c : Command) (place : ℕ) (field octets : List ℕ) → field ≡ field_of c.operation → octets ≡ part_of c field place → octets ≡ part_octets c place
+unfolding part_octets
+part-own c place field octets is written = written ∙ ap (λ (f : List ℕ). part_of c f place) is
 
 -- a size that is there is that of the data field, and a command whose size isn't comes in one part
 size-some : (comes : Bool) (size n : ℕ) → Some size ≡ (if comes then Some n else None) → size ≡ n

@@ -1,5 +1,5 @@
 -- What a line asks for, as it was read.
-use Rattle.std.specs.Prelude.{ℕ, ◌≤◌, List, take}
+use Rattle.std.specs.Prelude.{◌≡◌, ℕ, ◌≤◌, List, take}
 use Rattle.scql_model.specs.Lines as model
 use Rattle.apdu.specs.declared.line.TheConstants.{LONGEST_COMMAND}
 use Rattle.apdu.specs.declared.line.LineContent.{LineContent}
@@ -17,3 +17,10 @@ content_view place (Command size) = model.command (take size place)
 abbrev pub IsWithinPlace : LineContent → Type 0
 IsWithinPlace (Command size) = size ≤ LONGEST_COMMAND
 IsWithinPlace content = Unit {0}
+
+-- what a line was read as, and what stands in the place then
+pub record IsRead (place : List ℕ) (read : LineContent) (asked : model.LineContent) : Type 0 where
+  -- it is what the line asks for
+  pub content : content_view place read ≡ asked
+  -- a command has its place
+  pub within : IsWithinPlace read

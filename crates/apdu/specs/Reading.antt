@@ -1,5 +1,5 @@
 -- What is read of a command APDU before its data field, and what becomes of it with the data field.
-use Rattle.std.specs.Prelude.{◌≡◌, ◌<◌, ℕ, Bool, true, List, Option, Some, Result, Ok, Err, option_map, slice_get, if◌then◌else◌}
+use Rattle.std.specs.Prelude.{◌≡◌, ◌<◌, ◌≤◌, ℕ, Bool, true, List, length, Option, Some, Result, Ok, Err, IfOk, option_map, slice_get, if◌then◌else◌}
 use Rattle.scql_base.specs.declared.words.StatusWord.{StatusWord}
 use Rattle.scql_base.specs.declared.operation.Command.{Command}
 use Rattle.scql_base.specs.declared.operation.OperationKind.{OperationKind}
@@ -67,3 +67,16 @@ IsOnOpen channels (On channel word) = (channel < 4) × (slice_get channels chann
 abbrev pub word_of : Refusal → StatusWord
 word_of (Nowhere word) = word
 word_of (On channel word) = word
+
+-- the channel that is asked for, where it is an open one of the channels 0 to 3
+pub record AsksChannel (channels : List Bool) (asked result : Result ℕ StatusWord) : Type 0 where
+  pub channel : result ≡ asked
+  pub on_open : IfOk result (λ channel. slice_get channels channel ≡ Some true)
+  pub four : IfOk result (λ channel. channel < 4)
+
+-- what is asked for on a channel
+pub record AsksOn (on : ℕ) (asked : Result Asked StatusWord) (result : Result Apdu StatusWord) : Type 0 where
+  pub apdu : seen apdu_view result ≡ asked
+  pub channel : IfOk result (λ apdu. apdu.channel ≡ on)
+  -- the data field of one APDU
+  pub short : IfOk result (λ apdu. length apdu.body.now ≤ 255)

@@ -1,16 +1,17 @@
 // Commands, read from octets and written (ISO/IEC 7816-4, command APDU).
-ghost use Rattle.std.specs.Prelude.{◌≡◌, ◌<◌, ◌+◌, [], ℕ, Bool, List, Some, true, IfOk, slice_get, min};
+ghost use Rattle.std.specs.Prelude.{◌≡◌, ◌<◌, ◌≤◌, ◌+◌, [], ℕ, Bool, List, Some, Ok, true, IfOk, length, slice_get, min};
+ghost use Rattle.scql_base.specs.declared.operation.TheConstants.Command.{LONGEST_IN_PARTS};
 ghost use Rattle.scql_base.specs.declared.row.TheConstants.Row.{LARGEST};
 ghost use Rattle.scql_model.specs.Form as form;
 ghost use Rattle.scql_model.specs.Operations as table;
 ghost use Rattle.scql_model.specs.Spelling as spelling;
 ghost use Rattle.scql_model.specs.WellFormed.{IsWellFormed};
-ghost use Rattle.apdu.specs.Writing.{size_in_parts};
+ghost use Rattle.apdu.specs.Reading.{completed};
+ghost use Rattle.apdu.specs.Writing.{HasPart, IsOnePart, field_fits, size_in_parts};
 
 use crate::field::{Field, has_field};
 use crate::parts::longest_field;
 use crate::reading::Apdu;
-use crate::table::line_for;
 use crate::writing::{CommandOctets, kind_of, parts_for, put_part};
 use scql_base::{Command, Operation, StatusWord};
 
@@ -43,14 +44,12 @@ pub trait CommandApdu: Sized {
 
     /// Writes a command of one part.
     fn write(&self, out: &mut CommandOctets)
-        requires fits { can_be_written self.now ≡ true }
-        requires one { part_count self.now ≡ 1 }
+        requires { IsOnePart (can_be_written self.now) (part_count self.now) }
         ensures { out.new.items ≡ octets self.now };
 
     /// Writes the part at a place, counted from 0. All but the last say that the command goes on.
     fn write_part(&self, part: u8, out: &mut CommandOctets)
-        requires fits { can_be_written self.now ≡ true }
-        requires there { part < part_count self.now }
+        requires { HasPart (can_be_written self.now) (part_count self.now) part }
         ensures { out.new.items ≡ part_octets self.now part };
 }
 
@@ -68,7 +67,10 @@ impl CommandApdu for Command {
         ensures formed { IfOk result IsWellFormed }
         ensures on_open { IfOk result (λ command. slice_get channels command.channel ≡ Some true) }
     {
-        command_in(octets, channels, limit)
+        match Apdu::read(octets, channels) {
+            Err(refusal) => Err(refusal.word()),
+            Ok(apdu) => command_in(&apdu, limit),
+        }
     }
 
     fn fits(&self) -> bool
@@ -88,8 +90,7 @@ impl CommandApdu for Command {
     }
 
     fn write(&self, out: &mut CommandOctets)
-        requires fits { spelling.fits self.now ≡ true }
-        requires one { spelling.part_count self.now ≡ 1 }
+        requires { IsOnePart (spelling.fits self.now) (spelling.part_count self.now) }
         ensures octets { out.new.items ≡ spelling.octets_of self.now }
         ensures read_back { (limit : ℕ)
             → IsWellFormed self.now
@@ -100,8 +101,7 @@ impl CommandApdu for Command {
     }
 
     fn write_part(&self, part: u8, out: &mut CommandOctets)
-        requires fits { spelling.fits self.now ≡ true }
-        requires there { part < spelling.part_count self.now }
+        requires { HasPart (spelling.fits self.now) (spelling.part_count self.now) part }
         ensures octets { out.new.items ≡ spelling.part_octets self.now part }
         ensures part { (limit : ℕ)
             → IsWellFormed self.now → part + 1 < spelling.part_count self.now
@@ -113,7 +113,11 @@ impl CommandApdu for Command {
             → spelling.ReadsAs table.operations limit self.now (spelling.first_parts part (spelling.field_of self.now.operation)) out.new.items
             (form.a_command self.now) }
     {
-        write_at(self, part, out);
+        Part {
+            command: self,
+            place: part,
+        }
+        .write(out);
     }
 }
 
@@ -142,7 +146,7 @@ fn size_in_parts(operation: &Operation) -> Option<usize>
 // Whether the data field of an operation fits, as it is put together.
 #[inline(never)]
 fn written_fits(operation: &Operation) -> bool
-    ensures { (command : Command) → command.operation ≡ operation.now → result ≡ spelling.fits command }
+    ensures { result ≡ field_fits operation.now }
 {
     let mut field = Field::new();
     field.put_operation(operation);
@@ -152,59 +156,54 @@ fn written_fits(operation: &Operation) -> bool
     }
 }
 
-// Writes the part of a command at a place.
-fn write_at(command: &Command, part: u8, out: &mut CommandOctets)
-    requires fits { spelling.fits command.now ≡ true }
-    requires there { part < spelling.part_count command.now }
-    ensures { out.new.items ≡ spelling.part_octets command.now part }
-{
-    match &command.operation {
-        Operation::Update { changes } => put_field(command, changes.octets(), part, out),
-        operation if has_field(operation) => write_field_at(command, part, out),
-        _ => put_field(command, &[], part, out),
-    }
+// A part of a command that fits, at a place that is counted from 0.
+#[derive(Drop)]
+struct Part<'c> {
+    command: &'c Command,
+    place: u8,
+    ghost fits: { spelling.fits command.now ≡ true },
+    ghost there: { place < spelling.part_count command.now },
 }
 
-// Puts the data field together, in a place that is cleared for such commands alone, and writes its part.
-#[inline(never)]
-fn write_field_at(command: &Command, part: u8, out: &mut CommandOctets)
-    requires fits { spelling.fits command.now ≡ true }
-    requires there { part < spelling.part_count command.now }
-    ensures { out.new.items ≡ spelling.part_octets command.now part }
-{
-    let mut field = Field::new();
-    field.put_operation(&command.operation);
-    put_field(command, field.written(), part, out);
-}
-
-// Writes the part at a place, by the data field. An operation that stands in no line of the table is written as no octets.
-fn put_field(command: &Command, field: &[u8], part: u8, out: &mut CommandOctets)
-    requires field { field.now ≡ spelling.field_of command.now.operation }
-    requires fits { spelling.fits command.now ≡ true }
-    requires there { part < spelling.part_count command.now }
-    ensures { out.new.items ≡ spelling.part_octets command.now part }
-{
-    match line_for(kind_of(&command.operation)) {
-        Some(line) => put_part(command, &line, field, part, out),
-        None => out.clear(),
-    }
-}
-
-fn command_in(octets: &[u8], channels: [bool; 4], limit: u16) -> Result<Command, StatusWord>
-    ensures command { result ≡ form.as_command (form.form_of table.operations octets.now channels form.no_chain (min limit LARGEST)) }
-    ensures on_open { IfOk result (λ command. slice_get channels command.channel ≡ Some true) }
-{
-    match Apdu::read(octets, channels) {
-        Err(refusal) => Err(refusal.word()),
-        Ok(apdu) if apdu.is_part => Err(StatusWord::CHAINING_NOT_SUPPORTED),
-        Ok(apdu) => {
-            let mut command = Command {
-                channel: apdu.channel,
-                operation: Operation::Next,
-                le: apdu.le,
-            };
-            apdu.read_into(apdu.body, limit, &mut command)?;
-            Ok(command)
+impl<'c> Part<'c> {
+    // Writes it.
+    fn write(&self, out: &mut CommandOctets)
+        ensures { out.new.items ≡ spelling.part_octets self.now.command.now self.now.place }
+    {
+        match &self.command.operation {
+            Operation::Update { changes } => {
+                put_part(self.command, changes.octets(), self.place, out)
+            }
+            operation if has_field(operation) => write_field(self, out),
+            _ => put_part(self.command, &[], self.place, out),
         }
     }
+}
+
+// Puts the data field together, in a place that is cleared for such commands alone, and writes the part of it.
+#[inline(never)]
+fn write_field(part: &Part<'_>, out: &mut CommandOctets)
+    ensures { out.new.items ≡ spelling.part_octets part.now.command.now part.now.place }
+{
+    let mut field = Field::new();
+    field.put_operation(&part.command.operation);
+    put_part(part.command, field.written(), part.place, out);
+}
+
+// The command that an APDU is by itself.
+fn command_in(apdu: &Apdu<'_>, limit: u16) -> Result<Command, StatusWord>
+    requires { length apdu.now.body.now ≤ LONGEST_IN_PARTS }
+    ensures command { result ≡ form.as_command (completed (Ok apdu.now) form.no_chain (min limit LARGEST)) }
+    ensures channel { IfOk result (λ command. command.channel ≡ apdu.now.channel) }
+{
+    if apdu.is_part {
+        return Err(StatusWord::CHAINING_NOT_SUPPORTED);
+    }
+    let mut command = Command {
+        channel: apdu.channel,
+        operation: Operation::Next,
+        le: apdu.le,
+    };
+    apdu.read_into(apdu.body, limit, &mut command)?;
+    Ok(command)
 }

@@ -14,31 +14,26 @@ use scql_base::{
     Privileges, Profile, Row, Subject, User,
 };
 
-// Reads the operation that a data field asks for into a place, where a row has at most so many octets. What the place has where none
-// is read is left open. A place that asks for the next row already is left as it is, since a scan asks for nothing else.
-pub(crate) fn read_operation(
-    kind: OperationKind,
-    limit: u16,
-    octets: &[u8],
-    place: &mut Operation,
-) -> Option<()>
-    requires limit { limit ≤ LARGEST }
-    requires short { length octets.now ≤ LONGEST_IN_PARTS }
-    ensures { option_map (λ _. place.new) result ≡ parameters.operation_in (table.has_secrets table.operations) kind limit octets.now }
-{
-    match (kind, &*place) {
-        (OperationKind::FetchNext, Operation::FetchNext) => Some(()),
-        _ => read_another(kind, limit, octets, place),
-    }
+/// The data field of a command in at most five parts, in which a row may have at most so many octets.
+#[derive(Clone, Copy)]
+pub(crate) struct DataField<'a> {
+    pub octets: &'a [u8],
+    pub limit: u16,
+    pub ghost short: { length octets.now ≤ LONGEST_IN_PARTS },
+    pub ghost limited: { limit ≤ LARGEST },
 }
 
-// Reads an operation over what the place has. It isn't inlined, so that a scan needs no room for what the other operations are read into.
+// Reads the operation that a data field asks for into a place. What the place has where none is read is left open. It isn't inlined,
+// so that a scan needs no room for what the other operations are read into.
 #[inline(never)]
-fn read_another(kind: OperationKind, limit: u16, octets: &[u8], place: &mut Operation) -> Option<()>
-    requires limit { limit ≤ LARGEST }
-    requires short { length octets.now ≤ LONGEST_IN_PARTS }
-    ensures { option_map (λ _. place.new) result ≡ parameters.operation_in (table.has_secrets table.operations) kind limit octets.now }
+pub(crate) fn read_operation(
+    kind: OperationKind,
+    field: &DataField<'_>,
+    place: &mut Operation,
+) -> Option<()>
+    ensures { option_map (λ _. place.new) result ≡ parameters.operation_in (table.has_secrets table.operations) kind field.now.limit field.now.octets.now }
 {
+    let octets = field.octets;
     match kind {
         OperationKind::CreateTable => read_create_table(octets, place),
         OperationKind::CreateView => read_create_view(octets, place),
@@ -48,8 +43,8 @@ fn read_another(kind: OperationKind, limit: u16, octets: &[u8], place: &mut Oper
         OperationKind::Grant => read_grant(octets, place),
         OperationKind::Revoke => read_revoke(octets, place),
         OperationKind::DeclareCursor => read_declare_cursor(octets, place),
-        OperationKind::Insert => read_insert(limit, octets, place),
-        OperationKind::Update => read_update(octets, place),
+        OperationKind::Insert => read_insert(field, place),
+        OperationKind::Update => read_update(field, place),
         OperationKind::PresentUser => read_present_user(octets, place),
         OperationKind::CreateUser => read_create_user(has_instruction(0x20), octets, place),
         OperationKind::DeleteUser => read_delete_user(octets, place),
@@ -216,32 +211,30 @@ fn read_declare_cursor(octets: &[u8], place: &mut Operation) -> Option<()>
 }
 
 #[inline(never)]
-fn read_insert(limit: u16, octets: &[u8], place: &mut Operation) -> Option<()>
-    requires { limit ≤ LARGEST }
-    ensures { option_map (λ _. place.new) result ≡ fields.read_by (parameters.insert_in limit) octets.now }
+fn read_insert(field: &DataField<'_>, place: &mut Operation) -> Option<()>
+    ensures { option_map (λ _. place.new) result ≡ fields.read_by (parameters.insert_in field.now.limit) field.now.octets.now }
 {
-    let (table, rest) = Params::first_in(octets)?;
+    let (table, rest) = Params::first_in(field.octets)?;
     let table = Name::read(table)?;
     *place = Operation::Insert {
         table,
         row: Row::new(),
     };
     match place {
-        Operation::Insert { row, .. } => read_row(limit, rest, row),
+        Operation::Insert { row, .. } => read_row(field.limit, rest, row),
         _ => unreachable!(),
     }
 }
 
 #[inline(never)]
-fn read_update(octets: &[u8], place: &mut Operation) -> Option<()>
-    requires { length octets.now ≤ LONGEST_IN_PARTS }
-    ensures { option_map (λ _. place.new) result ≡ fields.read_by parameters.update_in octets.now }
+fn read_update(field: &DataField<'_>, place: &mut Operation) -> Option<()>
+    ensures { option_map (λ _. place.new) result ≡ fields.read_by parameters.update_in field.now.octets.now }
 {
     *place = Operation::Update {
         changes: PackedChanges::new(),
     };
     match place {
-        Operation::Update { changes } => read_changes(octets, changes),
+        Operation::Update { changes } => read_changes(field.octets, changes),
         _ => unreachable!(),
     }
 }

@@ -2,7 +2,7 @@
 ghost use Rattle.std.specs.Prelude.{◌≡◌, ◌≤◌, IfSome, length, option_map};
 ghost use Rattle.hex.specs.Hex.{decode_of};
 ghost use Rattle.scql_model.specs.Lines as model;
-ghost use Rattle.apdu.specs.Line.{IsWithinPlace, content_view};
+ghost use Rattle.apdu.specs.Line.{IsRead};
 
 use arrayvec::ArrayVec;
 
@@ -31,46 +31,41 @@ pub enum LineContent {
 /// note begins with `#`. A command's octets are put to the front of the place; where there is no command, what the place has is left open.
 pub fn read_line(line: Option<&[u8]>, place: &mut [u8; LONGEST_COMMAND]) -> LineContent
     requires { IfSome line (λ octets. length octets.now ≤ model.longest_line) }
-    ensures content { content_view place.new result ≡ model.content_of (option_map (λ octets. octets.now) line.entry) }
-    ensures within { IsWithinPlace result }
+    ensures { IsRead place.new result (model.content_of (option_map (λ octets. octets.now) line.entry)) }
 {
-    match line {
-        None => LineContent::TooLong,
-        Some(octets) => read_octets(octets, place),
-    }
-}
-
-// Most lines are hexadecimal as they are. Of the others the blanks are taken out.
-fn read_octets(line: &[u8], place: &mut [u8; LONGEST_COMMAND]) -> LineContent
-    requires { length line.now ≤ LONGEST_LINE }
-    ensures content { content_view place.new result ≡ model.content_without_blanks (model.without_blanks line.now) }
-    ensures within { IsWithinPlace result }
-{
-    if line.is_empty() {
+    let Some(octets) = line else {
+        return LineContent::TooLong;
+    };
+    if octets.is_empty() {
         return LineContent::Nothing;
     }
-    match read_command(line, place) {
-        LineContent::NotHexadecimal => read_with_blanks(line, place),
+    // Most lines are hexadecimal as they are. Of the others the blanks are taken out.
+    match read_command(octets, place) {
+        LineContent::NotHexadecimal => read_with_blanks(octets, place),
         content => content,
     }
 }
 
+// Reads a line without its spaces, tabs and carriage returns.
 #[inline(never)]
 fn read_with_blanks(line: &[u8], place: &mut [u8; LONGEST_COMMAND]) -> LineContent
     requires { length line.now ≤ LONGEST_LINE }
-    ensures content { content_view place.new result ≡ model.content_without_blanks (model.without_blanks line.now) }
-    ensures within { IsWithinPlace result }
+    ensures { IsRead place.new result (model.content_without_blanks (model.without_blanks line.now)) }
 {
-    read_digits(&without_blanks(line), place)
+    let mut kept = ArrayVec::new();
+    for octet in line {
+        if !is_blank(*octet) {
+            kept.push(*octet);
+        }
+    }
+    read_digits(&kept, place)
 }
 
-// Reads a line without blanks.
-fn read_digits(line: &[u8], place: &mut [u8; LONGEST_COMMAND]) -> LineContent
-    requires { length line.now ≤ LONGEST_LINE }
-    ensures content { content_view place.new result ≡ model.content_without_blanks line.now }
-    ensures within { IsWithinPlace result }
+// Reads a line that has no blanks.
+fn read_digits(line: &ArrayVec<u8, LONGEST_LINE>, place: &mut [u8; LONGEST_COMMAND]) -> LineContent
+    ensures { IsRead place.new result (model.content_without_blanks line.now.items) }
 {
-    match line {
+    match line.as_slice() {
         [] | [b'#', ..] => LineContent::Nothing,
         b"reset" => LineContent::Reset,
         digits => read_command(digits, place),
@@ -79,28 +74,13 @@ fn read_digits(line: &[u8], place: &mut [u8; LONGEST_COMMAND]) -> LineContent
 
 fn read_command(digits: &[u8], place: &mut [u8; LONGEST_COMMAND]) -> LineContent
     requires { length digits.now ≤ LONGEST_LINE }
-    ensures content { content_view place.new result ≡ model.hexadecimal_in (decode_of digits.now) }
-    ensures within { IsWithinPlace result }
+    ensures { IsRead place.new result (model.hexadecimal_in (decode_of digits.now)) }
 {
     let size = digits.len() / 2;
     match hex::decode_to_slice(digits, &mut place[..size]) {
         Ok(()) => LineContent::Command { size },
         Err(_) => LineContent::NotHexadecimal,
     }
-}
-
-// The line without spaces, tabs and carriage returns.
-fn without_blanks(line: &[u8]) -> ArrayVec<u8, LONGEST_LINE>
-    requires { length line.now ≤ LONGEST_LINE }
-    ensures { result.items ≡ model.without_blanks line.now }
-{
-    let mut kept = ArrayVec::new();
-    for octet in line {
-        if !is_blank(*octet) {
-            kept.push(*octet);
-        }
-    }
-    kept
 }
 
 fn is_blank(octet: u8) -> bool

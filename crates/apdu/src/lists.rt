@@ -5,7 +5,7 @@ ghost use Rattle.scql_base.specs.declared.row.TheConstants.Row.{LARGEST};
 ghost use Rattle.apdu.specs.Fields as fields;
 
 use scql_base::{
-    Comparison, Condition, Conditions, Name, NameList, Octets, PackedChanges, Params, Row,
+    Comparison, Condition, Conditions, Copied, Name, NameList, Octets, PackedChanges, Params, Row,
 };
 
 // 1 to 15 different names, to the end.

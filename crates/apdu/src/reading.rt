@@ -7,12 +7,12 @@ ghost use Rattle.scql_model.specs.Form as form;
 ghost use Rattle.scql_model.specs.Machine.{Chain};
 ghost use Rattle.scql_model.specs.Refusals as refusals;
 ghost use Rattle.scql_model.specs.Operations as table;
-ghost use Rattle.apdu.specs.Reading.{IsOnOpen, apdu_on, apdu_view, command_of, completed, seen, word_of};
+ghost use Rattle.apdu.specs.Reading.{AsksChannel, AsksOn, IsOnOpen, apdu_on, command_of, completed, seen, word_of};
 
-use crate::fields::read_operation;
+use crate::fields::{DataField, read_operation};
 use crate::table::{has_instruction, line_of};
 use crate::tail::taken_in;
-use scql_base::{Command, Line, OperationKind, Row, StatusWord};
+use scql_base::{Command, Line, Operation, OperationKind, Row, StatusWord};
 
 // The largest row, in the type of a limit.
 const LARGEST_ROW: u16 = Row::LARGEST as u16;
@@ -70,10 +70,19 @@ impl<'a> Apdu<'a> {
         requires { length body.now ≤ LONGEST_IN_PARTS }
         ensures { seen (λ _. command.new) result ≡ command_of self.now (min limit LARGEST) body.now }
     {
-        let limit = limit.min(LARGEST_ROW);
+        let field = DataField {
+            octets: body,
+            limit: limit.min(LARGEST_ROW),
+        };
         command.channel = self.channel;
         command.le = self.le;
-        match read_operation(self.kind, limit, body, &mut command.operation) {
+        // A place that asks for the next row already is left as it is, since a scan asks for nothing else.
+        if self.kind == OperationKind::FetchNext
+            && matches!(command.operation, Operation::FetchNext)
+        {
+            return Ok(());
+        }
+        match read_operation(self.kind, &field, &mut command.operation) {
             Some(()) => Ok(()),
             None => Err(StatusWord::WRONG_DATA),
         }
@@ -93,9 +102,7 @@ impl Refusal {
 
 // The open channel that a known instruction of the class is for.
 fn channel_asked(cla: u8, ins: u8, channels: [bool; 4]) -> Result<u8, StatusWord>
-    ensures channel { result ≡ form.channel_asked table.operations cla ins channels }
-    ensures on_open { IfOk result (λ channel. slice_get channels channel ≡ Some true) }
-    ensures four { IfOk result (λ channel. channel < 4) }
+    ensures { AsksChannel channels (form.channel_asked table.operations cla ins channels) result }
 {
     check_class(cla)?;
     check_instruction(ins)?;
@@ -111,9 +118,7 @@ fn apdu_on(
     p2: u8,
     after: &[u8],
 ) -> Result<Apdu<'_>, StatusWord>
-    ensures apdu { seen apdu_view result ≡ apdu_on channel cla ins p1 p2 after.now }
-    ensures channel { IfOk result (λ apdu. apdu.channel ≡ channel) }
-    ensures short { IfOk result (λ apdu. length apdu.body.now ≤ 255) }
+    ensures { AsksOn channel (apdu_on channel cla ins p1 p2 after.now) result }
 {
     let line = line_on(channel, ins, p1, p2)?;
     let is_part = is_chained(cla);
@@ -157,9 +162,7 @@ fn check_instruction(ins: u8) -> Result<(), StatusWord>
 }
 
 fn channel_of(cla: u8, channels: [bool; 4]) -> Result<u8, StatusWord>
-    ensures channel { result ≡ form.channel_of cla channels }
-    ensures on_open { IfOk result (λ channel. slice_get channels channel ≡ Some true) }
-    ensures four { IfOk result (λ channel. channel < 4) }
+    ensures { AsksChannel channels (form.channel_of cla channels) result }
 {
     let channel = cla % 4;
     match channels.as_slice().get(channel as usize).copied() {

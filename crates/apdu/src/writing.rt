@@ -2,7 +2,9 @@
 ghost use Rattle.std.specs.Prelude.{◌≡◌, ◌<◌, ◌≤◌, ◌*◌, ◌++◌, None, if◌then◌else◌, length};
 ghost use Rattle.scql_model.specs.Operations as table;
 ghost use Rattle.scql_model.specs.Spelling as spelling;
+ghost use Rattle.apdu.specs.Writing.{part_of};
 
+use crate::table::line_for;
 use arrayvec::ArrayVec;
 use scql_base::{Command, Line, Operation, OperationKind};
 
@@ -74,22 +76,20 @@ fn le_after(is_part: bool, le: Option<u16>) -> Option<u16>
     if is_part { None } else { le }
 }
 
-// Writes the part of a command at a place of its data field.
-pub(crate) fn put_part(
-    command: &Command,
-    line: &Line,
-    field: &[u8],
-    part: u8,
-    out: &mut CommandOctets,
-)
+// Writes the part of a command at a place of its data field. An operation that stands in no line of the table is written as no octets.
+pub(crate) fn put_part(command: &Command, field: &[u8], part: u8, out: &mut CommandOctets)
     requires short { length field.now ≤ 1275 }
     requires there { part < spelling.parts_for (length field.now) }
-    ensures { out.new.items ≡ spelling.part_by line.now command.now.channel command.now.le field.now part }
+    ensures { out.new.items ≡ part_of command.now field.now part }
 {
+    let Some(line) = line_for(kind_of(&command.operation)) else {
+        out.clear();
+        return;
+    };
     let is_part = part + 1 < parts_for(field.len());
     let cla = cla_of(command.channel, is_part);
     let le = le_after(is_part, command.le);
-    put_apdu(line, cla, part_at(part, field), le, out);
+    put_apdu(&line, cla, part_at(part, field), le, out);
 }
 
 // Writes a command APDU by the line of its operation.

@@ -1,2 +1,4 @@
 pub mod Chaining
+pub mod Le
 pub mod Parts
+pub mod Pending

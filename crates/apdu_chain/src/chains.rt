@@ -5,9 +5,8 @@ ghost use Rattle.scql_base.specs.declared.row.TheConstants.Row.{LARGEST};
 ghost use Rattle.scql_model.specs.Form as form;
 ghost use Rattle.scql_model.specs.Form.{parts_of};
 ghost use Rattle.scql_model.specs.Operations as table;
-ghost use Rattle.scql_model.specs.WellFormed.{IsWellFormed};
 ghost use Rattle.apdu.specs.Reading.{command_of, seen};
-ghost use Rattle.apdu_chain.specs.Chaining.{chain_on, chains_after, going_on, on_channel, taken_of};
+ghost use Rattle.apdu_chain.specs.Chaining.{Takes, chain_on, chains_after, going_on, on_channel, taken_of};
 
 use crate::chain::Chain;
 use apdu::{Apdu, Refusal, comes_in_parts};
@@ -39,6 +38,14 @@ pub enum Taken {
     Kept,
 }
 
+// An APDU that was read of octets: it is on a channel of the card, and has at most 255 octets of data.
+#[derive(Drop)]
+struct Received<'a> {
+    apdu: Apdu<'a>,
+    ghost channel: { apdu.channel < 4 },
+    ghost short: { length apdu.body.now ≤ 255 },
+}
+
 impl Chains {
     /// No channel has a part of a command.
     pub fn new() -> Chains
@@ -58,10 +65,7 @@ impl Chains {
         limit: u16,
         command: &mut Command,
     ) -> Taken
-        ensures taken { result ≡ taken_of (form.form_of table.operations octets.now channels (chain_on self.old) (min limit LARGEST)) }
-        ensures chains { self.new ≡ chains_after self.old (form.form_of table.operations octets.now channels (chain_on self.old) (min limit LARGEST)) }
-        ensures whole { result ≡ Taken.Whole → form.form_of table.operations octets.now channels (chain_on self.old) (min limit LARGEST) ≡ form.a_command command.new }
-        ensures formed { result ≡ Taken.Whole → IsWellFormed command.new }
+        ensures { Takes (form.form_of table.operations octets.now channels (chain_on self.old) (min limit LARGEST)) self.old self.new result command.new }
     {
         match Apdu::read(octets, channels) {
             Err(Refusal::Nowhere { word }) => Taken::Refused { word },
@@ -69,7 +73,11 @@ impl Chains {
                 self.forget(channel);
                 Taken::Refused { word }
             }
-            Ok(apdu) => self.taken(apdu, limit, command),
+            Ok(apdu) if apdu.is_part => self.keep(&Received { apdu }),
+            Ok(apdu) => match self.read(&Received { apdu }, limit, command) {
+                Ok(()) => Taken::Whole,
+                Err(word) => Taken::Refused { word },
+            },
         }
     }
 
@@ -91,32 +99,17 @@ impl Chains {
         *self = Chains::new();
     }
 
-    fn taken(&mut self, apdu: Apdu<'_>, limit: u16, command: &mut Command) -> Taken
-        requires channel { apdu.channel < 4 }
-        requires short { length apdu.body.now ≤ 255 }
-        ensures taken { result ≡ taken_of (on_channel self.old apdu.entry (min limit LARGEST)) }
-        ensures whole { result ≡ Taken.Whole → on_channel self.old apdu.entry (min limit LARGEST) ≡ form.a_command command.new }
-        ensures chains { self.new ≡ chains_after self.old (on_channel self.old apdu.entry (min limit LARGEST)) }
-    {
-        if apdu.is_part {
-            self.keep(apdu)
-        } else {
-            self.complete(apdu, limit, command)
-        }
-    }
-
     // A part goes on with the chain of its channel, or begins a new one. It isn't inlined, so that a command that comes whole has no
     // place for a chain.
     #[inline(never)]
-    fn keep(&mut self, apdu: Apdu<'_>) -> Taken
-        requires part { apdu.is_part ≡ true }
-        requires channel { apdu.channel < 4 }
-        requires short { length apdu.body.now ≤ 255 }
-        ensures taken { (limit : ℕ) → result ≡ taken_of (on_channel self.old apdu.entry limit) }
+    fn keep(&mut self, received: &Received<'_>) -> Taken
+        requires { received.now.apdu.is_part ≡ true }
+        ensures taken { (limit : ℕ) → result ≡ taken_of (on_channel self.old received.now.apdu limit) }
         ensures part { result ≢ Taken.Whole }
-        ensures chains { (limit : ℕ) → self.new ≡ chains_after self.old (on_channel self.old apdu.entry limit) }
+        ensures chains { (limit : ℕ) → self.new ≡ chains_after self.old (on_channel self.old received.now.apdu limit) }
     {
-        let begun = self.end(apdu.channel, apdu.kind);
+        let apdu = &received.apdu;
+        let begun = self.end(received);
         if !comes_in_parts(apdu.kind) {
             return Taken::Refused {
                 word: StatusWord::CHAINING_NOT_SUPPORTED,
@@ -133,48 +126,33 @@ impl Chains {
         Taken::Kept
     }
 
-    // What isn't a part makes a command whole, with the parts before it.
-    fn complete(&mut self, apdu: Apdu<'_>, limit: u16, command: &mut Command) -> Taken
-        requires whole { apdu.is_part ≡ false }
-        requires channel { apdu.channel < 4 }
-        requires short { length apdu.body.now ≤ 255 }
-        ensures taken { result ≡ taken_of (on_channel self.old apdu.entry (min limit LARGEST)) }
-        ensures whole { result ≡ Taken.Whole → on_channel self.old apdu.entry (min limit LARGEST) ≡ form.a_command command.new }
-        ensures chains { self.new ≡ chains_after self.old (on_channel self.old apdu.entry (min limit LARGEST)) }
+    // What isn't a part makes a command whole, with the parts before it: the command is read into a place. The chain of its channel ends.
+    fn read(
+        &mut self,
+        received: &Received<'_>,
+        limit: u16,
+        command: &mut Command,
+    ) -> Result<(), StatusWord>
+        ensures command { seen (λ _. command.new) result ≡ command_of received.now.apdu (min limit LARGEST) (concat (parts_of received.now.apdu.kind (chain_on self.old received.now.apdu.channel)) ++ received.now.apdu.body.now) }
+        ensures ended { self.new ≡ slice_set self.old received.now.apdu.channel None }
     {
-        match self.read(apdu, limit, command) {
-            Ok(()) => Taken::Whole,
-            Err(word) => Taken::Refused { word },
-        }
-    }
-
-    // Reads the command of the parts before an APDU and its own data field into a place. The chain of its channel ends.
-    fn read(&mut self, apdu: Apdu<'_>, limit: u16, command: &mut Command) -> Result<(), StatusWord>
-        requires channel { apdu.channel < 4 }
-        requires short { length apdu.body.now ≤ 255 }
-        ensures command { seen (λ _. command.new) result ≡ command_of apdu.entry (min limit LARGEST) (concat (parts_of apdu.entry.kind (chain_on self.old apdu.entry.channel)) ++ apdu.entry.body.now) }
-        ensures ended { self.new ≡ slice_set self.old apdu.entry.channel None }
-    {
-        match &self.chains[usize::from(apdu.channel)] {
+        let apdu = &received.apdu;
+        let read = match &self.chains[usize::from(apdu.channel)] {
             Some(chain) if chain.goes_on_with(apdu.kind) => {
-                let own = apdu.channel;
-                let read = read_joined(chain, apdu, limit, command);
-                self.forget(own);
-                read
+                read_joined(chain, received, limit, command)
             }
-            _ => {
-                self.forget(apdu.channel);
-                apdu.read_into(apdu.body, limit, command)
-            }
-        }
+            _ => apdu.read_into(apdu.body, limit, command),
+        };
+        self.forget(apdu.channel);
+        read
     }
 
     // Ends the chain of a channel. It is given where a command of this operation goes on with it.
-    fn end(&mut self, channel: u8, kind: OperationKind) -> Option<Chain>
-        requires { channel < 4 }
-        ensures chain { result ≡ going_on kind (chain_on self.old channel) }
-        ensures ended { self.new ≡ slice_set self.old channel None }
+    fn end(&mut self, received: &Received<'_>) -> Option<Chain>
+        ensures chain { result ≡ going_on received.now.apdu.kind (chain_on self.old received.now.apdu.channel) }
+        ensures ended { self.new ≡ slice_set self.old received.now.apdu.channel None }
     {
+        let Apdu { channel, kind, .. } = received.apdu;
         match self.chains[usize::from(channel)].take() {
             Some(chain) if chain.goes_on_with(kind) => Some(chain),
             _ => None,
@@ -187,13 +165,13 @@ impl Chains {
 #[inline(never)]
 fn read_joined(
     chain: &Chain,
-    apdu: Apdu<'_>,
+    received: &Received<'_>,
     limit: u16,
     command: &mut Command,
 ) -> Result<(), StatusWord>
-    requires { length apdu.body.now ≤ 255 }
-    ensures { seen (λ _. command.new) result ≡ command_of apdu.entry (min limit LARGEST) (concat chain.now.parts ++ apdu.entry.body.now) }
+    ensures { seen (λ _. command.new) result ≡ command_of received.now.apdu (min limit LARGEST) (concat chain.now.parts ++ received.now.apdu.body.now) }
 {
+    let apdu = &received.apdu;
     let octets = chain.joined(apdu.body);
     apdu.read_into(octets.as_slice(), limit, command)
 }

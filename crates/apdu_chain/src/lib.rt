@@ -3,7 +3,9 @@
 
 mod chain;
 mod chains;
+mod le;
 mod pending;
 
 pub use chains::{Chains, Taken};
+pub use le::Le;
 pub use pending::Pending;

@@ -1,8 +1,10 @@
 // What is left of an answer that is given in parts (ISO/IEC 7816-4, GET RESPONSE).
 ghost use Rattle.std.specs.Prelude.{◌≡◌, ◌≢◌, ◌≤◌, ◌==◌, [], length};
 ghost use Rattle.scql_base.specs.declared.row.TheConstants.Row.{LARGEST};
-ghost use Rattle.scql_model.specs.ReadingCommands.{cut, rest_word};
+ghost use Rattle.scql_model.specs.ReadingCommands.{rest_word};
+ghost use Rattle.apdu_chain.specs.Pending.{IsCut};
 
+use crate::Le;
 use apdu::Reply;
 use arrayvec::ArrayVec;
 use scql_base::{Row, StatusWord};
@@ -36,31 +38,30 @@ impl Pending {
         }
     }
 
-    /// Gives as much of a row as Le allows, 1 to 256 octets. What follows is pending, and nothing else.
-    pub fn start(&mut self, row: &[u8], le: u16, reply: &mut Reply)
+    /// Gives as much of a row as Le allows. What follows is pending, and nothing else.
+    pub fn start(&mut self, row: &[u8], le: Le, reply: &mut Reply)
         requires row { length row.now ≤ LARGEST }
-        requires least { 1 ≤ le }
-        requires most { le ≤ 256 }
-        ensures reply { reply.new ≡ (cut row.now le).reply }
-        ensures rest { self.new ≡ (cut row.now le).rest }
+        ensures { IsCut row.now le reply.new self.new }
     {
-        if row.len() <= usize::from(le) {
+        if row.len() <= usize::from(le.octets()) {
             self.forget();
             put(row, StatusWord::DONE, reply);
         } else {
-            self.start_in_parts(row, le, reply);
+            self.keep(row);
+            self.more(le, reply);
         }
     }
 
-    /// Gives as much of what is pending as Le allows, 1 to 256 octets. What follows is pending.
-    pub fn more(&mut self, le: u16, reply: &mut Reply)
+    /// Gives as much of what is pending as Le allows. What follows is pending.
+    pub fn more(&mut self, le: Le, reply: &mut Reply)
         requires some { self.old ≢ [] }
-        requires least { 1 ≤ le }
-        requires most { le ≤ 256 }
-        ensures reply { reply.new ≡ (cut self.old le).reply }
-        ensures rest { self.new ≡ (cut self.old le).rest }
+        ensures { IsCut self.old le reply.new self.new }
     {
-        self.give(le, reply);
+        let left = &self.octets.as_slice()[self.given..];
+        let count = left.len().min(usize::from(le.octets()));
+        let (now, rest) = left.split_at(count);
+        put(now, word_for(rest), reply);
+        self.given += count;
     }
 
     /// Whether nothing is pending.
@@ -78,31 +79,16 @@ impl Pending {
         self.given = 0;
     }
 
-    // Gives as much of a row as Le allows, where it is longer. The row is kept as a whole, which one that goes in one answer isn't.
+    // A row is pending as a whole. It isn't inlined, since a row that goes in one answer isn't kept.
     #[inline(never)]
-    fn start_in_parts(&mut self, row: &[u8], le: u16, reply: &mut Reply)
-        requires row { length row.now ≤ LARGEST }
-        requires most { le ≤ 256 }
-        ensures reply { reply.new ≡ (cut row.now le).reply }
-        ensures rest { self.new ≡ (cut row.now le).rest }
+    fn keep(&mut self, row: &[u8])
+        requires { length row.now ≤ LARGEST }
+        ensures { self.new ≡ row.now }
     {
         self.octets.clear();
         let fits = self.octets.try_extend_from_slice(row).is_ok();
         prove!(fits);
         self.given = 0;
-        self.give(le, reply);
-    }
-
-    fn give(&mut self, le: u16, reply: &mut Reply)
-        requires most { le ≤ 256 }
-        ensures reply { reply.new ≡ (cut self.old le).reply }
-        ensures rest { self.new ≡ (cut self.old le).rest }
-    {
-        let left = &self.octets.as_slice()[self.given..];
-        let count = left.len().min(usize::from(le));
-        let (now, rest) = left.split_at(count);
-        put(now, word_for(rest), reply);
-        self.given += count;
     }
 }
 

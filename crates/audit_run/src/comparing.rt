@@ -1,9 +1,9 @@
 // What was told is held against what a machine says.
-ghost use Rattle.std.specs.Prelude.{◌≡◌, ◌≤◌, ◌++◌, ◌∷◌, [], length, option_map, IfSome, Some, true};
+ghost use Rattle.std.specs.Prelude.{◌≡◌, ◌++◌, ◌∷◌, [], Some, true};
 ghost use Rattle.std.specs.Str.{bytes_eq};
 ghost use Rattle.person.specs.Showing.{Shows};
 ghost use Rattle.scql_model.specs.Machine.{Machine};
-ghost use Rattle.scql_model.specs.Lines.{command_lines, content_effect, content_of, line_step, line_text, lines, taken_line, longest_line, reply_text};
+ghost use Rattle.scql_model.specs.Lines.{command_lines, content_effect, content_of, line_step, line_text, lines, reply_text};
 ghost use Rattle.scql_model.specs.Step.{step};
 ghost use Rattle.audit_run.specs.Transcript as model;
 ghost use Rattle.audit_run.specs.Verdicts.{agreement};
@@ -18,9 +18,7 @@ use arrayvec::ArrayVec;
 use line_input::first_line;
 use person::Person;
 use scql_base::StatusWord;
-
-// How many octets a line has at most that is answered.
-const LONGEST_LINE: usize = 1000;
+use taken_line::TakenLine;
 
 // Places for a command, the reply to it, and its text.
 #[derive(Drop)]
@@ -102,25 +100,16 @@ fn is_line(text: &[u8], octets: &[u8]) -> bool
     }
 }
 
-// A line as it is taken: there is none where it has too many octets.
-fn taken(line: &[u8]) -> Option<&[u8]>
-    ensures line { option_map (λ octets. octets.now) result ≡ taken_line line.now }
-    ensures short { IfSome result (λ octets. length octets.now ≤ longest_line) }
-{
-    if line.len() <= LONGEST_LINE {
-        Some(line)
-    } else {
-        None
-    }
-}
-
 // What a machine says to a line.
 #[tactic(auto, unfolding(scql_model::specs::Lines::line_text, scql_model::specs::Lines::line_step))]
 fn answer<'a, A: Answering>(machine: &mut A, line: &[u8], places: &'a mut Places) -> &'a [u8]
     ensures text { (m : Machine) → A.stands_for machine.old m → result.now ≡ line_text command_lines m line.now }
     ensures machine { (m : Machine) → A.stands_for machine.old m → A.stands_for machine.new (line_step command_lines m line.now) }
 {
-    match read_line(taken(line), &mut places.command) {
+    match read_line(
+        TakenLine::octets_of(TakenLine::of(line)),
+        &mut places.command,
+    ) {
         LineContent::Nothing => b"",
         LineContent::TooLong => b"line too long\n",
         LineContent::Reset => {

@@ -1,6 +1,8 @@
 -- A change of the database of a card: of which operations, for whom, and what it comes to.
-use Rattle.std.specs.Prelude.{◌≡◌, ◌⊎◌, ◌==◌, ℕ, Bool, true, false, List, [], ◌∷◌, Option, Result, Ok, Err, IfOk, OnErr, OnOk, option_map, if◌then◌else◌}
-use Rattle.eeprom.specs.Chip.{Chip, Becomes, RisesAtMost}
+use Rattle.std.specs.Prelude.{◌≡◌, ◌⊎◌, ◌==◌, ℕ, Bool, true, false, List, [], ◌∷◌, Option, Result, Ok, Err, IfOk, drop, OnErr, OnOk, option_map, if◌then◌else◌}
+use Rattle.eeprom.specs.Chip.{Chip, Becomes, Keeps, RisesAtMost}
+use Rattle.eeprom.specs.Fault.{Counts}
+use Rattle.eeprom.specs.StoreOf.{image_size}
 use Rattle.eeprom.specs.declared.EepromFault.{EepromFault}
 use Rattle.record_store.specs.Held.{Held}
 use Rattle.record_store.specs.declared.side.Side.{Side}
@@ -21,6 +23,8 @@ use Rattle.scql_model.specs.Refusals.{◌>>=◌}
 use Rattle.scql_model.specs.WellFormed.{FitsCard, HasForm}
 use Rattle.record_table.specs.Making.{IsHeld, Makes}
 use Rattle.record_table.specs.AtRest.{IsAtRest, LeavesOneOf}
+use Rattle.row_table.specs.Tables.{InTransaction, Stand}
+use Rattle.row_table.specs.declared.tables.Tables.{Tables}
 
 -- the operations that change the row at a cursor
 abbrev pub goes_through_cursor : OperationKind → Bool
@@ -41,6 +45,22 @@ pub record MayChange (db : Database) (actor : Actor) (operation : Operation) : T
   pub acts : IsActorOf db actor
   pub form : HasForm operation
   pub fits : FitsCard db.limit operation
+
+-- An operation may be made on the working side of tables over an EEPROM.
+pub record MayBeMade (tables : Tables) (chip : Chip) (operation : Operation) : Type 0 where
+  -- The tables stand, in a transaction that is open.
+  pub «open» : InTransaction tables chip
+  -- The operation fits the card.
+  pub fits : FitsCard tables.store.row_limit operation
+
+-- Tables over an EEPROM once a change has ended.
+pub record StandAfter {S : Type 0} (chip : S → Chip) (faults : S → ℕ) (before after : S) (old new : Tables) (result : Result StatusWord EepromFault) : Type 0 where
+  -- They stand,
+  pub stand : OnOk result (Stand new (chip after))
+  -- what lies behind the image is as it was, at each moment,
+  pub behind : Keeps (drop (image_size old.store.chains.cells)) (chip before) (chip after)
+  -- and where they don't, a fault of the EEPROM was counted.
+  pub cause : Counts (faults before) (faults after) result
 
 -- the new database of a change with these edits, or the first refusal that applies
 abbrev pub new_of : Database → Result (List Edit) StatusWord → Result Database StatusWord

@@ -1,27 +1,16 @@
 // A card, which answers commands over the EEPROM that it was opened on.
-ghost use Rattle.std.specs.Prelude.{◌≡◌, ◌↔◌, ℕ, ◌<◌, ◌≤◌, [], ◌∷◌, false, drop, option_map, IfSome, IfOk, OnOk, IsErrOf};
-ghost use Rattle.eeprom.specs.Chip.{Chip, Becomes, Keeps};
-ghost use Rattle.eeprom.specs.Fault.{Counts, Rose};
-ghost use Rattle.eeprom.specs.StoreOf.{fewest_cells, image_size, most_cells};
-ghost use Rattle.cell_store.specs.Reading.{ReadsAtMost};
-ghost use Rattle.record_store.specs.Faults.{is_open_fault};
-ghost use Rattle.record_store.specs.Opening.{ReadsFront, most_octets};
-ghost use Rattle.record_store.specs.Recovery.{Recovers};
+ghost use Rattle.std.specs.Prelude.{◌≡◌, ℕ, ◌≤◌, IfOk};
+ghost use Rattle.eeprom.specs.Chip.{Chip};
+ghost use Rattle.eeprom.specs.Fault.{Counts};
+ghost use Rattle.eeprom.specs.StoreOf.{fewest_cells, most_cells};
 ghost use Rattle.scql_model.specs.Machine as machine;
-ghost use Rattle.scql_model.specs.Step as stepping;
-ghost use Rattle.scql_model.specs.Opens.{Opens};
-ghost use Rattle.scql_base.specs.Words.{memory_failure};
 ghost use Rattle.scql_model.specs.Database as database;
-ghost use Rattle.scql_model.specs.Database.{Database, fresh};
-ghost use Rattle.eeprom.specs.Image.{overwrite};
-ghost use Rattle.card.specs.Behind.{KeepsBehind, own_cells};
 ghost use Rattle.card.specs.CarryingOut.{IsReset};
-ghost use Rattle.card.specs.Card.{Kept, IsReady, IsAt, fresh_card};
-ghost use Rattle.record_table.specs.AtRest.{LeavesOneOf};
+ghost use Rattle.card.specs.Card.{IsReady, IsAt};
 ghost use Rattle.card.specs.Counting.{counts_of};
-ghost use Rattle.card.specs.Making.{LeavesMade, OpensToNone};
-ghost use Rattle.card.specs.Opened.{IsOpenTo, OpensTo};
-ghost use Rattle.card.specs.Replied.{RepliedTo};
+ghost use Rattle.card.specs.Making.{MakesCard};
+ghost use Rattle.card.specs.Opened.{OpensCard};
+ghost use Rattle.card.specs.Replied.{AnswersCommand};
 
 use crate::engine::Engine;
 use crate::opening::open_records;
@@ -54,16 +43,7 @@ impl Card {
     pub fn format<B: Eeprom>(bench: &mut B, n: u16) -> Result<(), FormatRefusal>
         requires few { fewest_cells ≤ n }
         requires many { n ≤ most_cells }
-        ensures image { OnOk result ((B.chip bench.new).image ≡ option_map (λ image. overwrite image 0 (fresh_card n)) (B.chip bench.old).image) }
-        ensures fresh { OnOk result (IfSome (B.chip bench.new).image (λ image. Opens image (fresh n))) }
-        ensures still { (B.chip bench.new).still ≡ (B.chip bench.old).still }
-        ensures behind { Keeps (drop (image_size n)) (B.chip bench.old) (B.chip bench.new) }
-        ensures moments { LeavesMade n (B.chip bench.old) (B.chip bench.new) }
-        ensures too_small { IsErrOf result FormatRefusal.TooSmall ↔ ((B.chip bench.old).still.size < image_size n) }
-        ensures unchanged { IsErrOf result FormatRefusal.TooSmall → bench.new ≡ bench.old }
-        ensures fault { IsErrOf result FormatRefusal.Fault → Rose (B.faults bench.old) (B.faults bench.new) }
-        ensures quiet { OnOk result (B.faults bench.new ≡ B.faults bench.old) }
-        ensures never_falls { B.faults bench.old ≤ B.faults bench.new }
+        ensures { MakesCard B.chip B.faults n bench.old bench.new result }
     {
         let mut counter = RecordOctets::new();
         Counter { next: 2 }.encode(&mut counter);
@@ -75,22 +55,7 @@ impl Card {
     /// Opens the card of an EEPROM, where its image opens to a database. Channel 0 is open, without a user. A commit that was cut
     /// short behind an open gate is redone first. The records are let go at the end.
     pub fn open<B: Eeprom>(alloc: Heap, bench: &mut B) -> Result<Card, OpenRefusal>
-        ensures opens { IfOk result (λ card. IfSome (B.chip bench.old).image (λ image. (db : Database) × Opens image db)) }
-        ensures opened { (db : Database) → IsOpenTo (B.chip bench.old) db
-            → OpensTo db result (B.chip bench.old) (B.chip bench.new) (B.octets_read bench.old) (B.octets_read bench.new) }
-        ensures ready { IfOk result (λ card. IsReady card (B.chip bench.new)) }
-        // No card is smaller.
-        ensures cells { IfOk result (λ card. fewest_cells ≤ card.store.chains.cells) }
-        ensures most_read { Becomes (ReadsAtMost most_octets) (B.octets_read bench.old) (B.octets_read bench.new) }
-        // Memory is wanting only before the first record is read.
-        ensures no_memory { IsErrOf result OpenRefusal.NoMemory → (n : ℕ) × ReadsFront n (B.chip bench.old).image (B.octets_read bench.old) (B.octets_read bench.new) }
-        ensures not_a_card { IsErrOf result OpenRefusal.NotACard → IfSome (B.chip bench.old).image OpensToNone }
-        // A power loss leaves an image that opens as before, also where it is refused; and where the gate is closed nothing is written.
-        ensures recovers { Recovers is_open_fault B.chip B.faults bench.old bench.new result }
-        ensures behind { KeepsBehind own_cells (B.chip bench.old) (B.chip bench.new) }
-        ensures fault { IsErrOf result OpenRefusal.Fault → Rose (B.faults bench.old) (B.faults bench.new) }
-        ensures quiet { ¬ IsErrOf result OpenRefusal.Fault → B.faults bench.new ≡ B.faults bench.old }
-        ensures never_falls { B.faults bench.old ≤ B.faults bench.new }
+        ensures { OpensCard B.chip B.faults B.octets_read bench.old bench.new result }
     {
         let opened = open_records(alloc, bench)?;
         Ok(Card {
@@ -102,23 +67,8 @@ impl Card {
     /// Answers a command, and leaves card and EEPROM at the next machine.
     pub fn answer<B: Eeprom>(&mut self, bench: &mut B, command: &[u8], reply: &mut Reply) -> Outcome
         requires ready { IsReady self.old (B.chip bench.old) }
-        ensures replied { (m : machine.Machine) → IsAt self.old (B.chip bench.old) m → result ≡ Outcome.Replied
-            → RepliedTo m command.now reply.new self.new (B.chip bench.old) (B.chip bench.new) (B.octets_read bench.old) (B.octets_read bench.new) }
-        ensures ready { result ≡ Outcome.Replied → IsReady self.new (B.chip bench.new) }
-        ensures quiet { result ≡ Outcome.Replied → B.faults bench.new ≡ B.faults bench.old }
-        // A mute card says so, and answers no more.
-        ensures mute { result ≡ Outcome.Mute → (reply.new.body ≡ []) × (reply.new.word ≡ memory_failure) × (self.new.live ≡ false) }
-        ensures cause { result ≡ Outcome.Mute → Rose (B.faults bench.old) (B.faults bench.new) }
-        ensures never_falls { B.faults bench.old ≤ B.faults bench.new }
-        ensures still { (B.chip bench.new).still ≡ (B.chip bench.old).still }
-        // A power loss leaves the database as it was, or one that the step commits.
-        ensures moments { (m : machine.Machine) → IsAt self.old (B.chip bench.old) m
-            → LeavesOneOf (m.committed ∷ (stepping.step m command.now).commits) (B.chip bench.old) (B.chip bench.new) }
-        // It keeps its number of cells, and nothing is written behind the image, at no moment.
-        ensures cells { result ≡ Outcome.Replied → self.new.store.chains.cells ≡ self.old.store.chains.cells }
-        ensures behind { Keeps (drop (image_size self.old.store.chains.cells)) (B.chip bench.old) (B.chip bench.new) }
+        ensures { AnswersCommand B.chip B.faults B.octets_read command.now bench.old bench.new self.old self.new reply.new result }
     {
-        reply.body.clear();
         match self
             .engine
             .word_of(bench, command, &mut *self.command, reply)

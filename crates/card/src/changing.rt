@@ -1,9 +1,9 @@
 // Changes of the database, each for who acts, in a transaction of its own.
-ghost use Rattle.std.specs.Prelude.{◌≡◌, ℕ, ◌*◌, List, Option, drop, false, true, IfOk, IfSome, OnOk};
+ghost use Rattle.std.specs.Prelude.{◌≡◌, ℕ, ◌*◌, List, Option, false, true, IfOk, IfSome, OnOk};
 ghost use Rattle.eeprom.specs.Chip.{Becomes, Keeps};
-ghost use Rattle.eeprom.specs.Fault.{Counts, each_error};
+ghost use Rattle.eeprom.specs.Fault.{each_error};
 ghost use Rattle.eeprom.specs.Frame.{Reads};
-ghost use Rattle.eeprom.specs.StoreOf.{store_of, cell_size, image_size};
+ghost use Rattle.eeprom.specs.StoreOf.{store_of, cell_size};
 ghost use Rattle.record_store.specs.Held.{IsOver};
 ghost use Rattle.record_store.specs.declared.side.Side.TheVariants.{Committed, Working};
 ghost use Rattle.scql_base.specs.declared.cursor.Cursor as model;
@@ -17,7 +17,7 @@ ghost use Rattle.scql_model.specs.WellFormed.{HasForm, FitsCard};
 ghost use Rattle.cursor.specs.Costs.{RisesBetween};
 ghost use Rattle.record_table.specs.Listed.{slots_of};
 ghost use Rattle.record_table.specs.Making.{IsHeld, GoesOn};
-ghost use Rattle.row_table.specs.Tables.{Ended, EndedBy, InTransaction, Stand};
+ghost use Rattle.row_table.specs.Tables.{Ended, EndedBy, Stand};
 ghost use Rattle.db_write.specs.Reached.{IsThrough};
 ghost use Rattle.record_table.specs.AtRest.{IsAtRest};
 ghost use Rattle.card.specs.Card.{HoldsSome};
@@ -25,17 +25,17 @@ ghost use Rattle.card.specs.Acting.{acting};
 ghost use Rattle.db_read.specs.Scan.{IsRightFor};
 ghost use Rattle.db_read.specs.Searched.{user_cells};
 ghost use Rattle.card.specs.Changing as specs;
-ghost use Rattle.card.specs.Changing.{Changes, ConcludesWithin, KeepsCatalog, MayChange, TellsGone, goes_through_cursor, gone_after};
+ghost use Rattle.card.specs.Changing.{Changes, ConcludesWithin, KeepsCatalog, MayBeMade, MayChange, StandAfter, TellsGone, goes_through_cursor, gone_after};
 
 use db_access::{create_user, delete_user, grant, revoke};
 use db_define::{create_dictionary, create_table, create_view, drop_table, drop_view};
 use db_read::Scan;
 use db_write::{delete, insert, update};
 use eeprom::{Eeprom, EepromFault};
-use record_store::{Side, Store};
+use record_store::{Side, SideReader, Store};
 use record_table::{Stop, find_stamp, refused};
 use row_table::Tables;
-use scql_base::{Actor, Cursor, Operation, StatusWord, User};
+use scql_base::{Actor, Copied, Cursor, Operation, StatusWord, User};
 
 /// Whether an operation changes rows, and leaves users, objects and grants as they are.
 pub(crate) fn changes_rows(operation: &Operation) -> bool
@@ -70,14 +70,12 @@ pub(crate) fn change<B: Eeprom>(
     ensures changes { (db : Database) → IsAtRest tables.old.store (B.chip bench.old) db → IfSome cursor.now (IsCursorOf db)
         → Changes db (edits_of db (acting db user) cursor.now operation.now) result tables.new.store (B.chip bench.old) (B.chip bench.new) }
     ensures catalog { specs.changes_rows (kind_of operation.now) ≡ true → OnOk result (KeepsCatalog Committed tables.old.store tables.new.store (B.chip bench.old) (B.chip bench.new)) }
-    ensures stand { OnOk result (Stand tables.new (B.chip bench.new)) }
     ensures idle { OnOk result (tables.new.store.begun ≡ false) }
     ensures holds { OnOk result (HoldsSome tables.new.store Committed (B.chip bench.new)) }
     ensures cells { OnOk result (tables.new.store.chains.cells ≡ tables.old.store.chains.cells) }
     ensures scan_same { scan.new ≡ scan.old }
     ensures gone { (db : Database) (name : List ℕ) → IsAtRest tables.old.store (B.chip bench.old) db → operation.now ≡ asks.DeleteUser name → IfOk result (λ word. gone.new ≡ gone_after db name word gone.old) }
-    ensures behind { Keeps (drop (image_size tables.old.store.chains.cells)) (B.chip bench.old) (B.chip bench.new) }
-    ensures cause { Counts (B.faults bench.old) (B.faults bench.new) result }
+    ensures ends { StandAfter B.chip B.faults bench.old bench.new tables.old tables.new result }
 {
     let actor = actor_known(&tables.store, bench, Side::Committed, user, known)?;
     tables.begin();
@@ -104,23 +102,20 @@ pub(crate) fn change_within<B: Eeprom>(
     operation: &Operation,
     scan: &mut Scan,
 ) -> Result<StatusWord, EepromFault>
-    requires open { InTransaction tables.old (B.chip bench.old) }
+    requires may { MayBeMade tables.old (B.chip bench.old) operation.now }
     requires works { HoldsSome tables.old.store Working (B.chip bench.old) }
     requires known { (db : Database) → IsHeld tables.old.store Working (B.chip bench.old) db → IfSome known (λ actor. actor ≡ acting db user) }
     requires right { (db : Database) → IsHeld tables.old.store Working (B.chip bench.old) db → IsRightFor db (acting db user) scan.old cursor.now }
     requires formed { HasForm operation.now }
-    requires fits { FitsCard tables.old.store.row_limit operation.now }
     ensures changes { (db : Database) → IsHeld tables.old.store Working (B.chip bench.old) db → IfSome cursor.now (IsCursorOf db)
         → IfOk result (λ word. ConcludesWithin db (edits_of db (acting db user) cursor.now operation.now) word tables.old.store tables.new.store (B.chip bench.old) (B.chip bench.new)) }
     ensures catalog { specs.changes_rows (kind_of operation.now) ≡ true → OnOk result (KeepsCatalog Working tables.old.store tables.new.store (B.chip bench.old) (B.chip bench.new)) }
     ensures works { OnOk result (HoldsSome tables.new.store Working (B.chip bench.new)) }
     ensures committed { OnOk result (slots_of tables.new.store Committed (B.chip bench.new) ≡ slots_of tables.old.store Committed (B.chip bench.old)) }
     ensures goes_on { OnOk result (GoesOn tables.old.store tables.new.store (B.chip bench.old) (B.chip bench.new)) }
-    ensures stand { OnOk result (Stand tables.new (B.chip bench.new)) }
     ensures scan_same { scan.new ≡ scan.old }
     ensures moments { Keeps store_of (B.chip bench.old) (B.chip bench.new) }
-    ensures behind { Keeps (drop (image_size tables.old.store.chains.cells)) (B.chip bench.old) (B.chip bench.new) }
-    ensures cause { Counts (B.faults bench.old) (B.faults bench.new) result }
+    ensures ends { StandAfter B.chip B.faults bench.old bench.new tables.old tables.new result }
 {
     let actor = actor_known(&tables.store, bench, Side::Working, user, known)?;
     let mut gone = None;
@@ -140,9 +135,8 @@ fn make<B: Eeprom>(
     scan: &mut Scan,
     gone: &mut Option<u32>,
 ) -> Result<(), Stop>
-    requires open { InTransaction tables.old (B.chip bench.old) }
+    requires may { MayBeMade tables.old (B.chip bench.old) operation.now }
     requires right { (db : Database) → IsHeld tables.old.store Working (B.chip bench.old) db → IsRightFor db actor scan.old cursor.now }
-    requires fits { FitsCard tables.old.store.row_limit operation.now }
     ensures ended { EndedBy B.chip B.faults (λ db. MayChange db actor operation.now) (λ db. IsThrough db (λ cursor. edits_of db actor cursor operation.now) cursor.now) bench.old bench.new tables.old tables.new result }
     ensures scan_same { scan.new ≡ scan.old }
     ensures gone { TellsGone tables.old.store (B.chip bench.old) operation.now result gone.old gone.new }
@@ -162,9 +156,8 @@ fn make_without_cursor<B: Eeprom>(
     operation: &Operation,
     gone: &mut Option<u32>,
 ) -> Result<(), Stop>
-    requires open { InTransaction tables.old (B.chip bench.old) }
+    requires may { MayBeMade tables.old (B.chip bench.old) operation.now }
     requires no_cursor { goes_through_cursor (kind_of operation.now) ≡ false }
-    requires fits { FitsCard tables.old.store.row_limit operation.now }
     ensures ended { (cursor : Option model.Cursor) → Ended B.chip B.faults (λ db. MayChange db actor operation.now) (λ db. edits_of db actor cursor operation.now) bench.old bench.new tables.old tables.new result }
     ensures gone { TellsGone tables.old.store (B.chip bench.old) operation.now result gone.old gone.new }
 {
@@ -264,7 +257,8 @@ pub(crate) fn actor_of<B: Eeprom>(
     let Some(stamp) = user else {
         return Ok(Actor::Public);
     };
-    match find_stamp::<User, B>(store, bench, side, stamp)? {
+    let mut reader = SideReader { store, bench, side };
+    match find_stamp::<User, B>(&mut reader, stamp)? {
         Some(found) => Ok(Actor::User {
             stamp: found.value.stamp,
             profile: found.value.profile,

@@ -10,8 +10,8 @@ ghost use Rattle.scql_model.specs.Machine as machine;
 ghost use Rattle.scql_model.specs.Step as stepping;
 ghost use Rattle.scql_model.specs.Database.{Database};
 ghost use Rattle.card.specs.Card.{Kept, FindsAgain, IsReady, IsAt, StandsOver};
-ghost use Rattle.card.specs.CarryingOut.{CarriesOut, IsReset, MayCarryOut};
-ghost use Rattle.card.specs.Answering.{LeavesFirstOfTwo, changing_session, settled, with_session, with_session_for};
+ghost use Rattle.card.specs.CarryingOut.{CarriesOut, CommitsInTurn, IsReset, MayCarryOut, ReadsBy, StandsIdle};
+ghost use Rattle.card.specs.Answering.{changing_session, settled, with_session, with_session_for};
 ghost use Rattle.card.specs.Changing.{gone_after};
 ghost use Rattle.card.specs.Changing as changing;
 ghost use Rattle.card.specs.Counting.{counts_of};
@@ -42,6 +42,7 @@ use crate::counting::count_records;
 use crate::engine::channels::channel_meant;
 use crate::found::{ChannelActor, Found};
 use crate::reading::{is_reading, read};
+use crate::reply::without_body;
 use crate::rooms::{Rooms, first_sessions};
 use crate::session::Session;
 use apdu::Reply;
@@ -52,7 +53,7 @@ use eeprom::{Eeprom, EepromFault, Heap};
 use record_store::Store;
 use row_index::RowIndex;
 use row_table::Tables;
-use scql_base::{Actor, Command, Name, Operation, PresentedUser, Row, StatusWord};
+use scql_base::{Actor, Command, Copied, Name, Operation, PresentedUser, Row, StatusWord};
 use std::marker::Model;
 
 /// What a card keeps in memory, and carries out commands with.
@@ -135,7 +136,7 @@ impl Engine {
         count_records(&self.tables.store)
     }
 
-    /// The word that a command is answered with. The body of the reply, which is empty before, is written. The command is read into a place.
+    /// The word that a command is answered with. The body of the reply is written. The command is read into a place.
     pub(crate) fn word_of<B: Eeprom>(
         &mut self,
         bench: &mut B,
@@ -144,13 +145,11 @@ impl Engine {
         reply: &mut Reply,
     ) -> Result<StatusWord, EepromFault>
         requires ready { IsReady self.old (B.chip bench.old) }
-        requires empty { reply.old.body ≡ [] }
         ensures carries { CarriesOut B.chip B.faults IsReady (λ m. stepping.step m octets.now) (λ m. octets_bound m octets.now) reply.new.body bench.old bench.new self.old self.new result }
-        ensures lowered { (m : machine.Machine) → IsAt self.old (B.chip bench.old) m
-            → OnOk result (LeavesFirstOfTwo (stepping.step m octets.now) (B.chip bench.old) (B.chip bench.new)) }
-        ensures octets_read { (m : machine.Machine) → IsAt self.old (B.chip bench.old) m
-            → OnOk result (ReadsAsked m octets.now (B.octets_read bench.old) (B.octets_read bench.new)) }
+        ensures lowered { CommitsInTurn B.chip (λ m. stepping.step m octets.now) bench.old bench.new self.old result }
+        ensures octets_read { ReadsBy B.chip B.octets_read (λ m. ReadsAsked m octets.now) bench.old bench.new self.old result }
     {
+        without_body(reply);
         let channels = self.open_channels();
         match self
             .chains
@@ -173,15 +172,11 @@ impl Engine {
         command: &Command,
         reply: &mut Reply,
     ) -> Result<StatusWord, EepromFault>
-        requires ready { IsReady self.old (B.chip bench.old) }
-        requires empty { reply.old.body ≡ [] }
-        requires asked { MayCarryOut self.old command.now }
+        requires { MayCarryOut self.old (B.chip bench.old) command.now }
         ensures carries { CarriesOut B.chip B.faults IsReady (λ m. stepping.answered m (stepping.carried_out m command.now)) (λ m. or_nothing (octets_carried_out m command.now)) reply.new.body bench.old bench.new self.old self.new result }
         // A second database is committed by VERIFY alone. Then there was a moment at which a power loss may leave the first.
-        ensures lowered { (m : machine.Machine) → IsAt self.old (B.chip bench.old) m
-            → OnOk result (LeavesFirstOfTwo (stepping.answered m (stepping.carried_out m command.now)) (B.chip bench.old) (B.chip bench.new)) }
-        ensures octets_read { (m : machine.Machine) → IsAt self.old (B.chip bench.old) m
-            → OnOk result (ReadsFor m command.now (B.octets_read bench.old) (B.octets_read bench.new)) }
+        ensures lowered { CommitsInTurn B.chip (λ m. stepping.answered m (stepping.carried_out m command.now)) bench.old bench.new self.old result }
+        ensures octets_read { ReadsBy B.chip B.octets_read (λ m. ReadsFor m command.now) bench.old bench.new self.old result }
     {
         if is_reading(&command.operation) {
             return self.read(bench, command, reply);
@@ -201,18 +196,15 @@ impl Engine {
         command: &Command,
         reply: &mut Reply,
     ) -> Result<StatusWord, EepromFault>
-        requires ready { StandsOver self.old (B.chip bench.old) }
-        requires found { FindsAgain self.old (B.chip bench.old) }
-        requires empty { reply.old.body ≡ [] }
-        requires asked { MayCarryOut self.old command.now }
+        requires asked { MayCarryOut self.old (B.chip bench.old) command.now }
         requires other { reading.is_reading (kind_of command.now.operation) ≡ false }
         ensures carries { CarriesOut B.chip B.faults StandsOver (λ m. stepping.answered m (stepping.carried_out m command.now)) (λ m. or_nothing (octets_carried_out m command.now)) reply.new.body bench.old bench.new self.old self.new result }
         // A second database is committed by VERIFY alone. Then there was a moment at which a power loss may leave the first.
-        ensures lowered { (m : machine.Machine) → IsAt self.old (B.chip bench.old) m
-            → OnOk result (LeavesFirstOfTwo (stepping.answered m (stepping.carried_out m command.now)) (B.chip bench.old) (B.chip bench.new)) }
+        ensures lowered { CommitsInTurn B.chip (λ m. stepping.answered m (stepping.carried_out m command.now)) bench.old bench.new self.old result }
         // Rows are no part of what was found.
         ensures found { changing.changes_rows (kind_of command.now.operation) ≡ true → OnOk result (FindsAgain self.new (B.chip bench.new)) }
     {
+        without_body(reply);
         if self.keeps_waiting(command) {
             return Ok(StatusWord::CONDITIONS_NOT_SATISFIED);
         }
@@ -244,13 +236,10 @@ impl Engine {
         command: &Command,
         reply: &mut Reply,
     ) -> Result<StatusWord, EepromFault>
-        requires ready { IsReady self.old (B.chip bench.old) }
-        requires empty { reply.old.body ≡ [] }
-        requires asked { MayCarryOut self.old command.now }
+        requires asked { MayCarryOut self.old (B.chip bench.old) command.now }
         requires reads { reading.is_reading (kind_of command.now.operation) ≡ true }
         ensures carries { CarriesOut B.chip B.faults IsReady (λ m. stepping.answered m (stepping.carried_out m command.now)) (λ m. or_nothing (octets_carried_out m command.now)) reply.new.body bench.old bench.new self.old self.new result }
-        ensures octets_read { (m : machine.Machine) → IsAt self.old (B.chip bench.old) m
-            → OnOk result (ReadsFor m command.now (B.octets_read bench.old) (B.octets_read bench.new)) }
+        ensures octets_read { ReadsBy B.chip B.octets_read (λ m. ReadsFor m command.now) bench.old bench.new self.old result }
     {
         let channel = Channel {
             number: command.channel,
@@ -326,8 +315,7 @@ impl Engine {
         channel: Channel,
         name: Name,
     ) -> Result<StatusWord, EepromFault>
-        requires ready { StandsOver self.old (B.chip bench.old) }
-        requires closed { self.old.transaction ≡ None }
+        requires { StandsIdle self.old (B.chip bench.old) }
         ensures { CarriesOut B.chip B.faults StandsOver (λ m. stepping.answered m (stepping.user_presented m channel.number name)) (λ m. 0) [] bench.old bench.new self.old self.new result }
     {
         let user = match present(&self.tables.store, bench, name)? {
@@ -346,9 +334,7 @@ impl Engine {
         command: &Command,
         gone: &mut Option<u32>,
     ) -> Result<StatusWord, EepromFault>
-        requires ready { StandsOver self.old (B.chip bench.old) }
-        requires found { FindsAgain self.old (B.chip bench.old) }
-        requires asked { MayCarryOut self.old command.now }
+        requires asked { MayCarryOut self.old (B.chip bench.old) command.now }
         requires mine { keeps_waiting for_others self.old.transaction command.now.channel ≡ false }
         ensures carries { CarriesOut B.chip B.faults StandsOver (λ m. stepping.answered m (stepping.changed m command.now.channel command.now.operation)) (λ m. or_nothing (octets_changed m command.now.channel command.now.operation)) [] bench.old bench.new self.old self.new result }
         ensures gone { (m : machine.Machine) (name : List ℕ) → IsAt self.old (B.chip bench.old) m → self.old.transaction ≡ None → command.now.operation ≡ asks.DeleteUser name

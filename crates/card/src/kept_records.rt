@@ -88,8 +88,7 @@ impl KeptRecords {
         ensures permutation { IsPermutation self.old.items self.new.items }
         ensures sorted { AreApart stamp_of self.old.items → Rises stamp_of self.new.items }
         ensures len { length self.new.items ≡ length self.old.items }
-        ensures size { self.new.size ≡ self.old.size }
-        ensures cells { self.new.cells ≡ self.old.cells }
+        ensures rest { self.new ≡ record self.old { items = self.new.items } }
     {
         self.places.sort_unstable_by_key(|place| place.stamp);
     }

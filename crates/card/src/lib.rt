@@ -15,6 +15,7 @@ mod live_card;
 mod opening;
 mod outcome;
 mod reading;
+mod reply;
 mod rooms;
 mod session;
 mod slot_card;

@@ -1,5 +1,5 @@
 // The commands that read through the cursor of a session (ISO/IEC 7816-7), and GET RESPONSE (ISO/IEC 7816-4).
-ghost use Rattle.std.specs.Prelude.{◌≡◌, ◌≤◌, [], Option, Some, true, if◌then◌else◌, IfOk, IfSome, OnOk};
+ghost use Rattle.std.specs.Prelude.{◌≡◌, [], Option, Some, true, if◌then◌else◌, IfOk, IfSome, OnOk};
 ghost use Rattle.eeprom.specs.Chip.{Becomes, RisesAtMost};
 ghost use Rattle.eeprom.specs.Fault.{each_error};
 ghost use Rattle.scql_base.specs.declared.cursor.Cursor as model;
@@ -20,12 +20,13 @@ ghost use Rattle.card.specs.Reading as specs;
 ghost use Rattle.card.specs.Reading.{MovesSo, move_to};
 ghost use Rattle.card.specs.Sessions.{reading_in};
 
+use crate::reply::without_body;
 use crate::session::Session;
 use apdu::Reply;
-use apdu_chain::Pending;
+use apdu_chain::{Le, Pending};
 use db_read::{Motion, Reader, Scan, advance, declare, find_selected};
 use eeprom::{Eeprom, EepromFault};
-use scql_base::{Actor, Command, Operation, Row, StatusWord};
+use scql_base::{Actor, Command, Copied, Operation, Row, StatusWord};
 
 /// Whether an operation reads.
 pub(crate) fn is_reading(operation: &Operation) -> bool
@@ -55,7 +56,6 @@ pub(crate) fn read<B: Eeprom>(
 ) -> Result<StatusWord, EepromFault>
     requires formed { IsWellFormed command.now }
     requires reads { specs.is_reading (kind_of command.now.operation) ≡ true }
-    requires empty { reply.old.body ≡ [] }
     ensures moves { (db : Database) → ReadsFrom reader.old db → IfSome session.old.cursor (IsCursorOf db) → IsRightFor db actor scan.old session.old.cursor
         → IfOk result (λ word. MovesSo db actor command.now (reading_in session.old) (move_to reply.new.body word session.new.cursor session.new.pending)) }
     ensures octets_read { (db : Database) → ReadsFrom reader.old db → IfSome session.old.cursor (IsCursorOf db) → IsRightFor db actor scan.old session.old.cursor
@@ -64,7 +64,8 @@ pub(crate) fn read<B: Eeprom>(
     ensures user { session.new.user ≡ session.old.user }
     ensures reads { ReadsOn each_error reader.old reader.new result }
 {
-    let le = command.le.unwrap_or(Command::LARGEST_LE);
+    let most = command.le.unwrap_or(Command::LARGEST_LE);
+    let le = Le::new(most);
     match &command.operation {
         Operation::GetResponse => give_rest(reader, session, actor, le, reply),
         Operation::DeclareCursor {
@@ -75,23 +76,23 @@ pub(crate) fn read<B: Eeprom>(
             let cursor = &mut session.cursor;
             let word = declare(reader, actor, cursor, object.copy(), columns, conditions)?;
             scan.forget();
-            Ok(settle(word, &mut session.pending))
+            Ok(settle(word, &mut session.pending, reply))
         }
         Operation::OpenCursor => {
             let word = advance(reader, actor, &mut session.cursor, Motion::Open, row, scan)?;
-            Ok(settle(word, &mut session.pending))
+            Ok(settle(word, &mut session.pending, reply))
         }
         Operation::Next => {
             let word = advance(reader, actor, &mut session.cursor, Motion::Next, row, scan)?;
-            Ok(settle(word, &mut session.pending))
+            Ok(settle(word, &mut session.pending, reply))
         }
         Operation::Fetch => {
-            let motion = Motion::Fetch { le };
+            let motion = Motion::Fetch { le: most };
             let word = advance(reader, actor, &mut session.cursor, motion, row, scan)?;
             Ok(give(word, row, le, &mut session.pending, reply))
         }
         Operation::FetchNext => {
-            let motion = Motion::FetchNext { le };
+            let motion = Motion::FetchNext { le: most };
             let word = advance(reader, actor, &mut session.cursor, motion, row, scan)?;
             Ok(give(word, row, le, &mut session.pending, reply))
         }
@@ -104,12 +105,9 @@ fn give_rest<B: Eeprom>(
     reader: &mut Reader<'_, B>,
     session: &mut Session,
     actor: Actor,
-    le: u16,
+    le: Le,
     reply: &mut Reply,
 ) -> Result<StatusWord, EepromFault>
-    requires least { 1 ≤ le }
-    requires most { le ≤ 256 }
-    requires empty { reply.old.body ≡ [] }
     ensures moves { (db : Database) → ReadsFrom reader.old db
         → IfOk result (λ word. move_of db actor (reading_in session.old) (commands.get_response le) ≡ move_to reply.new.body word session.new.cursor session.new.pending) }
     ensures octets_read { (db : Database) → ReadsFrom reader.old db
@@ -118,6 +116,7 @@ fn give_rest<B: Eeprom>(
     ensures user { session.new.user ≡ session.old.user }
     ensures reads { ReadsOn each_error reader.old reader.new result }
 {
+    without_body(reply);
     let Some(cursor) = &session.cursor else {
         return Ok(StatusWord::CONDITIONS_NOT_SATISFIED);
     };
@@ -129,21 +128,12 @@ fn give_rest<B: Eeprom>(
 }
 
 // The row that a fetch handed out is given as far as Le allows, and the rest is pending. Without a row the word stands alone.
-fn give(
-    word: StatusWord,
-    row: &Row,
-    le: u16,
-    pending: &mut Pending,
-    reply: &mut Reply,
-) -> StatusWord
-    requires least { 1 ≤ le }
-    requires most { le ≤ 256 }
-    requires empty { reply.old.body ≡ [] }
+fn give(word: StatusWord, row: &Row, le: Le, pending: &mut Pending, reply: &mut Reply) -> StatusWord
     ensures { (cursor : Option model.Cursor)
         → or_stays (record { cursor = cursor; pending = pending.old }) (given le word cursor row.now) ≡ move_to reply.new.body result cursor pending.new }
 {
     if word.word != StatusWord::DONE.word {
-        return settle(word, pending);
+        return settle(word, pending, reply);
     }
     prove!(row.len() <= Row::MOST);
     pending.start(row.octets(), le, reply);
@@ -151,13 +141,11 @@ fn give(
 }
 
 // What is pending is given as far as Le allows, if anything is.
-fn give_more(le: u16, pending: &mut Pending, reply: &mut Reply) -> StatusWord
-    requires least { 1 ≤ le }
-    requires most { le ≤ 256 }
-    requires empty { reply.old.body ≡ [] }
+fn give_more(le: Le, pending: &mut Pending, reply: &mut Reply) -> StatusWord
     ensures { (c : model.Cursor)
         → or_stays (record { cursor = Some c; pending = pending.old }) (gave_more c le pending.old) ≡ move_to reply.new.body result (Some c) pending.new }
 {
+    without_body(reply);
     if pending.is_empty() {
         return StatusWord::CONDITIONS_NOT_SATISFIED;
     }
@@ -165,11 +153,13 @@ fn give_more(le: u16, pending: &mut Pending, reply: &mut Reply) -> StatusWord
     reply.word
 }
 
-// The word of a move without a row, which drops what is pending, where it isn't a refusal.
-fn settle(word: StatusWord, pending: &mut Pending) -> StatusWord
+// The word of a move without a row stands alone. It drops what is pending, where it isn't a refusal.
+fn settle(word: StatusWord, pending: &mut Pending, reply: &mut Reply) -> StatusWord
     ensures word { result ≡ word }
+    ensures body { reply.new.body ≡ [] }
     ensures pending { pending.new ≡ (if outcomes.refuses word then pending.old else []) }
 {
+    without_body(reply);
     if word.word == StatusWord::DONE.word || word.word == StatusWord::END_REACHED.word {
         pending.forget();
     }

@@ -12,7 +12,7 @@ use crate::ask;
 use apdu::Reply;
 use arrayvec::ArrayVec;
 use card_link::CardLink;
-use scql_base::{Command, Name, Operation, StatusWord};
+use scql_base::{Command, Copied, Name, Operation, StatusWord};
 
 /// Why a user isn't presented.
 #[derive(Clone, Copy, PartialEq, Eq, Debug)]

@@ -8,6 +8,7 @@ use card_link::{CardLink, FailingLink, Outcome, Recorder};
 use planner::{Closing, Plan, Step};
 use scql_base::StatusWord;
 use script::Statement;
+use taken_line::TakenLine;
 
 // A card that answers by these words, the last one first, and then by 9000. Nothing is told of it.
 #[derive(Drop)]
@@ -78,8 +79,10 @@ fn carried_out(line: &[u8], words: &[u16], left: u16) -> (Option<Closing>, Array
         word: StatusWord::DONE,
     };
     let mut closing = None;
-    if line.len() <= 1000 && plan.read(line, 0, false).is_ok() {
-        closing = carry_out(&mut link, &mut plan, &mut step, &mut reply).ok();
+    if let Some(line) = TakenLine::of(line) {
+        if plan.read(line, 0, false).is_ok() {
+            closing = carry_out(&mut link, &mut plan, &mut step, &mut reply).ok();
+        }
     }
     let mut heard = ArrayVec::new();
     let _ = heard.try_extend_from_slice(link.words());

@@ -1,8 +1,7 @@
--- What a terminal says of a line, as the call that carries it out says it; and a line that is too long.
-use Rattle.std.proofs.Common.{◌≡◌, ◌<◌, List, ℕ, Option, None, length, refl}
-use Rattle.std.proofs.lemmas.Bool.{lt-ltb}
-use Rattle.planner.specs.StatementLines.{TerminalState, statement_lines}
-use Rattle.scql_model.specs.Lines.{Effect, line_effect}
+-- What a terminal says of a line, as the call that carries it out says it.
+use Rattle.std.proofs.Common.{List, Option}
+use Rattle.planner.specs.StatementLines.{TerminalState}
+use Rattle.scql_model.specs.Lines.{Effect}
 use Rattle.scql_model.specs.Machine.{Machine}
 use Rattle.scql_model.specs.Matching.{Values}
 use Rattle.terminal.specs.declared.line_end.LineEnd.{LineEnd}
@@ -24,6 +23,3 @@ ends-line m does rows refusal holding ends.SinkFault old new so by = so
 pub says-line : (m : Machine) (does : Effect TerminalState) (rows : List Values) (refusal : Option Refusal) (holding : Holding) (end : LineEnd) (old new : OnLog)
     → LineEnds IsDeskAt given_by mark_of desk_chip m does rows refusal holding end old new → EndsBy is_live faults_of text_faults_of end old new → SaysLine m does holding end old new
 says-line m does rows refusal holding end old new so by = record { ends = ends-line m does rows refusal holding end old new so.ends by; moments = so.moments }
-
-pub long-line : (state : TerminalState) (line : List ℕ) → 1000 < length line → line_effect statement_lines state line ≡ statement_lines.effect state None
-long-line state line long = rw (lt-ltb 1000 (length line) long) refl

@@ -13,10 +13,8 @@ use crate::card_desk::CardDesk;
 use crate::status::{DONE, NO_MEMORY};
 use apdu::Reply;
 use eeprom::Heap;
+use taken_line::TakenLine;
 use terminal::{LineEnd, Terminal};
-
-/// The longest line. A longer one is refused.
-const LONGEST_LINE: usize = 1000;
 
 /// Goes on behind a command that was answered so.
 pub fn note(seat: &mut Option<Box<Terminal, Heap>>, command: &[u8], reply: &Reply)
@@ -43,10 +41,9 @@ pub fn say(terminal: &mut Terminal, desk: &mut CardDesk, line: &[u8]) -> LineEnd
         → SaysLine m (line_effect statement_lines (terminal_at m terminal.old.channel) line.now) terminal.new result desk.old desk.new }
     ensures ends_by { EndsBy is_live faults_of text_faults_of result desk.old desk.new }
 {
-    if line.len() > LONGEST_LINE {
-        terminal.refuse_long_line(desk)
-    } else {
-        terminal.line(desk, line)
+    match TakenLine::of(line) {
+        Some(line) => terminal.line(desk, line),
+        None => terminal.refuse_long_line(desk),
     }
 }
 

@@ -18,6 +18,7 @@ use scql_base::{Name, StatusWord};
 use std::alloc::AllocError;
 use std::fs;
 use table_copy::{CopyEnd, copy};
+use taken_line::TakenLine;
 
 // What was printed, as far as there is room.
 #[derive(Drop)]
@@ -89,7 +90,7 @@ fn printed(rt: &HostRuntime, path: &str, lines: &[&[u8]]) -> Result<ArrayVec<u8,
     // The reader holds no link yet.
     let _ = rack.insert(1, card);
     for line in lines {
-        if line.len() <= 1000 {
+        if let Some(line) = TakenLine::of(line) {
             let _ = rack.line(line);
         }
     }

@@ -16,6 +16,7 @@ use Rattle.terminal.specs.Load.{closings, is_refused, load_counts, load_script, 
 use Rattle.program.specs.declared.status.Status.{Status}
 use Rattle.program.specs.declared.status.Status.TheVariants.{Done, Refused, Eeprom as EepromFault, WriteFault}
 use Rattle.line_run.specs.declared.line_stop.LineStop.TheVariants.{Eeprom, Outlet}
+use Rattle.card_run.specs.declared.progress.Progress.{Progress}
 use Rattle.card_run.specs.declared.words.Form.TheVariants.{Load}
 use Rattle.line_run.specs.Answering.{Failed}
 use Rattle.card_run.specs.Beginning.{EndsUnread}
@@ -25,6 +26,7 @@ use Rattle.program.specs.Ends.{AllFaults}
 use Rattle.card_run.specs.Ends.{has_opened}
 use Rattle.line_run.specs.Moments.{IfGiven, IsAnswered}
 use Rattle.card_run.specs.Run.{AnswersAll, IsQuiet}
+use Rattle.card_run.specs.Watching.{none_yet}
 use Rattle.eeprom.specs.Output.{Prints}
 
 -- Lines that are carried out.
@@ -38,6 +40,12 @@ pub record Loader (B : Type 0) : Type 0 where
 -- the terminal is in this state
 abbrev pub IsIn : {B : Type 0} → (B → Chip) → TerminalState → Loader B → Type 0
 IsIn chip state loader = Sits (λ l m. IsReadyAt l.card (chip l.bench) m) state loader.terminal loader.card
+
+-- Rows may be loaded: the card still answers, at most so many statements were refused so far, and nothing is counted yet.
+pub record MayLoad (most : ℕ) (answers : Bool) (so_far : ℕ) (counted : Progress) : Type 0 where
+  pub live : IsTrue answers
+  pub few : so_far ≤ most
+  pub unshown : counted ≡ none_yet
 
 -- how many of these lines are refused
 abbrev pub refused_in : TerminalState → List (List ℕ) → ℕ

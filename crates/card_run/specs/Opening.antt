@@ -1,8 +1,8 @@
 -- How the card of a run is opened, or isn't.
-use Rattle.std.specs.Prelude.{◌≡◌, ◌⊎◌, ℕ, true, Option, IsSome, IfSome}
+use Rattle.std.specs.Prelude.{◌≡◌, ◌⊎◌, ◌↔◌, ◌<◌, ℕ, true, Option, IsSome, IfSome, Result, OnOk, IsErrOf}
 use Rattle.eeprom.specs.Chip.{Becomes, Chip}
 use Rattle.eeprom.specs.Frame.{HasRoom}
-use Rattle.eeprom.specs.StoreOf.{fewest_cells}
+use Rattle.eeprom.specs.StoreOf.{fewest_cells, image_size}
 use Rattle.scql_model.specs.Database.{Database}
 use Rattle.scql_model.specs.Machine.{start}
 use Rattle.card.specs.Behind.{KeepsBehind, own_cells}
@@ -12,6 +12,7 @@ use Rattle.card.specs.Opened.{IsOpenTo}
 use Rattle.program.specs.declared.status.Status.{Status}
 use Rattle.program.specs.declared.status.Status.TheVariants.{Eeprom, NoMemory, NotACard}
 use Rattle.card_run.specs.declared.words.Form.{Form}
+use Rattle.card_run.specs.declared.words.Form.TheVariants.{New}
 use Rattle.card_run.specs.Beginning.{Begins, IsThere, LacksCard, LeavesUntilOpen, WantsMemory}
 use Rattle.card_run.specs.Behind.{run_cells}
 use Rattle.card_run.specs.Ends.{ends_opening}
@@ -53,3 +54,12 @@ pub record LeavesOpening (form : Form) (old new : Chip) : Type 0 where
   -- Nothing is written behind its image, and nothing is given.
   pub behind : KeepsBehind (run_cells form) old new
   pub still : new.still ≡ old.still
+
+-- What is left of the bench until then, a state of which tells its chip and its EEPROM's count of faults, where too few octets are refused so.
+pub record LeavesBench {X T E : Type 0} (chip : X → Chip) (faults : X → ℕ) (form : Form) (small : E) (old new : X) (result : Result T E) : Type 0 where
+  pub until : LeavesOpening form (chip old) (chip new)
+  -- The EEPROM has too few octets for the cells that a new card is to have; and then the bench stays.
+  pub too_small : IsErrOf result small ↔ ((n : ℕ) × (form ≡ New n) × ((chip old).still.size < image_size n))
+  pub unchanged : IsErrOf result small → new ≡ old
+  -- Without a refusal there was no fault.
+  pub quiet : OnOk result (faults new ≡ faults old)

@@ -12,6 +12,7 @@ use Rattle.terminal.specs.Holding.{Holding, Sits}
 use Rattle.terminal.specs.declared.refusal.Refusal.{Refusal}
 use Rattle.terminal.specs.declared.refusal.Refusal.TheVariants.{TooLong}
 use Rattle.terminal.specs.Line.{refusal_in}
+use Rattle.person.specs.Showing.{ShowsSome}
 use Rattle.line_run.specs.declared.line_stop.LineStop.{LineStop}
 use Rattle.line_run.specs.declared.line_stop.LineStop.TheVariants.{Eeprom, Outlet}
 use Rattle.card_run.specs.Commands.{EndsLine}
@@ -63,3 +64,8 @@ heard_as ends.SinkFault = Err Outlet
 pub record EndsStatement (sitting : Sitting) (line : Option (List ℕ)) (is_at : Sitting → Type 0) (old new : Chip) (result : Result (Option Refusal) LineStop) : Type 0 where
   pub ends : EndsLine term_lines sitting (term_lines.effect sitting line) is_at old new result
   pub refusal : IfOk result (λ refusal. refusal ≡ refusal_at sitting.at line)
+
+-- A person was greeted over this bench: it stays, and some text was shown.
+pub record Greets {X P : Type 0} (lost : P → Bool) (shown : P → Option (List ℕ)) (old new : X) (person after : P) : Type 0 where
+  pub same : new ≡ old
+  pub told : ShowsSome lost shown person after

@@ -21,6 +21,11 @@ passed_text progress = if progress.passed % 16 == 0 then progress_line progress.
 abbrev pub standing_text : Progress → List ℕ
 standing_text progress = if nat_le 16 progress.passed then progress_line progress.inserted progress.changed progress.deleted else []
 
+-- It became this, and the line was written anew where it stands there.
+pub record Rewrites {P : Type 0} (lost : P → Bool) (shown : P → Option (List ℕ)) (next now : Progress) (person after : P) : Type 0 where
+  pub rows : now ≡ next
+  pub shows : Shows lost shown (standing_text now) person after
+
 abbrev pub ended_text : Progress → List ℕ
 ended_text progress = if nat_le 16 progress.passed then codes "\n" else []
 

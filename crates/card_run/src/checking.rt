@@ -1,6 +1,5 @@
 // The run of a check: what the card that is there holds, in one line.
-ghost use Rattle.std.specs.Prelude.{◌≡◌, ◌+◌, ◌≤◌, ◌++◌, ℕ, List, length};
-ghost use Rattle.std.specs.Fmt.{decimal};
+ghost use Rattle.std.specs.Prelude.{◌≡◌, ℕ, List};
 ghost use Rattle.scql_model.specs.Machine.{Machine};
 ghost use Rattle.card.specs.Behind.{KeepsBehind};
 ghost use Rattle.card.specs.Card.{IsReady, IsAt};
@@ -15,11 +14,11 @@ use crate::words::Form;
 use arrayvec::ArrayVec;
 use card::{Card, Counts};
 use eeprom::Bench;
-use itoa::Buffer;
+use person::put_count;
 use program::Status;
 
-/// The longest line: its words, and six numbers of at most five digits.
-const LONGEST_TEXT: usize = 71;
+/// The longest line: its words, and six numbers of at most ten digits.
+const LONGEST_TEXT: usize = 101;
 
 /// Says how many records of each kind the card has, and how many cells they take.
 #[inline(never)]
@@ -43,29 +42,12 @@ fn text_of(counts: &Counts) -> ArrayVec<u8, LONGEST_TEXT>
     ensures { result.items ≡ model.counts_text counts.now }
 {
     let mut text = ArrayVec::new();
-    put_count(&mut text, b"users ", counts.users);
-    put_count(&mut text, b" objects ", counts.objects);
-    put_count(&mut text, b" grants ", counts.grants);
-    put_count(&mut text, b" rows ", counts.rows);
-    put_count(&mut text, b" cells ", counts.weight);
-    put_count(&mut text, b" of ", counts.cells);
+    put_count(&mut text, b"users ", counts.users as u32);
+    put_count(&mut text, b" objects ", counts.objects as u32);
+    put_count(&mut text, b" grants ", counts.grants as u32);
+    put_count(&mut text, b" rows ", counts.rows as u32);
+    put_count(&mut text, b" cells ", counts.weight as u32);
+    put_count(&mut text, b" of ", counts.cells as u32);
     text.push(b'\n');
     text
-}
-
-fn put_count(text: &mut ArrayVec<u8, LONGEST_TEXT>, words: &[u8], count: u16)
-    requires { length text.old.items + length words.now + 5 ≤ 71 }
-    ensures text { text.new.items ≡ text.old.items ++ (words.now ++ decimal count) }
-    ensures size { length text.new.items ≤ length text.old.items + length words.now + 5 }
-{
-    put(text, words);
-    put(text, Buffer::new().format(count).as_bytes());
-}
-
-fn put(text: &mut ArrayVec<u8, LONGEST_TEXT>, octets: &[u8])
-    requires { length text.old.items + length octets.now ≤ 71 }
-    ensures { text.new.items ≡ text.old.items ++ octets.now }
-{
-    let fits = text.try_extend_from_slice(octets).is_ok();
-    prove!(fits);
 }

@@ -1,13 +1,11 @@
 // Lines of commands in hexadecimal, and a card that answers them.
 ghost use Rattle.std.specs.Prelude.{◌≡◌, ◌≤◌, false, length, option_map, IfSome};
-ghost use Rattle.scql_model.specs.Machine.{Machine};
 ghost use Rattle.scql_model.specs.Lines as model;
 ghost use Rattle.scql_model.specs.Lines.{command_lines, longest_line};
 ghost use Rattle.card.specs.Card.{IsReady, IsAt};
 ghost use Rattle.line_run.specs.Causes.{Faults};
 ghost use Rattle.program.specs.Ends.{AllFaults};
-ghost use Rattle.card_run.specs.Behind.{StaysBehind};
-ghost use Rattle.card_run.specs.Commands.{EndsLine, LeavesLine};
+ghost use Rattle.card_run.specs.Commands.{AnswersContent, MayAnswer};
 ghost use Rattle.card_run.specs.Run.{RunsOpened};
 
 use crate::output::give;
@@ -18,6 +16,7 @@ use eeprom::{Bench, Source};
 use line_run::{LineStop, Responder, run_lines};
 use program::Status;
 use scql_base::StatusWord;
+use taken_line::TakenLine;
 
 /// A card over its bench, which is asked by commands.
 #[derive(Drop)]
@@ -84,7 +83,7 @@ impl<'a, B: Bench> Responder for CommandCard<'a, B> {
     ghost use Rattle.std.specs.Prelude.{◌≡◌, false};
     ghost use Rattle.std.proofs.Common.{refl, ◌∙◌};
     ghost use Rattle.scql_model.specs.Machine.{Machine};
-    ghost use Rattle.scql_model.specs.Lines.{command_lines, longest_line};
+    ghost use Rattle.scql_model.specs.Lines.{command_lines};
     ghost use Rattle.scql_model.proofs.Hearing.{commands-lawful};
     ghost use Rattle.card.specs.Card.{IsReady, IsAt};
     ghost use Rattle.card.proofs.Leaving.{Opens-at};
@@ -108,8 +107,9 @@ impl<'a, B: Bench> Responder for CommandCard<'a, B> {
     // It is over the same bench still.
     ghost goes_on = { λ old new. (new.bench.ghost_name ≡ old.bench.ghost_name) × StaysBehind old.card new.card (B.chip old.bench.now) (B.chip new.bench.now) };
 
-    fn answer_line(&mut self, line: Option<&[u8]>) -> Result<(), LineStop> {
-        answer_line(&mut self.card, self.bench, line, &mut self.places)
+    fn answer_line(&mut self, line: Option<TakenLine<'_>>) -> Result<(), LineStop> {
+        let octets = TakenLine::octets_of(line);
+        answer_line(&mut self.card, self.bench, octets, &mut self.places)
     }
 
     ghost lawful = { commands-lawful };
@@ -153,12 +153,8 @@ fn answer_line<B: Bench>(
     line: Option<&[u8]>,
     places: &mut Places,
 ) -> Result<(), LineStop>
-    requires ready { IsReady card.old (B.chip bench.old) }
-    requires short { IfSome line (λ octets. length octets.now ≤ longest_line) }
-    ensures ended { (m : Machine) → IsAt card.old (B.chip bench.old) m
-        → EndsLine command_lines m (model.content_effect m (model.content_of (option_map (λ octets. octets.now) line.entry))) (λ next. IsAt card.new (B.chip bench.new) next) (B.chip bench.old) (B.chip bench.new) result }
-    // A card that answers is ready, and keeps its number of cells, and nothing is written behind its image.
-    ensures leaves { LeavesLine (IsReady card.new (B.chip bench.new)) (StaysBehind card.old card.new (B.chip bench.old) (B.chip bench.new))
+    requires { MayAnswer card.old (B.chip bench.old) (IfSome line (λ octets. length octets.now ≤ longest_line)) }
+    ensures { AnswersContent (model.content_of (option_map (λ octets. octets.now) line.entry)) card.old card.new (B.chip bench.old) (B.chip bench.new)
         (record { eeprom = B.faults bench.old; outlet = B.sink_faults bench.old }) (record { eeprom = B.faults bench.new; outlet = B.sink_faults bench.new }) result }
 {
     match read_line(line, &mut places.command) {
@@ -182,10 +178,7 @@ fn answer_command<B: Bench>(
     place: &mut ReplyPlace,
 ) -> Result<(), LineStop>
     requires ready { IsReady card.old (B.chip bench.old) }
-    ensures ended { (m : Machine) → IsAt card.old (B.chip bench.old) m
-        → EndsLine command_lines m (model.content_effect m (model.command octets.now)) (λ next. IsAt card.new (B.chip bench.new) next) (B.chip bench.old) (B.chip bench.new) result }
-    // A card that answers is ready, and keeps its number of cells, and nothing is written behind its image.
-    ensures leaves { LeavesLine (IsReady card.new (B.chip bench.new)) (StaysBehind card.old card.new (B.chip bench.old) (B.chip bench.new))
+    ensures { AnswersContent (model.command octets.now) card.old card.new (B.chip bench.old) (B.chip bench.new)
         (record { eeprom = B.faults bench.old; outlet = B.sink_faults bench.old }) (record { eeprom = B.faults bench.new; outlet = B.sink_faults bench.new }) result }
 {
     match card.answer(bench, octets, &mut place.reply) {

@@ -5,16 +5,27 @@ ghost use Rattle.card_run.specs.Counted.{counts_of};
 
 use arrayvec::ArrayVec;
 use person::{put, put_count};
+use taken_line::TakenLine;
 
-pub(crate) const PRESENT: &[u8] = b"PRESENT OWNER";
+pub(crate) const PRESENT: TakenLine<'static> = TakenLine {
+    octets: b"PRESENT OWNER",
+};
 
-pub(crate) const CREATE: &[u8] = b"CREATE TABLE LOAD (K, V)";
+pub(crate) const CREATE: TakenLine<'static> = TakenLine {
+    octets: b"CREATE TABLE LOAD (K, V)",
+};
 
-pub(crate) const CHANGE: &[u8] = b"UPDATE LOAD SET V = '00000' WHERE V < '10000'";
+pub(crate) const CHANGE: TakenLine<'static> = TakenLine {
+    octets: b"UPDATE LOAD SET V = '00000' WHERE V < '10000'",
+};
 
-pub(crate) const DELETE: &[u8] = b"DELETE FROM LOAD WHERE V >= '50000'";
+pub(crate) const DELETE: TakenLine<'static> = TakenLine {
+    octets: b"DELETE FROM LOAD WHERE V >= '50000'",
+};
 
-pub(crate) const SELECT: &[u8] = b"SELECT * FROM LOAD";
+pub(crate) const SELECT: TakenLine<'static> = TakenLine {
+    octets: b"SELECT * FROM LOAD",
+};
 
 /// The length of a line that inserts a row.
 const INSERT_LENGTH: usize = 41;

@@ -1,7 +1,7 @@
 // The run of a load: a script that fills a table, changes it and reads it, and one line of what came of it.
 ghost use Rattle.std.specs.Prelude.{◌≡◌, ◌+◌, ◌<◌, ◌≤◌, ◌∷◌, [], nat_lt, length, cond, OnOk, OnErr, IfOk, IsTrue, Some};
 ghost use Rattle.scql_model.specs.Database.{Database};
-ghost use Rattle.scql_model.specs.Lines.{longest_line, state_after};
+ghost use Rattle.scql_model.specs.Lines.{state_after};
 ghost use Rattle.scql_model.specs.Machine.{start};
 ghost use Rattle.script.specs.Line.{statement_of};
 ghost use Rattle.card.specs.Behind.{KeepsBehind};
@@ -14,9 +14,9 @@ ghost use Rattle.terminal.specs.Quiet.{closing_in};
 ghost use Rattle.card_run.specs.Counted.{counts_of};
 ghost use Rattle.line_run.specs.Causes.{Faults};
 ghost use Rattle.card_run.specs.Ends.{EndsOpened};
-ghost use Rattle.card_run.specs.Loading.{EndsLines, IsIn, LoadsTo};
+ghost use Rattle.card_run.specs.Loading.{EndsLines, IsIn, LoadsTo, MayLoad};
 ghost use Rattle.card_run.specs.Progress.{Reached, ShowsLoad};
-ghost use Rattle.card_run.specs.Watching.{IsWhole, PassesLoad, PassesRows, PassesSome, none_yet};
+ghost use Rattle.card_run.specs.Watching.{IsWhole, PassesLoad, PassesRows, PassesSome};
 
 use crate::load_lines::{
     CHANGE, CREATE, DELETE, LoadCounts, PRESENT, SELECT, insert_line, next_number, text_of,
@@ -29,6 +29,7 @@ use eeprom::{Bench, EepromFault};
 use person::Person;
 use planner::Closing;
 use program::Status;
+use taken_line::TakenLine;
 use terminal::{QuietEnd, Terminal};
 
 /// A terminal with its card, and how many statements were refused so far.
@@ -94,9 +95,7 @@ impl<'a, B: Bench> Loader<'a, B> {
         progress: &mut Progress,
         person: &mut P,
     ) -> Result<LoadCounts, EepromFault>
-        requires live { IsTrue self.old.card.card.live }
-        requires fresh { self.old.refused ≡ 0 }
-        requires unshown { progress.old ≡ none_yet }
+        requires { MayLoad 0 self.old.card.card.live self.old.refused progress.old }
         ensures ended { EndsLines B.chip B.faults (load_script rows seed)
             (record { terminal = self.old.terminal; card = self.old.card; refused = self.old.refused })
             (record { terminal = self.new.terminal; card = self.new.card; refused = self.new.refused }) result }
@@ -127,9 +126,7 @@ impl<'a, B: Bench> Loader<'a, B> {
         progress: &mut Progress,
         person: &mut P,
     ) -> Result<(), EepromFault>
-        requires live { IsTrue self.old.card.card.live }
-        requires fresh { self.old.refused ≡ 0 }
-        requires unshown { progress.old ≡ none_yet }
+        requires { MayLoad 0 self.old.card.card.live self.old.refused progress.old }
         ensures ended { EndsLines B.chip B.faults (filling_lines rows seed)
             (record { terminal = self.old.terminal; card = self.old.card; refused = self.old.refused })
             (record { terminal = self.new.terminal; card = self.new.card; refused = self.new.refused }) result }
@@ -150,9 +147,7 @@ impl<'a, B: Bench> Loader<'a, B> {
         progress: &mut Progress,
         person: &mut P,
     ) -> Result<(), EepromFault>
-        requires live { IsTrue self.old.card.card.live }
-        requires few { self.old.refused ≤ 2 }
-        requires unshown { progress.old ≡ none_yet }
+        requires { MayLoad 2 self.old.card.card.live self.old.refused progress.old }
         ensures ended { EndsLines B.chip B.faults (insert_lines rows 1 seed)
             (record { terminal = self.old.terminal; card = self.old.card; refused = self.old.refused })
             (record { terminal = self.new.terminal; card = self.new.card; refused = self.new.refused }) result }
@@ -164,22 +159,22 @@ impl<'a, B: Bench> Loader<'a, B> {
         for row in 0..rows {
             value = next_number(value);
             let refused = self.refused;
-            self.carry_out(&insert_line(row + 1, value))?;
+            let line = insert_line(row + 1, value);
+            self.carry_out(TakenLine { octets: &line })?;
             progress.pass_row(refused < self.refused, person);
         }
         Ok(())
     }
 
     // Carries out a line, and tells the number of its closing line, or 0 where it has none.
-    fn carry_out(&mut self, line: &[u8]) -> Result<u32, EepromFault>
+    fn carry_out(&mut self, line: TakenLine<'_>) -> Result<u32, EepromFault>
         requires live { IsTrue self.old.card.card.live }
-        requires short { length line.now ≤ longest_line }
         requires few { self.old.refused ≤ 70000 }
-        ensures ended { EndsLines B.chip B.faults (line.now ∷ [])
+        ensures ended { EndsLines B.chip B.faults (line.entry.octets.now ∷ [])
             (record { terminal = self.old.terminal; card = self.old.card; refused = self.old.refused })
             (record { terminal = self.new.terminal; card = self.new.card; refused = self.new.refused }) result }
         ensures number { (state : TerminalState) → IsIn B.chip state (record { terminal = self.old.terminal; card = self.old.card; refused = self.old.refused })
-            → IfOk result (λ number. number ≡ model.number_of (closing_in state (statement_of line.now))) }
+            → IfOk result (λ number. number ≡ model.number_of (closing_in state (statement_of line.entry.octets.now))) }
     {
         match self.terminal.quiet(&mut self.card, line) {
             QuietEnd::Closed { closing } => {

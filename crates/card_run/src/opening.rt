@@ -1,8 +1,7 @@
 // The card of a run: made, or found there, and opened.
-ghost use Rattle.std.specs.Prelude.{◌≡◌, ◌↔◌, ◌<◌, ◌≤◌, ℕ, OnOk, IfOk, IfErr, IsErrOf};
+ghost use Rattle.std.specs.Prelude.{◌≤◌, ℕ, OnOk, IfOk, IfErr, IsErrOf};
 ghost use Rattle.eeprom.specs.Fault.{Rose};
-ghost use Rattle.eeprom.specs.StoreOf.{image_size};
-ghost use Rattle.card_run.specs.Opening.{IsOpened, IsPrepared, IsUnopened, LeavesOpening};
+ghost use Rattle.card_run.specs.Opening.{IsOpened, IsPrepared, IsUnopened, LeavesBench};
 ghost use Rattle.card_run.specs.Words.{IsWithinLimits};
 ghost use Rattle.program.specs.Ends.{AllFaults, EndsBy};
 
@@ -17,10 +16,7 @@ pub(crate) fn open_card<B: Bench>(alloc: Heap, form: Form, bench: &mut B) -> Res
     requires { IsWithinLimits form }
     ensures opened { IfOk result (λ card. IsOpened form (B.chip bench.old) (B.chip bench.new) card) }
     ensures unopened { IfErr result (λ status. IsUnopened B.chip B.octets_read form bench.old bench.new status) }
-    ensures until { LeavesOpening form (B.chip bench.old) (B.chip bench.new) }
-    ensures too_small { IsErrOf result Status.TooSmall ↔ ((n : ℕ) × (form ≡ Form.New n) × ((B.chip bench.old).still.size < image_size n)) }
-    ensures unchanged { IsErrOf result Status.TooSmall → bench.new ≡ bench.old }
-    ensures quiet { OnOk result (B.faults bench.new ≡ B.faults bench.old) }
+    ensures leaves { LeavesBench B.chip B.faults form Status.TooSmall bench.old bench.new result }
     ensures ends { (source : ℕ) → IfErr result (λ status. EndsBy status
         (record { eeprom = B.faults bench.old; source = source; outlet = B.sink_faults bench.old })
         (record { eeprom = B.faults bench.new; source = source; outlet = B.sink_faults bench.new })) }
@@ -43,11 +39,8 @@ pub(crate) fn open_card<B: Bench>(alloc: Heap, form: Form, bench: &mut B) -> Res
 fn prepare<B: Bench>(form: Form, bench: &mut B) -> Result<(), FormatRefusal>
     requires { IsWithinLimits form }
     ensures prepared { OnOk result (IsPrepared B.chip form bench.old bench.new) }
-    ensures until { LeavesOpening form (B.chip bench.old) (B.chip bench.new) }
-    ensures too_small { IsErrOf result FormatRefusal.TooSmall ↔ ((n : ℕ) × (form ≡ Form.New n) × ((B.chip bench.old).still.size < image_size n)) }
-    ensures unchanged { IsErrOf result FormatRefusal.TooSmall → bench.new ≡ bench.old }
+    ensures leaves { LeavesBench B.chip B.faults form FormatRefusal.TooSmall bench.old bench.new result }
     ensures fault { IsErrOf result FormatRefusal.Fault → Rose (B.faults bench.old) (B.faults bench.new) }
-    ensures quiet { OnOk result (B.faults bench.new ≡ B.faults bench.old) }
     ensures never_falls { B.faults bench.old ≤ B.faults bench.new }
 {
     match form {

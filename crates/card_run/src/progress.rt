@@ -2,7 +2,7 @@
 ghost use Rattle.std.specs.Prelude.{◌≡◌, ◌≤◌, nat_le};
 ghost use Rattle.person.specs.Showing.{Shows};
 ghost use Rattle.card_run.specs.Progress.{progress_line};
-ghost use Rattle.card_run.specs.Watching.{ended_text, none_yet, passed_text, standing_text, with_row};
+ghost use Rattle.card_run.specs.Watching.{Rewrites, ended_text, none_yet, passed_text, standing_text, with_row};
 
 use arrayvec::ArrayVec;
 use person::{Person, put_count};
@@ -52,8 +52,7 @@ impl Progress {
 
     /// So many rows were changed.
     pub(crate) fn set_changed<P: Person>(&mut self, rows: u32, person: &mut P)
-        ensures rows { self.new ≡ record self.old { changed = rows } }
-        ensures shows { Shows P.lost P.shown (standing_text self.new) person.old person.new }
+        ensures { Rewrites P.lost P.shown (record self.old { changed = rows }) self.new person.old person.new }
     {
         self.changed = rows;
         self.rewrite(person);
@@ -61,8 +60,7 @@ impl Progress {
 
     /// So many rows were deleted.
     pub(crate) fn set_deleted<P: Person>(&mut self, rows: u32, person: &mut P)
-        ensures rows { self.new ≡ record self.old { deleted = rows } }
-        ensures shows { Shows P.lost P.shown (standing_text self.new) person.old person.new }
+        ensures { Rewrites P.lost P.shown (record self.old { deleted = rows }) self.new person.old person.new }
     {
         self.deleted = rows;
         self.rewrite(person);

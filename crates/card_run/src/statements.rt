@@ -1,6 +1,5 @@
 // Lines of statements, and a terminal that carries them out on a card.
-ghost use Rattle.std.specs.Prelude.{◌≡◌, ◌≤◌, length, option_map, IfSome, IsTrue};
-ghost use Rattle.scql_model.specs.Lines.{longest_line};
+ghost use Rattle.std.specs.Prelude.{◌≡◌, option_map, IsTrue};
 ghost use Rattle.scql_model.specs.Machine.{start};
 ghost use Rattle.terminal.specs.Holding.{Sits};
 ghost use Rattle.person.specs.Showing.{ShowsSome};
@@ -10,14 +9,15 @@ ghost use Rattle.program.specs.Ends.{AllFaults};
 ghost use Rattle.line_run.specs.Causes.{Faults};
 ghost use Rattle.card_run.specs.Commands.{LeavesLine};
 ghost use Rattle.card_run.specs.Run.{RunsOpened};
-ghost use Rattle.card_run.specs.Statements.{EndsStatement, Sitting, heard_as, opened, term_lines, was_refused};
+ghost use Rattle.card_run.specs.Statements.{EndsStatement, Greets, Sitting, heard_as, opened, term_lines, was_refused};
 
 use card::{Card, LiveCard};
 use eeprom::{Bench, Outlet, Source};
-use guide::{Cells, Guide, Message, Statements, Why};
+use guide::{Cells, Guide, Occasion, Statements, Why};
 use line_run::{LineStop, Responder, run_lines};
 use person::{Person, Presence};
 use program::Status;
+use taken_line::TakenLine;
 use terminal::{LineEnd, Refusal, Terminal};
 
 /// A terminal with its card, which is asked by statements, whether one was refused so far, and a person who is told of them.
@@ -68,12 +68,16 @@ impl<'a, 'b, B: Bench, P: Person> Responder for StatementCard<'a, 'b, B, P> {
     // The person is the same still, and was shown some text.
     ghost goes_on = { λ old new. LastsOn B.chip old.card new.card × ShowsSome P.lost P.shown old.person.now new.person.now × (new.person.ghost_name ≡ old.person.ghost_name) };
 
-    fn answer_line(&mut self, line: Option<&[u8]>) -> Result<(), LineStop> {
-        self.guide.before(line, self.person);
+    fn answer_line(&mut self, line: Option<TakenLine<'_>>) -> Result<(), LineStop> {
+        self.guide.tell(Occasion::Line { line }, self.person);
         let refusal = answer_line(self.terminal, &mut self.card, line)?;
         self.refused |= refusal.is_some();
-        self.guide
-            .behind(line, refusal.map(why_of), None, self.person);
+        let outcome = Occasion::Outcome {
+            line,
+            why: refusal.map(why_of),
+            cells: None,
+        };
+        self.guide.tell(outcome, self.person);
         Ok(())
     }
 
@@ -104,13 +108,26 @@ pub(crate) fn answer_statements<S: Source, B: Bench, P: Person>(
     let presence = person.presence();
     let mut guide = Guide::new(Statements::new(), presence);
     greet(&card, bench, presence, &mut guide, person);
-    let status = carry_out(card, source, bench, &mut guide, person);
-    take_leave(status, &mut guide, person);
+    let mut terminal = Terminal::new();
+    let card = LiveCard::new(card, bench);
+    let statements = StatementCard {
+        terminal: &mut terminal,
+        card,
+        refused: false,
+        guide: &mut guide,
+        person,
+    };
+    let (end, statements) = run_lines(source, statements);
+    let status = Status::of_input(end, statements.refused);
+    let (card, _person) = statements.into_parts();
+    card.into_bench();
+    let whole = matches!(status, Status::Done | Status::Refused);
+    guide.tell(Occasion::End { whole }, person);
     status
 }
 
-// Greets a person, who is told how many cells of the card are used. Neither this nor the leave is inlined, so that what is put together for
-// either has its place only until it is said.
+// Greets a person, who is told how many cells of the card are used. It isn't inlined, so that what is put together for it has its place
+// only until it is said.
 #[inline(never)]
 fn greet<B: Bench, P: Person>(
     card: &Card,
@@ -120,66 +137,22 @@ fn greet<B: Bench, P: Person>(
     person: &mut P,
 )
     requires { IsReady card.now (B.chip bench.old) }
-    ensures same { bench.new ≡ bench.old }
-    ensures told { ShowsSome P.lost P.shown person.old person.new }
+    ensures { Greets P.lost P.shown bench.old bench.new person.old person.new }
 {
-    guide.greet(cells_of(card, bench, presence), person);
-}
-
-// Says how many lines were refused, where all of them were read.
-#[inline(never)]
-fn take_leave<P: Person>(status: Status, guide: &mut Guide<Statements>, person: &mut P)
-    ensures { ShowsSome P.lost P.shown person.old person.new }
-{
-    match status {
-        Status::Done | Status::Refused => guide.leave(person),
-        _ => guide.tell(&Message::new(), person),
-    }
-}
-
-// The same between the greeting and the end.
-fn carry_out<S: Source, B: Bench, P: Person>(
-    card: Card,
-    source: &mut S,
-    bench: &mut B,
-    guide: &mut Guide<Statements>,
-    person: &mut P,
-) -> Status
-    requires { IsReady card (B.chip bench.old) }
-    ensures run { RunsOpened B.chip B.faults term_lines was_refused (λ db. IsAt card (B.chip bench.old) (start db)) opened card.store.chains.cells result (S.left source.old) (S.left source.new) bench.old bench.new
-        (record { eeprom = B.faults bench.old; source = S.source_faults source.old; outlet = B.sink_faults bench.old })
-        (record { eeprom = B.faults bench.new; source = S.source_faults source.new; outlet = B.sink_faults bench.new }) }
-    ensures told { ShowsSome P.lost P.shown person.old person.new }
-{
-    let mut terminal = Terminal::new();
-    let card = LiveCard::new(card, bench);
-    let statements = StatementCard {
-        terminal: &mut terminal,
-        card,
-        refused: false,
-        guide,
-        person,
+    // They are counted only where somebody is there who is told.
+    let counts = if presence == Presence::Away {
+        None
+    } else {
+        card.counts(bench).ok()
     };
-    let (end, statements) = run_lines(source, statements);
-    let status = Status::of_input(end, statements.refused);
-    let (card, _person) = statements.into_parts();
-    card.into_bench();
-    status
-}
-
-// How many cells of a card are used, where somebody is there who is told.
-fn cells_of<B: Bench>(card: &Card, bench: &mut B, presence: Presence) -> Option<Cells>
-    requires { IsReady card.now (B.chip bench.old) }
-    ensures { bench.new ≡ bench.old }
-{
-    if presence == Presence::Away {
-        return None;
-    }
-    let counts = card.counts(bench).ok()?;
-    Some(Cells {
-        used: counts.weight,
-        all: counts.cells,
-    })
+    let cells = match counts {
+        None => None,
+        Some(counts) => Some(Cells {
+            used: counts.weight,
+            all: counts.cells,
+        }),
+    };
+    guide.tell(Occasion::Start { cells }, person);
 }
 
 // Why a line was refused, as a person is told.
@@ -195,17 +168,16 @@ fn why_of(refusal: Refusal) -> Why {
 fn answer_line<B: Bench>(
     terminal: &mut Terminal,
     card: &mut LiveCard<'_, B>,
-    line: Option<&[u8]>,
+    line: Option<TakenLine<'_>>,
 ) -> Result<Option<Refusal>, LineStop>
     requires live { IsTrue card.old.card.live }
-    requires short { IfSome line (λ octets. length octets.now ≤ longest_line) }
     ensures ended { (sitting : Sitting) → Sits (λ l m. IsReadyAt l.card (B.chip l.bench) m) sitting.at terminal.old card.old
-        → EndsStatement sitting (option_map (λ octets. octets.now) line.entry) (λ next. Sits (λ l m. IsReadyAt l.card (B.chip l.bench) m) next.at terminal.new card.new) (B.chip card.old.bench) (B.chip card.new.bench) result }
+        → EndsStatement sitting (option_map (λ line. line.octets.now) line.entry) (λ next. Sits (λ l m. IsReadyAt l.card (B.chip l.bench) m) next.at terminal.new card.new) (B.chip card.old.bench) (B.chip card.new.bench) result }
     ensures leaves { LeavesLine (IsTrue card.new.card.live) (LastsOn B.chip card.old card.new)
         (record { eeprom = B.faults card.old.bench; outlet = B.sink_faults card.old.bench }) (record { eeprom = B.faults card.new.bench; outlet = B.sink_faults card.new.bench }) result }
 {
     match line {
-        Some(octets) => heard(terminal.line(card, octets)),
+        Some(line) => heard(terminal.line(card, line)),
         None => heard(terminal.refuse_long_line(card)),
     }
 }

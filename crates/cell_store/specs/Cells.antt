@@ -2,7 +2,7 @@
 use Rattle.std.specs.Prelude.{◌≡◌, ℕ, ◌*◌, ◌≤◌, Bool, true, false, List, length, replicate, slice_index}
 use Rattle.std.specs.List.{AllByRecursion}
 use Rattle.eeprom.specs.StoreOf.{fewest_cells, most_cells, no_cell, number_at, cell_place, longest_chain}
-use Rattle.cell_store.specs.Marks.{is_marked}
+use Rattle.cell_store.specs.Marks.{StaysMarked, is_marked}
 use Rattle.cell_store.specs.Chains.{AreLinked, with_unmarked}
 
 -- the number of cells that records may have, of which there are twice as many; which cells are used; and of each used cell the number of the next one
@@ -52,3 +52,23 @@ StayLinked used old new = (cell : ℕ) → is_marked used cell ≡ true → slic
 -- the cells of a chain are free again
 abbrev pub freed : Cells → List ℕ → Cells
 freed store chain = cells_from store.cells (with_unmarked store.used chain) store.links
+
+-- A call answers how many cells records may have, which are at least as few and at most as many as a store may have.
+pub record CountsCells (n result : ℕ) : Type 0 where
+  pub number : result ≡ n
+  pub few : fewest_cells ≤ result
+  pub many : result ≤ most_cells
+
+-- A used chain is freed.
+pub record FreesChain (old new : Cells) (first : ℕ) : Type 0 where
+  pub freed : (chain : List ℕ) → IsUsedChain old first chain → new ≡ freed old chain
+  -- The number of cells and the links stay, and no cell is used that wasn't.
+  pub cells : new.cells ≡ old.cells
+  pub links : new.links ≡ old.links
+  pub fewer : StaysMarked new.used old.used
+  pub count : length new.used ≡ length old.used
+
+-- a store may have so many cells
+pub record IsCellCount (n : ℕ) : Type 0 where
+  pub few : fewest_cells ≤ n
+  pub many : n ≤ most_cells

@@ -1,11 +1,13 @@
 -- A chain that is written into cells which no other chain has, from its last cell on.
-use Rattle.std.specs.Prelude.{◌≡◌, ℕ, ◌+◌, ◌*◌, ◌<◌, ◌≤◌, Bool, true, false, List, length, take, drop, Some, slice_index, slice_range}
+use Rattle.std.specs.Prelude.{◌≡◌, ℕ, ◌+◌, ◌*◌, ◌<◌, ◌≤◌, Bool, true, false, List, length, take, drop, Some, slice_index, slice_range, is_some, Result, IfOk, OnOk, OnErr}
 use Rattle.std.specs.List.{flat_map, AllByRecursion}
-use Rattle.eeprom.specs.Chip.{Chip, LeavesOf}
-use Rattle.eeprom.specs.StoreOf.{front_size, chain_of, cell_place, payload_of, number_at, is_distinct, piece_size, image_size}
-use Rattle.cell_store.specs.Marks.{is_marked}
+use Rattle.eeprom.specs.Calls.{FitsInto}
+use Rattle.eeprom.specs.Chip.{Chip, Becomes, LeavesOf, RisesBy}
+use Rattle.eeprom.specs.Fault.{Counts}
+use Rattle.eeprom.specs.StoreOf.{front_size, chain_of, cell_place, payload_of, number_at, is_distinct, cell_size, longest_chain, piece_size, image_size}
+use Rattle.cell_store.specs.Marks.{is_marked, unmarked}
 use Rattle.cell_store.specs.Chains.{AreLinked, AreFree, with_marked}
-use Rattle.cell_store.specs.Cells.{link_in, StayLinked}
+use Rattle.cell_store.specs.Cells.{CoverCells, link_in, StayLinked}
 
 -- a cell has the same link and payload
 pub record SameCell (left was : List ℕ) (n cell : ℕ) : Type 0 where
@@ -53,3 +55,26 @@ pub record IsLaid (n : ℕ) (start marks : List Bool) (piece count first : ℕ) 
 pub record KeepsMarked (marks : List Bool) (n : ℕ) (old new : Chip) : Type 0 where
   pub still : new.still ≡ old.still
   pub moments : LeavesOf (λ was left. Keeping marks n left was) old new
+
+-- How the writing of a payload of so many pieces into free cells ends, which answers the chain's first cell.
+pub record WritesCells {S E : Type 0} (chip : S → Chip) (faults : S → ℕ) (n : ℕ) (payload : List ℕ) (count : ℕ) (was now : List Bool) (before links : List ℕ) (old new : S) (result : Result ℕ E) : Type 0 where
+  pub placed : IfOk result (λ first. Becomes (IsPlaced n was now payload 0 count first links) (chip old).image (chip new).image)
+  pub laid : IfOk result (λ first. IsLaid n was now 0 count first before links)
+  pub covers : CoverCells n now links
+  -- Where a write fails, the marks are as they were.
+  pub undone : OnErr result (now ≡ was)
+  pub stay : StayLinked was before links
+  pub there : IfOk result (λ first. first < 2 * n)
+  pub told : OnOk result (is_some (chip new).image ≡ is_some (chip old).image)
+  pub octets_written : OnOk result (Becomes (RisesBy (cell_size * count)) (chip old).written (chip new).written)
+  pub moments : KeepsMarked was n (chip old) (chip new)
+  pub cause : Counts (faults old) (faults new) result
+
+-- A payload of so many pieces may be written: the image fits into the EEPROM, and so many cells are free.
+pub record MayWriteCells (n : ℕ) (marks : List Bool) (links octets : List ℕ) (count : ℕ) (chip : Chip) : Type 0 where
+  pub fits : FitsInto n chip
+  pub covers : CoverCells n marks links
+  pub payload : piece_size * count ≤ length octets
+  pub some : 1 ≤ count
+  pub short : count ≤ longest_chain
+  pub free : count ≤ unmarked marks

@@ -1,6 +1,7 @@
 -- How many octets of an EEPROM are read for a record, by its count before and after; and what is read of it.
-use Rattle.std.specs.Prelude.{◌≡◌, ℕ, ◌+◌, ◌*◌, ◌≤◌, List, ◌++◌, length, Option, Some, None, Result, IfSome, OnOk}
+use Rattle.std.specs.Prelude.{◌≡◌, ℕ, ◌+◌, ◌*◌, ◌<◌, ◌≤◌, List, ◌++◌, length, Option, Some, None, Result, IfSome, OnOk}
 pub use Rattle.eeprom.specs.Chip.{RisesAtMost as ReadsAtMost}
+use Rattle.eeprom.specs.Calls.{FitsInto}
 use Rattle.eeprom.specs.Chip.{Chip, Becomes, RisesBy}
 use Rattle.eeprom.specs.Fault.{each_error}
 use Rattle.eeprom.specs.Frame.{Reads}
@@ -32,3 +33,19 @@ pub record ReadsChain {S T E : Type 0} (chip : S → Chip) (faults : S → ℕ) 
   pub «record» : OnOk result (IfSome (chip before).image (λ image. (chain : List ℕ) → IsRecordChain image n first chain → slot_of image n chain ≡ Some out))
   pub octets_read : OnOk result (IfSome (chip before).image (λ image. (chain : List ℕ) → IsRecordChain image n first chain → Becomes (ReadsRecord (Some out)) (octets before) (octets after)))
   pub frame : Reads each_error chip faults before after result
+
+-- There is such a cell in the image, and room for its payload behind so many octets.
+pub record MayReadCell (n cell size room : ℕ) (chip : Chip) : Type 0 where
+  pub fits : FitsInto n chip
+  pub inside : cell < 2 * n
+  pub free : size + piece_size ≤ room
+
+-- There is room for the payload of so many cells behind so many octets.
+pub record MayReadAlong (n most size room : ℕ) (chip : Chip) : Type 0 where
+  pub fits : FitsInto n chip
+  pub free : size + piece_size * most ≤ room
+
+-- These octets are no more than the payload of one cell.
+pub record MayReadLonger (n : ℕ) (piece : List ℕ) (chip : Chip) : Type 0 where
+  pub fits : FitsInto n chip
+  pub size : length piece ≤ piece_size

@@ -1,8 +1,10 @@
 -- A walk along a chain of cells.
-use Rattle.std.specs.Prelude.{◌≡◌, ◌⊎◌, ℕ, ◌+◌, ◌*◌, ◌≤◌, List, ◌++◌, length, Option, Some, IfSome}
+use Rattle.std.specs.Prelude.{◌≡◌, ◌⊎◌, ℕ, ◌+◌, ◌-◌, ◌*◌, ◌≤◌, List, ◌++◌, length, Option, Some, Result, IfSome, IfOk, OnOk}
 use Rattle.std.specs.List.{flat_map}
-use Rattle.eeprom.specs.Chip.{Becomes}
-use Rattle.eeprom.specs.StoreOf.{chain_of, payload_of, number_at, record_in, piece_size, longest_record}
+use Rattle.eeprom.specs.Chip.{Chip, Becomes}
+use Rattle.eeprom.specs.Fault.{each_error}
+use Rattle.eeprom.specs.Frame.{Reads}
+use Rattle.eeprom.specs.StoreOf.{chain_of, payload_of, number_at, record_in, piece_size, longest_chain, longest_record}
 use Rattle.cell_store.specs.Reading.{ReadsCells}
 
 -- these cells are left from a cell on
@@ -32,3 +34,13 @@ pub record CopiesRecord (n cell most : ℕ) (old out : List ℕ) (image : Option
   pub payload : List ℕ
   pub along : GoesAlong n cell next most old payload image before after
   pub copied : number_at payload 0 ≤ longest_record → 2 + number_at payload 0 ≤ length payload → out ≡ record_in payload
+
+-- So many cells of a chain are read, from one on, or to the chain's end.
+pub record ReadsAlong {S E : Type 0} (chip : S → Chip) (faults : S → ℕ) (octets : S → Option ℕ) (n first most : ℕ) (old new : List ℕ) (before after : S) (result : Result ℕ E) : Type 0 where
+  pub along : IfOk result (λ next. GoesAlong n first next most old new (chip before).image (octets before) (octets after))
+  pub frame : Reads each_error chip faults before after result
+
+-- The record of a chain is read, behind the payload of its first cell.
+pub record ReadsLonger {S T E : Type 0} (chip : S → Chip) (faults : S → ℕ) (octets : S → Option ℕ) (n second : ℕ) (piece out : List ℕ) (before after : S) (result : Result T E) : Type 0 where
+  pub copies : OnOk result (CopiesRecord n second (longest_chain - 1) piece out (chip before).image (octets before) (octets after))
+  pub frame : Reads each_error chip faults before after result

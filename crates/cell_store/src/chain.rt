@@ -1,12 +1,11 @@
 // The record of a chain of cells. A cell has the number of the next one and 30 octets of payload.
-ghost use Rattle.std.specs.Prelude.{◌≡◌, ◌+◌, ◌-◌, ◌*◌, ◌<◌, ◌≤◌, ◌++◌, length, IfOk, OnOk};
+ghost use Rattle.std.specs.Prelude.{◌≡◌, ◌+◌, ◌≤◌, ◌++◌, length, IfOk};
 ghost use Rattle.arrayvec.specs.ArrayVec.{array_vec_len};
 ghost use Rattle.eeprom.specs.Calls.{FitsInto, ReadsOnly};
 ghost use Rattle.eeprom.specs.Fault.{each_error};
-ghost use Rattle.eeprom.specs.Frame.{Reads};
-ghost use Rattle.eeprom.specs.StoreOf.{record_in, number_at, piece_size, longest_record, longest_chain};
-ghost use Rattle.cell_store.specs.Reading.{ReadsCell, ReadsCells, ReadsChain};
-ghost use Rattle.cell_store.specs.Walk.{CopiesRecord, GoesAlong};
+ghost use Rattle.eeprom.specs.StoreOf.{record_in, number_at, longest_record};
+ghost use Rattle.cell_store.specs.Reading.{MayReadAlong, MayReadCell, MayReadLonger, ReadsCell, ReadsCells, ReadsChain};
+ghost use Rattle.cell_store.specs.Walk.{ReadsAlong, ReadsLonger};
 
 use crate::layout::{LARGEST_PAYLOAD, LINK_SIZE, number_of};
 use arrayvec::ArrayVec;
@@ -48,10 +47,8 @@ fn read_longer<B: Eeprom>(
     piece: &[u8],
     out: &mut RecordOctets,
 ) -> Result<(), EepromFault>
-    requires fits { FitsInto cells (B.chip bench.old) }
-    requires size { length piece.now ≤ piece_size }
-    ensures copies { OnOk result (CopiesRecord cells second (longest_chain - 1) piece.now out.new.items (B.chip bench.old).image (B.octets_read bench.old) (B.octets_read bench.new)) }
-    ensures frame { Reads each_error B.chip B.faults bench.old bench.new result }
+    requires { MayReadLonger cells piece.now (B.chip bench.old) }
+    ensures { ReadsLonger B.chip B.faults B.octets_read cells second piece.now out.new.items bench.old bench.new result }
 {
     let mut payload = Payload::new();
     append(&mut payload, piece);
@@ -69,10 +66,8 @@ fn read_payload<B: Eeprom, const CAP: usize>(
     most: u16,
     payload: &mut ArrayVec<u8, CAP>,
 ) -> Result<u16, EepromFault>
-    requires fits { FitsInto cells (B.chip bench.old) }
-    requires free { array_vec_len payload.old + piece_size * most ≤ CAP }
-    ensures along { IfOk result (λ next. GoesAlong cells first next most payload.old.items payload.new.items (B.chip bench.old).image (B.octets_read bench.old) (B.octets_read bench.new)) }
-    ensures frame { Reads each_error B.chip B.faults bench.old bench.new result }
+    requires { MayReadAlong cells most (array_vec_len payload.old) CAP (B.chip bench.old) }
+    ensures { ReadsAlong B.chip B.faults B.octets_read cells first most payload.old.items payload.new.items bench.old bench.new result }
 {
     let mut cell = first;
     for _step in 0..most {
@@ -91,9 +86,7 @@ pub fn read_cell<B: Eeprom, const CAP: usize>(
     cell: u16,
     payload: &mut ArrayVec<u8, CAP>,
 ) -> Result<u16, EepromFault>
-    requires fits { FitsInto cells (B.chip bench.old) }
-    requires inside { cell < 2 * cells }
-    requires free { array_vec_len payload.old + piece_size ≤ CAP }
+    requires { MayReadCell cells cell (array_vec_len payload.old) CAP (B.chip bench.old) }
     ensures cell { IfOk result (λ next. ReadsCell cells cell next (B.chip bench.old).image payload.old.items payload.new.items) }
     ensures reads { ReadsOnly each_error B.chip B.faults B.octets_read (ReadsCells 1) bench.old bench.new result }
 {

@@ -1,15 +1,9 @@
 // The claim of a record's chain in an image: each of its cells is free before, and used then.
-ghost use Rattle.std.specs.Prelude.{◌≡◌, ◌+◌, ◌*◌, ◌≤◌, ℕ, List, Some, length, IfSome, IfOk, IsErrOf, OnOk};
-ghost use Rattle.std.specs.List.{flat_map};
+ghost use Rattle.std.specs.Prelude.{◌≡◌, ◌≤◌, length};
 ghost use Rattle.arrayvec.specs.ArrayVec.{array_vec_len};
-ghost use Rattle.eeprom.specs.Calls.{FitsInto, ReadsOnly};
-ghost use Rattle.eeprom.specs.Chip.{Becomes, RisesAtMost};
-ghost use Rattle.eeprom.specs.StoreOf.{chain_of, payload_of, cell_size, piece_size, longest_chain};
-ghost use Rattle.cell_store.specs.Cells.{cells_from, CoverCells};
-ghost use Rattle.cell_store.specs.Claims.{ClaimsChain};
-ghost use Rattle.cell_store.specs.Claiming.{ClaimsCell, IsTakenCell, record_cells};
-ghost use Rattle.cell_store.specs.Reading.{ReadsCell, ReadsCells};
-ghost use Rattle.cell_store.specs.Faults.{is_claim_fault};
+ghost use Rattle.cell_store.specs.Cells.{cells_from};
+ghost use Rattle.cell_store.specs.Claims.{ClaimsCells, ClaimsOne, MayClaim, MayClaimCell};
+ghost use Rattle.cell_store.specs.Claiming.{record_cells};
 
 use crate::ClaimRefusal;
 use crate::chain::{Payload, read_cell};
@@ -28,14 +22,8 @@ pub fn claim_cells<B: Eeprom>(
     first: u16,
     payload: &mut Payload,
 ) -> Result<u16, ClaimRefusal>
-    requires fits { FitsInto cells (B.chip bench.old) }
-    requires covers { CoverCells cells used.old links.old }
-    ensures claims { ClaimsChain B.chip B.faults B.octets_read first (cells_from cells used.old links.old) (cells_from cells used.new links.new) bench.old bench.new result }
-    ensures payload { OnOk result (IfSome (B.chip bench.old).image (λ image. (chain : List ℕ) → chain_of image cells (2 * cells) first ≡ Some chain
-        → length chain ≤ longest_chain → payload.new.items ≡ flat_map (payload_of image cells) chain)) }
-    ensures count { IfOk result (λ count. record_cells payload.new.items ≡ Some count) }
-    ensures size { IfOk result (λ count. length payload.new.items ≡ piece_size * count) }
-    ensures covers { CoverCells cells used.new links.new }
+    requires { MayClaim cells used.old links.old (B.chip bench.old) }
+    ensures { ClaimsCells B.chip B.faults B.octets_read cells first payload.new.items used.old used.new links.old links.new bench.old bench.new result }
 {
     payload.clear();
     let mut next = claim_cell(bench, cells, used, links, first, payload)?;
@@ -61,15 +49,8 @@ fn claim_cell<B: Eeprom>(
     cell: u16,
     payload: &mut Payload,
 ) -> Result<u16, ClaimRefusal>
-    requires fits { FitsInto cells (B.chip bench.old) }
-    requires covers { CoverCells cells used.old links.old }
-    requires free { array_vec_len payload.old + piece_size ≤ piece_size * longest_chain }
-    ensures claims { IfOk result (λ next. ClaimsCell (cells_from cells used.old links.old) (cells_from cells used.new links.new) cell next) }
-    ensures cell { IfOk result (λ next. ReadsCell cells cell next (B.chip bench.old).image payload.old.items payload.new.items) }
-    ensures octets_read { OnOk result (Becomes (ReadsCells 1) (B.octets_read bench.old) (B.octets_read bench.new)) }
-    ensures reads { ReadsOnly is_claim_fault B.chip B.faults B.octets_read (RisesAtMost cell_size) bench.old bench.new result }
-    ensures taken { IsErrOf result ClaimRefusal.BadChain → IsTakenCell (cells_from cells used.old links.old) cell }
-    ensures covers { CoverCells cells used.new links.new }
+    requires { MayClaimCell cells used.old links.old (array_vec_len payload.old) (B.chip bench.old) }
+    ensures { ClaimsOne B.chip B.faults B.octets_read cells cell payload.old.items payload.new.items (cells_from cells used.old links.old) (cells_from cells used.new links.new) bench.old bench.new result }
 {
     let place = cell as usize;
     if place >= used.len() || used.is_marked(cell) {

@@ -1,13 +1,9 @@
 // A record's chain, written into cells that no other chain has.
-ghost use Rattle.std.specs.Prelude.{◌≡◌, ◌+◌, ◌*◌, ◌≤◌, ◌<◌, ◌++◌, length, IfOk, is_some, OnOk, OnErr};
+ghost use Rattle.std.specs.Prelude.{◌≡◌, ◌+◌, ◌*◌, ◌≤◌, ◌++◌, length};
 ghost use Rattle.arrayvec.specs.ArrayVec.{array_vec_len};
-ghost use Rattle.eeprom.specs.Calls.{FitsInto};
-ghost use Rattle.eeprom.specs.Chip.{Becomes, RisesBy};
-ghost use Rattle.eeprom.specs.Fault.{Counts};
 ghost use Rattle.eeprom.specs.StoreOf.{number_at, cells_for, record_in, two_octets, cell_size, piece_size, longest_record, longest_chain};
-ghost use Rattle.cell_store.specs.Marks.{IsFreeRun, unmarked};
-ghost use Rattle.cell_store.specs.Placed.{IsLaid, IsPlaced, KeepsMarked};
-ghost use Rattle.cell_store.specs.Cells.{CoverCells, StayLinked};
+ghost use Rattle.cell_store.specs.Marks.{IsFreeRun};
+ghost use Rattle.cell_store.specs.Placed.{MayWriteCells, WritesCells};
 ghost use Rattle.cell_store.specs.Runs as runs;
 
 use crate::chain::{Payload, append};
@@ -91,22 +87,8 @@ pub fn write_cells<B: Eeprom>(
     payload: &[u8],
     count: u16,
 ) -> Result<u16, EepromFault>
-    requires fits { FitsInto cells (B.chip bench.old) }
-    requires covers { CoverCells cells marks.old links.old }
-    requires payload { piece_size * count ≤ length payload.now }
-    requires some { 1 ≤ count }
-    requires short { count ≤ longest_chain }
-    requires free { count ≤ unmarked marks.old }
-    ensures placed { IfOk result (λ first. Becomes (IsPlaced cells marks.old marks.new payload.now 0 count first links.new) (B.chip bench.old).image (B.chip bench.new).image) }
-    ensures laid { IfOk result (λ first. IsLaid cells marks.old marks.new 0 count first links.old links.new) }
-    ensures covers { CoverCells cells marks.new links.new }
-    ensures undone { OnErr result (marks.new ≡ marks.old) }
-    ensures stay { StayLinked marks.old links.old links.new }
-    ensures there { IfOk result (λ first. first < 2 * cells) }
-    ensures told { OnOk result (is_some (B.chip bench.new).image ≡ is_some (B.chip bench.old).image) }
-    ensures octets_written { OnOk result (Becomes (RisesBy (cell_size * count)) (B.chip bench.old).written (B.chip bench.new).written) }
-    ensures moments { KeepsMarked marks.old cells (B.chip bench.old) (B.chip bench.new) }
-    ensures cause { Counts (B.faults bench.old) (B.faults bench.new) result }
+    requires { MayWriteCells cells marks.old links.old payload.now count (B.chip bench.old) }
+    ensures { WritesCells B.chip B.faults cells payload.now count marks.old marks.new links.old links.new bench.old bench.new result }
 {
     let mut octets = RunOctets::new();
     let mut first = NO_CELL;

@@ -1,18 +1,13 @@
 // The cells of an EEPROM, of which it is kept in memory which are used, and how these are linked.
-ghost use Rattle.std.specs.Prelude.{◌≡◌, ◌↔◌, ◌+◌, ◌*◌, ◌≤◌, ◌<◌, ℕ, List, false, Some, length, is_some, replicate, IfSome, IfOk, OnOk, IsErrOf};
-ghost use Rattle.eeprom.specs.Chip.{Becomes, RisesBy};
-ghost use Rattle.eeprom.specs.Fault.{CountsFaults};
+ghost use Rattle.std.specs.Prelude.{◌≡◌, ◌≤◌, ℕ, List, length, IfOk};
 ghost use Rattle.eeprom.specs.Frame.{HasRoom};
-ghost use Rattle.eeprom.specs.StoreOf.{fewest_cells, most_cells, slot_of, cell_size, longest_record, longest_chain};
+ghost use Rattle.eeprom.specs.StoreOf.{longest_record, longest_chain};
 ghost use Rattle.eeprom.specs.StoreOf as image;
-ghost use Rattle.cell_store.specs.Marks.{StaysMarked, unmarked};
-ghost use Rattle.cell_store.specs.Chains.{IsRecordChain, steps};
-ghost use Rattle.cell_store.specs.Cells.{all_free, freed, IsUsedChain};
-ghost use Rattle.cell_store.specs.Claims.{ClaimsChain, TakesChain};
-ghost use Rattle.cell_store.specs.Writing.{IsWritten, KeepsChains};
-ghost use Rattle.cell_store.specs.Placed.{KeepsMarked};
+ghost use Rattle.cell_store.specs.Chains.{steps};
+ghost use Rattle.cell_store.specs.Cells.{CountsCells, FreesChain, IsCellCount, all_free, IsUsedChain};
+ghost use Rattle.cell_store.specs.Claims.{ClaimsRecord};
+ghost use Rattle.cell_store.specs.Writing.{WritesChain};
 ghost use Rattle.cell_store.specs.Reading.{ReadsChain};
-ghost use Rattle.cell_store.specs.Faults.{is_write_fault};
 
 use crate::chain::{Payload, copy_record, read_record};
 use crate::claims::claim_cells;
@@ -45,8 +40,7 @@ impl Model for CellStore {
 impl CellStore {
     /// A store of cells of which none is used. All memory that it needs is taken here.
     pub fn with_room(alloc: Heap, cells: u16) -> Result<CellStore, AllocError>
-        requires few { fewest_cells ≤ cells }
-        requires many { cells ≤ most_cells }
+        requires { IsCellCount cells }
         ensures { IfOk result (λ store. store ≡ all_free cells) }
     {
         let count = 2 * cells;
@@ -59,9 +53,7 @@ impl CellStore {
 
     /// How many cells records may have; there are twice as many.
     pub fn cells(&self) -> u16
-        ensures number { result ≡ self.now.cells }
-        ensures few { fewest_cells ≤ result }
-        ensures many { result ≤ most_cells }
+        ensures { CountsCells self.now.cells result }
     {
         self.cells
     }
@@ -75,11 +67,7 @@ impl CellStore {
         out: &mut RecordOctets,
     ) -> Result<u16, ClaimRefusal>
         requires room { HasRoom self.old.cells (B.chip bench.old) }
-        ensures claims { ClaimsChain B.chip B.faults B.octets_read first self.old self.new bench.old bench.new result }
-        ensures reads { OnOk result (IfSome (B.chip bench.old).image (λ image. (chain : List ℕ) → IsRecordChain image self.old.cells first chain
-            → slot_of image self.old.cells chain ≡ Some out.new.items)) }
-        ensures some { OnOk result (1 ≤ length out.new.items) }
-        ensures count { IfOk result (λ count. count ≡ image.cells_for (length out.new.items)) }
+        ensures { ClaimsRecord B.chip B.faults B.octets_read first out.new.items self.old self.new bench.old bench.new result }
     {
         let used = &mut self.used;
         let links = self.links.as_mut_slice();
@@ -98,16 +86,7 @@ impl CellStore {
         requires some { 1 ≤ length octets.now }
         requires most { length octets.now ≤ longest_record }
         requires room { HasRoom self.old.cells (B.chip bench.old) }
-        ensures takes { IfOk result (λ first. TakesChain self.old self.new first (image.cells_for (length octets.now))) }
-        ensures written { IfOk result (λ first. Becomes (IsWritten self.old self.new first octets.now) (B.chip bench.old).image (B.chip bench.new).image) }
-        ensures no_cell { IsErrOf result CellRefusal.NoCell ↔ (unmarked self.old.used < image.cells_for (length octets.now)) }
-        ensures unchanged { IsErrOf result CellRefusal.NoCell → (self.new ≡ self.old) × (bench.new ≡ bench.old) }
-        ensures fault { IsErrOf result CellRefusal.Fault → KeepsChains self.old self.new }
-        ensures there { IfOk result (λ first. first < 2 * self.old.cells) }
-        ensures told { OnOk result (is_some (B.chip bench.new).image ≡ is_some (B.chip bench.old).image) }
-        ensures octets_written { OnOk result (Becomes (RisesBy (cell_size * image.cells_for (length octets.now))) (B.chip bench.old).written (B.chip bench.new).written) }
-        ensures moments { KeepsMarked self.old.used self.old.cells (B.chip bench.old) (B.chip bench.new) }
-        ensures cause { CountsFaults is_write_fault (B.faults bench.old) (B.faults bench.new) result }
+        ensures { WritesChain B.chip B.faults octets.now self.old self.new bench.old bench.new result }
     {
         let count = cells_for(octets.len());
         if count > self.used.count_free() {
@@ -141,11 +120,7 @@ impl CellStore {
 
     /// Frees the cells of the used chain that begins at a cell.
     pub fn free_chain(&mut self, first: u16)
-        ensures freed { (chain : List ℕ) → IsUsedChain self.old first chain → self.new ≡ freed self.old chain }
-        ensures cells { self.new.cells ≡ self.old.cells }
-        ensures links { self.new.links ≡ self.old.links }
-        ensures fewer { StaysMarked self.new.used self.old.used }
-        ensures count { length self.new.used ≡ length self.old.used }
+        ensures { FreesChain self.old self.new first }
     {
         unmark_chain(&mut self.used, self.links.as_slice(), first);
     }

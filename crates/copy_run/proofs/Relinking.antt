@@ -1,6 +1,6 @@
 -- The links of two readers are lent and put back as they have become.
 use Rattle.std.proofs.Common.{◌≡◌, ◌≢◌, ◌⊎◌, ℕ, ◌==◌, Bool, true, false, List, Option, Some, None, refl, sym, ◌∙◌, ap, subst, inl, inr, if◌then◌else◌}
-use Rattle.std.specs.Prelude.{option_map, IsSomeAnd, IsTrue}
+use Rattle.std.specs.Prelude.{option_map, IsSomeAnd, IsTrue, is_some}
 use Rattle.std.specs.Option.{option_map_or}
 use Rattle.std.proofs.lemmas.Bool.{eqb-true, eqb-false}
 use Rattle.std.proofs.lemmas.Option.{same_Some}
@@ -12,8 +12,9 @@ use Rattle.planner.specs.StatementLines.{TerminalState}
 use Rattle.terminal.specs.Holding.{Holding, Sits}
 use Rattle.reader_rack.specs.declared.reader.Reader.{Reader}
 use Rattle.reader_rack.specs.RackText.{Held, mute, sits, RackState}
-use Rattle.reader_rack.specs.Racks.{IsRack, OthersStay, link_at, reader_at}
-use Rattle.reader_rack.specs.Readers.{Holds, IsHeld, lending, with_link}
+use Rattle.reader_rack.specs.Calls.{MayLend}
+use Rattle.reader_rack.specs.Racks.{HoldsCard, IsRack, OthersStay, link_at, reader_at}
+use Rattle.reader_rack.specs.Readers.{Holds, IsHeld, answers, lending, with_link}
 use Rattle.reader_rack.specs.Statements.{IsReader}
 use Rattle.table_copy.specs.Copy.{Copy}
 use Rattle.card_asking.specs.Calls.{StillAnswers}
@@ -21,6 +22,24 @@ use Rattle.table_copy.specs.Copying.{CopiesSo, EndsBy, ReadsSo, StandsAt, StaysA
 use Rattle.table_copy.specs.declared.copy_end.CopyEnd.{CopyEnd}
 use Rattle.table_copy.specs.declared.copy_end.CopyEnd.TheVariants.{Copied, SourceRefused, DestRefused, SourceMute, DestMute}
 use Rattle.copy_run.specs.Racks.{DestHolds, IsCopied, LinkBecomes, LinksChange, SitsOn, SourceHolds, with_link_of}
+
+-- a reader's card that answers has a link, which may be lent
+holds-link : {L : Type 0} (is_live : L → Bool) (found : Option (Reader L)) → IsTrue (option_map_or (answers is_live) found false) → IsTrue (option_map_or (λ (reader : Reader L). is_some reader.link) found false)
+holds-link is_live None live = live
+holds-link {L} is_live (Some reader) live = go reader.link live where
+  go : (link : Option L) → IsTrue (option_map_or is_live link false) → IsTrue (is_some link)
+  go None live' = live'
+  go (Some link) live' = refl
+
+pub may-lend : {L : Type 0} (is_live : L → Bool) (readers : List (Reader L)) (number : ℕ) → HoldsCard is_live readers number → MayLend readers number
+may-lend is_live readers number card = record { reader = card.reader; holds = holds-link is_live (reader_at readers number) card.live }
+
+-- and so where another one's was lent before
+pub may-lend-too : {L : Type 0} (is_live : L → Bool) (old new : List (Reader L)) (from to : ℕ) → OthersStay from old new → to ≢ from → HoldsCard is_live old to → MayLend new to
+may-lend-too is_live old new from to others apart card = record {
+  reader = card.reader;
+  holds = subst (λ (found : Option (Reader _)). IsTrue (option_map_or (λ (reader : Reader _). is_some reader.link) found false)) (sym (others to card.reader apart)) (holds-link is_live (reader_at old to) card.live);
+}
 
 module _ {L : Type 0} where
   -- a reader's link became another one, and the rest of the reader stays

@@ -15,6 +15,7 @@ use Rattle.reader_rack.specs.Statements.{IsReader}
 use Rattle.table_copy.specs.Copy.{Copy}
 use Rattle.table_copy.specs.Copying.{EndsBy, UndoneSo}
 use Rattle.table_copy.specs.Leaving.{ReadsOver}
+use Rattle.table_copy.specs.Progress.{ShowsCopy}
 use Rattle.table_copy.specs.declared.copy_end.CopyEnd.{CopyEnd}
 use Rattle.table_copy.specs.declared.copy_end.CopyEnd.TheVariants.{SourceMute, DestMute}
 
@@ -72,7 +73,7 @@ pub record MayCopy {L : Type 0} (is_live : L → Bool) (readers : List (Reader L
   pub apart : to ≢ from
 
 -- A copy went from one reader of a rack to another one, and ended so. Of two machines it is to make this.
-pub record CopiesBetween {O L : Type 0} (is_at : L → Machine → Type 0) (is_live : L → Bool) (faults mark : L → ℕ) (chip : L → Chip) (from to : ℕ) (copy : Machine → Machine → Copy) (end : CopyEnd) (old new : Rack O L) : Type 0 where
+pub record CopiesBetween {O L P : Type 0} (is_at : L → Machine → Type 0) (is_live : L → Bool) (faults mark : L → ℕ) (chip : L → Chip) (lost : P → Bool) (shown : P → Option (List ℕ)) (from to : ℕ) (copy : Machine → Machine → Copy) (end : CopyEnd) (old new : Rack O L) (person after : P) : Type 0 where
   -- It ended as it is to of the machines of both terminals, and the rack is one behind it.
   pub ends : (state : RackState) (s d : TerminalState) → IsRack is_at is_live old.readers old.current.number state → state.reader from ≡ sits s → state.reader to ≡ sits d
       → IsCopied is_at is_live new.readers new.current.number state from to s d (copy s.machine d.machine) end
@@ -88,3 +89,5 @@ pub record CopiesBetween {O L : Type 0} (is_at : L → Machine → Type 0) (is_l
   -- Nothing but the two links is another now.
   pub links : LinksChange from to old.readers new.readers
   pub rest : (new.current ≡ old.current) × (new.outlet ≡ old.outlet)
+  -- A person was shown how many rows were copied.
+  pub shows : ShowsCopy lost shown end person after

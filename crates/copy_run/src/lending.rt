@@ -1,6 +1,5 @@
 // The links of two readers of a rack, lent for a copy from the one to the other.
 ghost use Rattle.table_copy.specs.Copy as model;
-ghost use Rattle.table_copy.specs.Progress.{ShowsCopy};
 ghost use Rattle.copy_run.specs.Copies as copies;
 ghost use Rattle.copy_run.specs.Racks.{CopiesBetween, MayCopy};
 
@@ -24,8 +23,7 @@ pub fn copy_shown<O: Outlet, L: CardLink, P: Person>(
     person: &mut P,
 ) -> CopyEnd
     requires { MayCopy L.is_live rack.old.readers from to }
-    ensures copies { CopiesBetween L.is_at L.is_live L.faults L.mark L.chip from to (λ s d. model.copy s d object table) result rack.old rack.new }
-    ensures shows { ShowsCopy P.lost P.shown result person.old person.new }
+    ensures { CopiesBetween L.is_at L.is_live L.faults L.mark L.chip P.lost P.shown from to (λ s d. model.copy s d object table) result rack.old rack.new person.old person.new }
 {
     let mut source = rack.take(from);
     let mut dest = rack.take(to);
@@ -44,8 +42,7 @@ pub(crate) fn copy_named<O: Outlet, L: CardLink, P: Person>(
     person: &mut P,
 ) -> CopyEnd
     requires { MayCopy L.is_live rack.old.readers from to }
-    ensures copies { CopiesBetween L.is_at L.is_live L.faults L.mark L.chip from to (λ s d. copies.copy_for s d names.now) result rack.old rack.new }
-    ensures shows { ShowsCopy P.lost P.shown result person.old person.new }
+    ensures { CopiesBetween L.is_at L.is_live L.faults L.mark L.chip P.lost P.shown from to (λ s d. copies.copy_for s d names.now) result rack.old rack.new person.old person.new }
 {
     let mut source = rack.take(from);
     let mut dest = rack.take(to);

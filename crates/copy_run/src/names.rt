@@ -1,5 +1,5 @@
 // The names that a copy is asked for by.
-ghost use Rattle.std.specs.Prelude.{◌≡◌, map, IsTrue, ◌↔◌, None, is_some};
+ghost use Rattle.std.specs.Prelude.{◌≡◌, map, None, is_some};
 ghost use Rattle.std.specs.String.{string_bytes};
 ghost use Rattle.copy_run.specs.Copies as model;
 

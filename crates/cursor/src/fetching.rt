@@ -7,7 +7,7 @@ ghost use Rattle.scql_model.specs.Moves.{gave, gave_next, row_behind};
 ghost use Rattle.scql_model.specs.Objects.{StampedRow};
 ghost use Rattle.scql_model.specs.ReadBound.{place_reached};
 ghost use Rattle.cursor.specs.Costs.{RisesBetween, cost_at, cost_between, least_read, size_handed};
-ghost use Rattle.cursor.specs.Feed.{Stays};
+ghost use Rattle.cursor.specs.Feed.{ReadsRows, Stays};
 ghost use Rattle.cursor.specs.Moved as moved;
 
 use crate::RowFeed;
@@ -24,9 +24,7 @@ pub fn fetch<F: RowFeed>(
 ) -> Result<StatusWord, EepromFault>
     ensures fetched { IfOk result (λ word. (rows : List StampedRow) → F.tells feed.old rows
         → (c : Cursor) → moved.fetched place.now c le word out.new ≡ gave c le place.now rows) }
-    ensures read { IfOk result (λ word. IfSome (F.costs feed.old)
-        (λ costs. Becomes (RisesBetween (least_read word out.new) (cost_at place.now costs)) (F.octets_read feed.old) (F.octets_read feed.new))) }
-    ensures stays { Stays F.tells F.costs F.kept F.chip F.faults feed.old feed.new result }
+    ensures reads { ReadsRows F.tells F.costs F.kept F.chip F.octets_read F.faults feed.old feed.new result (λ word. least_read word out.new) (λ _. cost_at place.now) }
 {
     match *place {
         Place::NotOpen => Ok(StatusWord::CONDITIONS_NOT_SATISFIED),
@@ -70,9 +68,7 @@ fn next_handed<F: RowFeed>(
     out: &mut Row,
 ) -> Result<Option<u32>, EepromFault>
     ensures next { IfOk result (λ next. (rows : List StampedRow) → F.tells feed.old rows → moved.row_handed next out.new ≡ row_behind place rows) }
-    ensures read { IfOk result (λ next. IfSome (F.costs feed.old)
-        (λ costs. Becomes (RisesBetween (size_handed next out.new) (cost_between place (moved.place_at next) costs)) (F.octets_read feed.old) (F.octets_read feed.new))) }
-    ensures stays { Stays F.tells F.costs F.kept F.chip F.faults feed.old feed.new result }
+    ensures reads { ReadsRows F.tells F.costs F.kept F.chip F.octets_read F.faults feed.old feed.new result (λ next. size_handed next out.new) (λ next. cost_between place (moved.place_at next)) }
 {
     match place {
         Place::At { stamp } => feed.next_row(stamp, out),

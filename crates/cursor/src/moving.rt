@@ -1,12 +1,11 @@
 // The moves that hand out no row.
-ghost use Rattle.std.specs.Prelude.{◌≡◌, List, IfOk, IfSome, OnErr};
-ghost use Rattle.eeprom.specs.Chip.{Becomes};
+ghost use Rattle.std.specs.Prelude.{◌≡◌, List, IfOk, OnErr};
 ghost use Rattle.scql_base.specs.declared.cursor.Cursor.{Cursor};
 ghost use Rattle.scql_model.specs.Moves.{first_row, row_behind, moved_to, went_to};
 ghost use Rattle.scql_model.specs.Objects.{StampedRow};
 ghost use Rattle.scql_model.specs.ReadBound.{place_reached};
-ghost use Rattle.cursor.specs.Costs.{RisesBetween, cost_between};
-ghost use Rattle.cursor.specs.Feed.{Stays};
+ghost use Rattle.cursor.specs.Costs.{cost_between};
+ghost use Rattle.cursor.specs.Feed.{ReadsRows};
 ghost use Rattle.cursor.specs.Moved as moved;
 
 use crate::RowFeed;
@@ -18,9 +17,7 @@ pub fn first<F: RowFeed>(feed: &mut F, place: &mut Place) -> Result<StatusWord, 
     ensures moved { IfOk result (λ word. (rows : List StampedRow) → F.tells feed.old rows → moved.AreStamped rows
         → (c : Cursor) → moved_to place.new c word ≡ went_to c (first_row rows)) }
     ensures fault { OnErr result (place.new ≡ place.old) }
-    ensures read { IfOk result (λ _. IfSome (F.costs feed.old)
-        (λ costs. Becomes (RisesBetween 0 (cost_between (Place.At 0) place.new costs)) (F.octets_read feed.old) (F.octets_read feed.new))) }
-    ensures stays { Stays F.tells F.costs F.kept F.chip F.faults feed.old feed.new result }
+    ensures reads { ReadsRows F.tells F.costs F.kept F.chip F.octets_read F.faults feed.old feed.new result (λ _. 0) (λ _. cost_between (Place.At 0) place.new) }
 {
     *place = place_behind(feed, Place::At { stamp: 0 })?;
     Ok(word_at(*place))
@@ -31,9 +28,7 @@ pub fn step<F: RowFeed>(feed: &mut F, place: &mut Place) -> Result<StatusWord, E
     ensures moved { IfOk result (λ word. (rows : List StampedRow) → F.tells feed.old rows
         → (c : Cursor) → moved_to place.new c word ≡ went_to c (row_behind place.old rows)) }
     ensures fault { OnErr result (place.new ≡ place.old) }
-    ensures read { IfOk result (λ _. IfSome (F.costs feed.old)
-        (λ costs. Becomes (RisesBetween 0 (cost_between place.old place.new costs)) (F.octets_read feed.old) (F.octets_read feed.new))) }
-    ensures stays { Stays F.tells F.costs F.kept F.chip F.faults feed.old feed.new result }
+    ensures reads { ReadsRows F.tells F.costs F.kept F.chip F.octets_read F.faults feed.old feed.new result (λ _. 0) (λ _. cost_between place.old place.new) }
 {
     *place = place_behind(feed, *place)?;
     Ok(word_at(*place))
@@ -42,9 +37,7 @@ pub fn step<F: RowFeed>(feed: &mut F, place: &mut Place) -> Result<StatusWord, E
 // The place of the next row, or the end where there is none. Where a cursor isn't opened there is none.
 fn place_behind<F: RowFeed>(feed: &mut F, place: Place) -> Result<Place, EepromFault>
     ensures reached { IfOk result (λ reached. (rows : List StampedRow) → F.tells feed.old rows → reached ≡ place_reached (row_behind place rows)) }
-    ensures read { IfOk result (λ reached. IfSome (F.costs feed.old)
-        (λ costs. Becomes (RisesBetween 0 (cost_between place reached costs)) (F.octets_read feed.old) (F.octets_read feed.new))) }
-    ensures stays { Stays F.tells F.costs F.kept F.chip F.faults feed.old feed.new result }
+    ensures reads { ReadsRows F.tells F.costs F.kept F.chip F.octets_read F.faults feed.old feed.new result (λ _. 0) (λ reached. cost_between place reached) }
 {
     match place {
         Place::At { stamp } => {

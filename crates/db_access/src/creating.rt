@@ -12,8 +12,7 @@ ghost use Rattle.scql_model.specs.Creating as model;
 ghost use Rattle.scql_model.specs.Creating.{IsActorOf, actor_stamp, may_create, user_added};
 ghost use Rattle.scql_model.specs.WellFormed.{HasForm};
 ghost use Rattle.catalog_codec.specs.Catalog.{user_kind};
-ghost use Rattle.record_table.specs.Listed.{slots_of};
-ghost use Rattle.record_table.specs.Asking.{Asks};
+ghost use Rattle.record_table.specs.Asking.{Asks, octets_so_far, slots_asked};
 ghost use Rattle.record_table.specs.Tagged.{cells_tagged};
 ghost use Rattle.row_table.specs.Tables.{Ended, InTransaction};
 
@@ -21,7 +20,7 @@ use eeprom::{Eeprom, EepromFault};
 use record_store::{Side, SideReader};
 use record_table::{Stop, next_stamp};
 use row_table::Tables;
-use scql_base::{Actor, Name, Octets, Profile, StatusWord, User};
+use scql_base::{Actor, Copied, Name, Octets, Profile, StatusWord, User};
 use user_table::find_name;
 
 /// Makes a user for an actor, on the working side. Where it is refused, nothing is done.
@@ -88,13 +87,13 @@ fn owner_for(actor: Actor, profile: Profile) -> Option<u32>
 
 // Whether a user has the name, or it is PUBLIC.
 fn is_taken<B: Eeprom>(reader: &mut SideReader<'_, '_, B>, name: &Name) -> Result<bool, EepromFault>
-    ensures octets_read { IfOk result (λ _. IfSome (slots_of reader.old.store.now reader.old.side (B.chip reader.old.bench.now))
-        (λ slots. Becomes (RisesAtMost (cell_size * cells_tagged user_kind (Some (by.Name (tags.name_tag name.now))) slots)) (B.octets_read reader.old.bench.now) (B.octets_read reader.new.bench.now))) }
+    ensures octets_read { IfOk result (λ _. IfSome (slots_asked reader.old)
+        (λ slots. Becomes (RisesAtMost (cell_size * cells_tagged user_kind (Some (by.Name (tags.name_tag name.now))) slots)) (octets_so_far reader.old) (octets_so_far reader.new))) }
     ensures asks { Asks each_error (λ db result. IfOk result (λ taken. taken ≡ model.is_taken db name.now)) reader.old reader.new result }
 {
     if name.octets() == Name::PUBLIC {
         return Ok(true);
     }
-    let user = find_name(reader.store, reader.bench, reader.side, name.copy())?;
+    let user = find_name(reader, name.copy())?;
     Ok(user.is_some())
 }

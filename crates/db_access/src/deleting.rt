@@ -9,8 +9,8 @@ ghost use Rattle.scql_model.specs.Database.{Database};
 ghost use Rattle.scql_model.specs.Users as users;
 ghost use Rattle.scql_model.specs.Users.{removing_user, user_deleted};
 ghost use Rattle.catalog_codec.specs.Catalog.{user_kind};
-ghost use Rattle.record_table.specs.Listed.{at_slot, slots_of};
-ghost use Rattle.record_table.specs.Asking.{Asks, Holds};
+ghost use Rattle.record_table.specs.Listed.{at_slot};
+ghost use Rattle.record_table.specs.Asking.{Asks, Holds, slots_asked};
 ghost use Rattle.record_table.specs.Making.{IsHeld, is_stop_fault};
 ghost use Rattle.row_table.specs.Tables.{Ended, InTransaction};
 ghost use Rattle.db_access.specs.Asked.{AnswersNamed};
@@ -53,11 +53,11 @@ fn find_to_delete<B: Eeprom>(
     name: Name,
 ) -> Result<Found<User>, Stop>
     ensures there { IfOk result (λ user. user.slot < reader.old.store.now.chains.cells) }
-    ensures at { IfOk result (λ user. IfSome (slots_of reader.old.store.now reader.old.side (B.chip reader.old.bench.now)) (λ slots. Some user.value ≡ at_slot user_kind user.slot slots)) }
+    ensures at { IfOk result (λ user. IfSome (slots_asked reader.old) (λ slots. Some user.value ≡ at_slot user_kind user.slot slots)) }
     ensures named { (db : Database) → Holds reader.old db → IfOk result (λ user. model.user_named db.users name ≡ Some user.value) }
     ensures asks { Asks is_stop_fault (λ db. AnswersNamed (λ user. removing_user db user.value) (user_deleted db actor name)) reader.old reader.new result }
 {
-    let Some(user) = find_name(reader.store, reader.bench, reader.side, name)? else {
+    let Some(user) = find_name(reader, name)? else {
         return refused(StatusWord::NOT_FOUND);
     };
     if !is_owned_by(actor, user.value.owner) {
@@ -98,7 +98,7 @@ fn owns_users<B: Eeprom>(
 ) -> Result<bool, EepromFault>
     ensures { Asks each_error (λ db result. IfOk result (λ owns. owns ≡ list_any (is_user_of stamp) db.users)) reader.old reader.new result }
 {
-    Ok(find_by(reader.store, reader.bench, reader.side, &UserOf(stamp))?.is_some())
+    Ok(find_by(reader, &UserOf(stamp))?.is_some())
 }
 
 // Whether the user of a stamp owns an object.
@@ -108,7 +108,7 @@ fn owns_objects<B: Eeprom>(
 ) -> Result<bool, EepromFault>
     ensures { Asks each_error (λ db result. IfOk result (λ owns. owns ≡ list_any (is_object_of stamp) db.objects)) reader.old reader.new result }
 {
-    Ok(find_by(reader.store, reader.bench, reader.side, &ObjectOf(stamp))?.is_some())
+    Ok(find_by(reader, &ObjectOf(stamp))?.is_some())
 }
 
 // The users whom the user of a stamp owns.

@@ -31,13 +31,7 @@ pub fn grant<B: Eeprom>(
         side: Side::Working,
     };
     let pair = find_named(&mut reader, actor, object, grantee)?;
-    let held = find_pair(
-        &tables.store,
-        bench,
-        Side::Working,
-        pair.object.stamp,
-        pair.grantee,
-    )?;
+    let held = find_pair(&mut reader, pair.object.stamp, pair.grantee)?;
     if let Some(found) = held {
         let more = with_privileges(&found.value, both(found.value.privileges, privileges));
         return tables.change_in_place(bench, found.slot, &more);

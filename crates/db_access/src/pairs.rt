@@ -47,7 +47,7 @@ fn find_owned<B: Eeprom>(
 ) -> Result<Object, Stop>
     ensures { Asks is_stop_fault (λ db. AnswersNamed (λ object. object) (owned_by actor (seen_named db actor name))) reader.old reader.new result }
 {
-    let Some(found) = find_seen(reader.store, reader.bench, reader.side, actor, name)? else {
+    let Some(found) = find_seen(reader, actor, name)? else {
         return refused(StatusWord::NOT_FOUND);
     };
     if !is_owned_by(actor, found.value.owner) {
@@ -63,7 +63,7 @@ fn find_grantee<B: Eeprom>(reader: &mut SideReader<'_, '_, B>, name: Name) -> Re
     if name.octets() == Name::PUBLIC {
         return Ok(0);
     }
-    match find_name(reader.store, reader.bench, reader.side, name)? {
+    match find_name(reader, name)? {
         Some(found) => Ok(found.value.stamp),
         None => refused(StatusWord::NOT_FOUND),
     }

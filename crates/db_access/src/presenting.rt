@@ -17,7 +17,7 @@ ghost use Rattle.record_table.specs.Tagged.{cells_tagged};
 ghost use Rattle.db_access.specs.Presenting.{session_presented};
 
 use eeprom::{Eeprom, EepromFault};
-use record_store::{Found, Side, Store};
+use record_store::{Found, Side, SideReader, Store};
 use scql_base::Name;
 use user_table::find_name;
 
@@ -46,7 +46,12 @@ pub fn present<B: Eeprom>(
     if name.octets() == Name::PUBLIC {
         return Ok(Presented::Public);
     }
-    let found = find_name(store, bench, Side::Committed, name)?;
+    let mut reader = SideReader {
+        store,
+        bench,
+        side: Side::Committed,
+    };
+    let found = find_name(&mut reader, name)?;
     match found {
         Some(Found { value: user, .. }) => Ok(Presented::User {
             stamp: user.stamp,

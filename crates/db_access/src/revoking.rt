@@ -31,14 +31,7 @@ pub fn revoke<B: Eeprom>(
         side: Side::Working,
     };
     let pair = find_named(&mut reader, actor, object, grantee)?;
-    let Some(found) = find_pair(
-        &tables.store,
-        bench,
-        Side::Working,
-        pair.object.stamp,
-        pair.grantee,
-    )?
-    else {
+    let Some(found) = find_pair(&mut reader, pair.object.stamp, pair.grantee)? else {
         return refused(StatusWord::NOT_FOUND);
     };
     match left_of(&found.value, privileges) {

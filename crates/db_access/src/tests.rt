@@ -1,10 +1,11 @@
 // Users are presented and verified over a card's image in memory.
-ghost use Rattle.std.specs.Prelude.{◌≡◌, IsTrue, OnOk, false};
+ghost use Rattle.std.specs.Prelude.{IsTrue, OnOk, false};
 ghost use Rattle.record_store.specs.Held.{IsOver};
+ghost use Rattle.record_table.specs.AtRest.{IsIdleOver};
 
 use crate::{Presented, present, verify};
 use eeprom::{Eeprom, FaultPlan, MemBench};
-use record_store::{Side, Store, StoreRefusal};
+use record_store::{Side, SideReader, Store, StoreRefusal};
 use record_table::add;
 use scql_base::{Name, Octets, Profile, User};
 use std::alloc::{AllocError, Global};
@@ -37,8 +38,7 @@ fn made(alloc: Global) -> Result<MemBench, AllocError> {
 
 // Begins a transaction, and puts a user into an empty slot.
 fn add_user<B: Eeprom>(store: &mut Store, bench: &mut B, user: &User) -> Result<u16, StoreRefusal>
-    requires idle { store.old.begun ≡ false }
-    requires over { IsOver store.old (B.chip bench.old) }
+    requires rests { IsIdleOver store.old (B.chip bench.old) }
     ensures begun { OnOk result (IsTrue store.new.begun) }
     ensures over { OnOk result (IsOver store.new (B.chip bench.new)) }
 {
@@ -134,7 +134,12 @@ fn tries_in(alloc: Global, image: Vec<u8>) -> Result<Option<u8>, AllocError> {
     let Ok(store) = Store::open(alloc, &mut bench) else {
         return Ok(None);
     };
-    match find_stamp(&store, &mut bench, Side::Committed, 2) {
+    let mut reader = SideReader {
+        store: &store,
+        bench: &mut bench,
+        side: Side::Committed,
+    };
+    match find_stamp(&mut reader, 2) {
         Ok(Some(anna)) => Ok(Some(anna.value.tries)),
         _ => Ok(None),
     }

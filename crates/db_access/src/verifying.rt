@@ -1,8 +1,11 @@
 // VERIFY.
-ghost use Rattle.std.specs.Prelude.{◌≡◌, ◌+◌, ◌-◌, ◌<◌, [], ◌∷◌, Some, false, drop, IfOk, IsErrOf, OnOk};
+ghost use Rattle.std.specs.Prelude.{◌≡◌, ◌+◌, ◌-◌, ◌<◌, [], ◌∷◌, Some, drop, IfOk, IfSome, IsErrOf, OnOk, option_map};
+ghost use Rattle.std.specs.List.{find};
 ghost use Rattle.std.specs.Str.{bytes_eq};
 ghost use Rattle.eeprom.specs.Chip.{Becomes, Keeps, RisesAtMost};
-ghost use Rattle.eeprom.specs.Fault.{Counts, CountsFaults};
+ghost use Rattle.eeprom.specs.Fault.{Counts, CountsFaults, each_error};
+ghost use Rattle.eeprom.specs.Frame.{Reads};
+ghost use Rattle.eeprom.specs.Slots.{Rises, has};
 ghost use Rattle.eeprom.specs.StoreOf.{image_size};
 ghost use Rattle.record_store.specs.Held.{IsOver};
 ghost use Rattle.record_store.specs.declared.side.Side.{Side};
@@ -11,13 +14,14 @@ ghost use Rattle.scql_base.specs.Words.{done, tries_left};
 ghost use Rattle.scql_base.specs.declared.records.User.{User};
 ghost use Rattle.scql_model.specs.Database.{Database, user_stamped};
 ghost use Rattle.scql_model.specs.Step.{with_tries};
-ghost use Rattle.record_table.specs.AtRest.{IsAtRest, LeavesOneOf, LeavesOnce};
-ghost use Rattle.record_table.specs.Listed.{slots_of};
+ghost use Rattle.catalog_codec.specs.Catalog.{user_kind};
+ghost use Rattle.record_table.specs.AtRest.{IsAtRest, IsIdleOver, LeavesOnce, LeavesOneOf};
+ghost use Rattle.record_table.specs.Listed.{at_slot, listed, slots_of};
 ghost use Rattle.record_table.specs.Making.{GoesOn, KeepsRows, is_stop_fault};
 ghost use Rattle.db_access.specs.Verifying.{HoldsSecret, Verifies, octets_for_verdict, verdict};
 
 use eeprom::{Eeprom, EepromFault};
-use record_store::{Found, Side, Store};
+use record_store::{Found, Side, SideReader, Store};
 use record_table::{Stop, commit_in_place};
 use scql_base::{StatusWord, User};
 use user_table::find_stamp;
@@ -29,8 +33,7 @@ pub fn verify<B: Eeprom>(
     user: u32,
     secret: &[u8],
 ) -> Result<StatusWord, EepromFault>
-    requires idle { store.old.begun ≡ false }
-    requires over { IsOver store.old (B.chip bench.old) }
+    requires rests { IsIdleOver store.old (B.chip bench.old) }
     ensures word { (db : Database) → HoldsSecret store.old (B.chip bench.old) db user → IfOk result (λ word. word ≡ (verdict db user secret.now).reply.word) }
     ensures rests { (db : Database) → HoldsSecret store.old (B.chip bench.old) db user → OnOk result (IsAtRest store.new (B.chip bench.new) (verdict db user secret.now).machine.committed) }
     // Whatever the user has, some database is held.
@@ -63,8 +66,7 @@ fn try_secret<B: Eeprom>(
     user: u32,
     secret: &[u8],
 ) -> Result<StatusWord, Stop>
-    requires idle { store.old.begun ≡ false }
-    requires over { IsOver store.old (B.chip bench.old) }
+    requires rests { IsIdleOver store.old (B.chip bench.old) }
     ensures verifies { (db : Database) → HoldsSecret store.old (B.chip bench.old) db user
         → Verifies db (verdict db user secret.now) (octets_for_verdict db user secret.now) result store.new (B.chip bench.old) (B.chip bench.new) }
     ensures lowered { (db : Database) (holder : User) → HoldsSecret store.old (B.chip bench.old) db user → user_stamped db.users user ≡ Some holder
@@ -80,7 +82,7 @@ fn try_secret<B: Eeprom>(
             slot,
             value: mut holder,
         },
-    ) = find_stamp(store, bench, Side::Committed, user)?
+    ) = find_committed(store, bench, user)?
     else {
         return Ok(StatusWord::CONDITIONS_NOT_SATISFIED);
     };
@@ -99,6 +101,27 @@ fn try_secret<B: Eeprom>(
     holder.tries = User::ALL_TRIES;
     commit_in_place(store, bench, slot, &holder)?;
     Ok(StatusWord::DONE)
+}
+
+// Finds the user of a stamp in the committed database.
+fn find_committed<B: Eeprom>(
+    store: &Store,
+    bench: &mut B,
+    user: u32,
+) -> Result<Option<Found<User>>, EepromFault>
+    requires over { IsOver store.now (B.chip bench.old) }
+    ensures there { IfOk result (λ found. IfSome found (λ found. found.slot < store.now.chains.cells)) }
+    ensures at { IfOk result (λ found. IfSome found (λ found. IfSome (slots_of store.now Committed (B.chip bench.old)) (λ slots. Some found.value ≡ at_slot user_kind found.slot slots))) }
+    ensures found { IfOk result (λ found. IfSome (slots_of store.now Committed (B.chip bench.old))
+        (λ slots. Rises user_kind.key (listed user_kind slots) → option_map (λ found. found.value) found ≡ find (has user_kind.key user) (listed user_kind slots))) }
+    ensures frame { Reads each_error B.chip B.faults bench.old bench.new result }
+{
+    let mut reader = SideReader {
+        store,
+        bench,
+        side: Side::Committed,
+    };
+    find_stamp(&mut reader, user)
 }
 
 // What a wrong secret answers, with so many tries left.

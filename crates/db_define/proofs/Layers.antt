@@ -5,8 +5,9 @@ use Rattle.std.specs.Option.{option_map_or}
 use Rattle.std.proofs.lemmas.Bool.{cases_Bool, le-ltb, lt-ltb, ltb-false, ltb-true}
 use Rattle.eeprom.specs.Chip.{Chip}
 use Rattle.eeprom.specs.Slots.{Rises}
+use Rattle.eeprom.specs.StoreOf.{Slots}
 use Rattle.record_store.specs.Held.{Held}
-use Rattle.record_store.specs.declared.side.Side.TheVariants.{Working}
+use Rattle.record_store.specs.declared.side.Side.{Side}
 use Rattle.scql_base.specs.declared.words.Actor.{Actor}
 use Rattle.scql_base.specs.declared.records.Object.{Object}
 use Rattle.scql_base.specs.declared.records.ObjectKind.{ObjectKind}
@@ -25,7 +26,6 @@ use Rattle.db_define.specs.Layers.{IsBase, layer_found, layer_of, reaches_table}
 use Rattle.db_define.specs.declared.base.Base.{Base}
 use Rattle.db_define.specs.declared.base.Layer.{Layer}
 use Rattle.db_define.specs.declared.base.Layer.TheVariants.{Table, View, Other}
-use Rattle.record_table.proofs.MadeLeft.{of-told}
 
 at-table : (n : ℕ) (objects : List Object) → reaches_table n objects Table ≡ true
 at-table zero objects = refl
@@ -74,10 +74,10 @@ not_at-table (View base) objects other = refl
 not_at-table Other objects other = refl
 
 -- the object that a search for a stamp finds is the database's
-pub stamped-held : (store : Held) (chip : Chip) (db : Database) (stamp : ℕ) (found : Option Object) → IsHeld store Working chip db
-    → IfSome (slots_of store Working chip) (λ slots. Rises object_kind.key (listed object_kind slots) → found ≡ object_stamped (listed object_kind slots) stamp) → found ≡ object_stamped db.objects stamp
-stamped-held store chip db stamp found held said =
-    let here = of-told store chip held.slots (λ slots. Rises object_kind.key (listed object_kind slots) → found ≡ object_stamped (listed object_kind slots) stamp) held.told said in
+pub stamped-held : (store : Held) (side : Side) (chip : Chip) (db : Database) (stamp : ℕ) (found : Option Object) → IsHeld store side chip db
+    → IfSome (slots_of store side chip) (λ slots. Rises object_kind.key (listed object_kind slots) → found ≡ object_stamped (listed object_kind slots) stamp) → found ≡ object_stamped db.objects stamp
+stamped-held store side chip db stamp found held said =
+    let here = subst (λ (o : Option Slots). IfSome o (λ slots. Rises object_kind.key (listed object_kind slots) → found ≡ object_stamped (listed object_kind slots) stamp)) held.told said in
     subst (λ (objects : List Object). Rises object_kind.key objects → found ≡ object_stamped objects stamp) held.holds.objects here held.valid.objects.rises
 
 -- the base that a name has

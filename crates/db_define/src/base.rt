@@ -1,24 +1,21 @@
 // On what a view rests.
-ghost use Rattle.std.specs.Prelude.{◌≡◌, ◌↔◌, Err, IfOk, IfSome, IsErrOf, IsSome, IsTrue};
+ghost use Rattle.std.specs.Prelude.{◌≡◌, ◌↔◌, IfOk, IfSome, IsSome, IsTrue, MatchResult};
 ghost use Rattle.eeprom.specs.Fault.{each_error};
-ghost use Rattle.eeprom.specs.Frame.{Reads};
-ghost use Rattle.record_store.specs.Held.{IsOver};
-ghost use Rattle.record_store.specs.declared.side.Side.TheVariants.{Working};
-ghost use Rattle.scql_base.specs.declared.words.StatusWord.{StatusWord};
-ghost use Rattle.scql_model.specs.Database.{Database, object_stamped};
+ghost use Rattle.scql_model.specs.Database.{object_stamped};
 ghost use Rattle.scql_model.specs.Defining.{is_table_or_view, of_kind, owned_by};
 ghost use Rattle.scql_model.specs.Objects.{columns_of};
 ghost use Rattle.scql_model.specs.Rights.{seen_named};
-ghost use Rattle.record_table.specs.Making.{IsHeld, is_stop_fault};
+ghost use Rattle.record_table.specs.Asking.{Asks, IsStopOf};
+ghost use Rattle.record_table.specs.Making.{is_stop_fault};
 ghost use Rattle.db_define.specs.Layers as specs;
 ghost use Rattle.db_define.specs.Layers.{IsBase, layer_found, layer_under, reaches_table};
 
 use eeprom::{Eeprom, EepromFault};
 use object_table::find_stamp_into;
 use privilege_table::{find_seen_into, is_owned_by};
-use record_store::{Side, Store};
+use record_store::SideReader;
 use record_table::{Stop, refused};
-use scql_base::{Actor, Name, NameList, Object, ObjectKind, StatusWord};
+use scql_base::{Actor, Copied, Name, NameList, Object, ObjectKind, StatusWord};
 
 /// How deep a base may stand over its table, so that a view on it isn't too deep.
 const DEEPEST_BASE: usize = 3;
@@ -43,19 +40,14 @@ pub(crate) enum Layer {
 /// stand beside the view.
 #[inline(never)]
 pub(crate) fn find_base<B: Eeprom>(
-    store: &Store,
-    bench: &mut B,
+    reader: &mut SideReader<'_, '_, B>,
     actor: Actor,
     name: Name,
 ) -> Result<Base, Stop>
-    requires over { IsOver store.now (B.chip bench.old) }
-    ensures found { (db : Database) → IsHeld store.now Working (B.chip bench.old) db → IfOk result (IsBase db actor name) }
-    ensures refused { (db : Database) (word : StatusWord) → IsHeld store.now Working (B.chip bench.old) db → IsErrOf result (Stop.Refused word)
-        → owned_by actor (of_kind is_table_or_view (seen_named db actor name)) ≡ Err word }
-    ensures frame { Reads is_stop_fault B.chip B.faults bench.old bench.new result }
+    ensures { Asks is_stop_fault (λ db result. MatchResult result (IsBase db actor name) (IsStopOf (owned_by actor (of_kind is_table_or_view (seen_named db actor name))))) reader.old reader.new result }
 {
     let mut place = None;
-    find_seen_into(store, bench, Side::Working, actor, name, &mut place)?;
+    find_seen_into(reader, actor, name, &mut place)?;
     let Some(found) = &place else {
         return refused(StatusWord::NOT_FOUND);
     };
@@ -70,29 +62,27 @@ pub(crate) fn find_base<B: Eeprom>(
 
 /// Whether a view may rest on a layer: a table isn't too deep under it.
 pub(crate) fn is_shallow<B: Eeprom>(
-    store: &Store,
-    bench: &mut B,
+    reader: &mut SideReader<'_, '_, B>,
     layer: Layer,
 ) -> Result<bool, EepromFault>
-    requires over { IsOver store.now (B.chip bench.old) }
-    ensures shallow { (db : Database) → IsHeld store.now Working (B.chip bench.old) db → IfOk result (λ shallow. shallow ≡ reaches_table DEEPEST_BASE db.objects layer) }
-    ensures frame { Reads each_error B.chip B.faults bench.old bench.new result }
+    ensures { Asks each_error (λ db result. IfOk result (λ shallow. shallow ≡ reaches_table DEEPEST_BASE db.objects layer)) reader.old reader.new result }
 {
     let mut reached = layer;
     for _depth in 0..DEEPEST_BASE {
-        reached = find_under(store, bench, reached)?;
+        reached = find_under(reader, reached)?;
     }
     Ok(matches!(reached, Layer::Table))
 }
 
 // The layer under a view. All others stay.
-fn find_under<B: Eeprom>(store: &Store, bench: &mut B, layer: Layer) -> Result<Layer, EepromFault>
-    requires over { IsOver store.now (B.chip bench.old) }
-    ensures under { (db : Database) → IsHeld store.now Working (B.chip bench.old) db → IfOk result (λ under. under ≡ layer_under db.objects layer) }
-    ensures frame { Reads each_error B.chip B.faults bench.old bench.new result }
+fn find_under<B: Eeprom>(
+    reader: &mut SideReader<'_, '_, B>,
+    layer: Layer,
+) -> Result<Layer, EepromFault>
+    ensures { Asks each_error (λ db result. IfOk result (λ under. under ≡ layer_under db.objects layer)) reader.old reader.new result }
 {
     match layer {
-        Layer::View { base } => find_layer(store, bench, base),
+        Layer::View { base } => find_layer(reader, base),
         Layer::Table => Ok(Layer::Table),
         Layer::Other => Ok(Layer::Other),
     }
@@ -100,13 +90,14 @@ fn find_under<B: Eeprom>(store: &Store, bench: &mut B, layer: Layer) -> Result<L
 
 // The object of a stamp, if there is one. It isn't inlined either.
 #[inline(never)]
-fn find_layer<B: Eeprom>(store: &Store, bench: &mut B, stamp: u32) -> Result<Layer, EepromFault>
-    requires over { IsOver store.now (B.chip bench.old) }
-    ensures found { (db : Database) → IsHeld store.now Working (B.chip bench.old) db → IfOk result (λ layer. layer ≡ layer_found (object_stamped db.objects stamp)) }
-    ensures frame { Reads each_error B.chip B.faults bench.old bench.new result }
+fn find_layer<B: Eeprom>(
+    reader: &mut SideReader<'_, '_, B>,
+    stamp: u32,
+) -> Result<Layer, EepromFault>
+    ensures { Asks each_error (λ db result. IfOk result (λ layer. layer ≡ layer_found (object_stamped db.objects stamp))) reader.old reader.new result }
 {
     let mut place = None;
-    find_stamp_into(store, bench, Side::Working, stamp, &mut place)?;
+    find_stamp_into(reader, stamp, &mut place)?;
     match &place {
         Some(found) => Ok(layer_of(&found.kind)),
         None => Ok(Layer::Other),

@@ -1,5 +1,5 @@
 // What the operations have in common that drop objects.
-ghost use Rattle.std.specs.Prelude.{◌≡◌, ◌<◌, ◌≤◌, ◌+◌, ◌==◌, ◌||◌, Some, None, Err, IsTrue, IfOk, IfErr, IfSome, OnOk, count_by, slice_index_or, slice_set};
+ghost use Rattle.std.specs.Prelude.{◌≡◌, ◌<◌, ◌≤◌, ◌+◌, ◌==◌, ◌||◌, Some, None, Err, IfOk, IfErr, IfSome, OnOk, count_by, slice_index_or, slice_set};
 ghost use Rattle.std.specs.List.{list_any};
 ghost use Rattle.eeprom.specs.Fault.{each_error};
 ghost use Rattle.eeprom.specs.Frame.{Reads};
@@ -9,6 +9,8 @@ ghost use Rattle.record_store.specs.declared.side.Side.TheVariants.{Committed, W
 ghost use Rattle.scql_model.specs.Database.{Database};
 ghost use Rattle.scql_base.specs.declared.records.Object.{Object};
 ghost use Rattle.catalog_codec.specs.Catalog.{grant_kind};
+ghost use Rattle.record_table.specs.Asking.{Asks};
+ghost use Rattle.record_table.specs.Changed.{IsBegunOver};
 ghost use Rattle.record_table.specs.Listed.{slots_of};
 ghost use Rattle.record_table.specs.Making.{Ends, IsHeld, is_stop_fault};
 ghost use Rattle.db_define.specs.Dependent.{is_on, is_view_on};
@@ -19,7 +21,7 @@ ghost use Rattle.record_table.specs.Swept.{all_without, has_passing};
 use crate::dropped::{Dropped, ToDrop};
 use eeprom::{Eeprom, EepromFault};
 use privilege_table::{find_seen_into, is_owned_by};
-use record_store::{Side, Store, Tag};
+use record_store::{Side, SideReader, Store, Tag};
 use record_table::{Stop, Wanted, find_into, refused, remove, remove_each};
 use scql_base::{Actor, Grant, Name, Object, ObjectKind, StatusWord};
 
@@ -41,7 +43,12 @@ pub(crate) fn find_to_drop<B: Eeprom>(
     ensures frame { Reads is_stop_fault B.chip B.faults bench.old bench.new result }
 {
     let mut place = None;
-    let Some(slot) = find_seen_into(store, bench, Side::Working, actor, name, &mut place)? else {
+    let mut reader = SideReader {
+        store,
+        bench,
+        side: Side::Working,
+    };
+    let Some(slot) = find_seen_into(&mut reader, actor, name, &mut place)? else {
         return refused(StatusWord::NOT_FOUND);
     };
     let Some(object) = &place else {
@@ -53,7 +60,7 @@ pub(crate) fn find_to_drop<B: Eeprom>(
     if !is_owned_by(actor, object.owner) {
         return refused(StatusWord::SECURITY_NOT_SATISFIED);
     }
-    if is_viewed(store, bench, object.stamp)? {
+    if is_viewed(&mut reader, object.stamp)? {
         return refused(StatusWord::CONDITIONS_NOT_SATISFIED);
     }
     Ok(ToDrop {
@@ -69,8 +76,7 @@ pub(crate) fn remove_object<B: Eeprom>(
     slot: u16,
     stamp: u32,
 ) -> Result<(), EepromFault>
-    requires begun { IsTrue store.old.begun }
-    requires over { IsOver store.old (B.chip bench.old) }
+    requires open { IsBegunOver store.old (B.chip bench.old) }
     requires there { slot < store.old.chains.cells }
     ensures removed { OnOk result (IfSome (slots_of store.old Working (B.chip bench.old))
         (λ slots. slots_of store.new Working (B.chip bench.new) ≡ Some (all_without grant_kind (is_on stamp) (slice_set slots slot None)))) }
@@ -92,13 +98,11 @@ pub(crate) fn remove_object<B: Eeprom>(
 
 // Whether a view rests on the object of a stamp. It isn't inlined, so that the place of that view stands in no other frame.
 #[inline(never)]
-fn is_viewed<B: Eeprom>(store: &Store, bench: &mut B, stamp: u32) -> Result<bool, EepromFault>
-    requires over { IsOver store.now (B.chip bench.old) }
-    ensures viewed { (db : Database) → IsHeld store.now Working (B.chip bench.old) db → IfOk result (λ viewed. viewed ≡ list_any (λ (o : Object). is_view_on stamp o.kind) db.objects) }
-    ensures frame { Reads each_error B.chip B.faults bench.old bench.new result }
+fn is_viewed<B: Eeprom>(reader: &mut SideReader<'_, '_, B>, stamp: u32) -> Result<bool, EepromFault>
+    ensures { Asks each_error (λ db result. IfOk result (λ viewed. viewed ≡ list_any (λ (o : Object). is_view_on stamp o.kind) db.objects)) reader.old reader.new result }
 {
     let mut place = None;
-    find_into(store, bench, Side::Working, &ViewOn(stamp), &mut place)?;
+    find_into(reader, &ViewOn(stamp), &mut place)?;
     Ok(place.is_some())
 }
 

@@ -1,26 +1,24 @@
 // What the operations have in common that make objects.
-ghost use Rattle.std.specs.Prelude.{◌≡◌, ◌<◌, false, Some, Err, IfOk, IfErr, IfSome};
+ghost use Rattle.std.specs.Prelude.{◌≡◌, ◌<◌, false, Err, IfOk, IfErr};
 ghost use Rattle.std.specs.List.{list_any};
 ghost use Rattle.eeprom.specs.Fault.{each_error};
-ghost use Rattle.eeprom.specs.Frame.{Reads};
 ghost use Rattle.record_store.specs.Held.{IsOver};
 ghost use Rattle.record_store.specs.declared.side.Side.TheVariants.{Working};
 ghost use Rattle.scql_base.specs.declared.records.Object.{Object};
 ghost use Rattle.scql_model.specs.Database.{Database};
 ghost use Rattle.scql_model.specs.Defining as model;
 ghost use Rattle.scql_model.specs.Defining.{named_anew};
-ghost use Rattle.scql_model.specs.Edits.{stamps_end};
-ghost use Rattle.catalog_codec.specs.Catalog.{counter_kind};
 ghost use Rattle.object_table.specs.Named.{has_name};
-ghost use Rattle.record_table.specs.Listed.{at_slot, slots_of};
-ghost use Rattle.record_table.specs.Making.{Ends, IsHeld, is_stop_fault};
+ghost use Rattle.record_table.specs.Asking.{Asks};
+ghost use Rattle.record_table.specs.Making.{Ends, IsHeld};
+ghost use Rattle.record_table.specs.OneRecord.{FindsCounter};
 
 use catalog_codec::Counter;
 use eeprom::{Eeprom, EepromFault};
 use object_table::find_name_into;
-use record_store::{Found, Side, Store};
+use record_store::{Found, Side, SideReader, Store};
 use record_table::{Stop, next_stamp, refused};
-use scql_base::{Actor, Name, Profile, StatusWord};
+use scql_base::{Actor, Copied, Name, Profile, StatusWord};
 
 /// DB_O and DBOO make objects.
 pub(crate) fn makes_objects(actor: Actor) -> bool
@@ -43,16 +41,17 @@ pub(crate) fn find_new_stamp<B: Eeprom>(
     name: &Name,
 ) -> Result<Found<Counter>, Stop>
     requires over { IsOver store.now (B.chip bench.old) }
-    ensures there { IfOk result (λ counter. counter.slot < store.now.chains.cells) }
-    ensures left { IfOk result (λ counter. counter.value < stamps_end) }
-    ensures at { IfOk result (λ counter. IfSome (slots_of store.now Working (B.chip bench.old)) (λ slots. Some counter.value ≡ at_slot counter_kind counter.slot slots)) }
-    ensures next { (db : Database) → IsHeld store.now Working (B.chip bench.old) db → IfOk result (λ counter. counter.value ≡ db.next) }
+    ensures finds { FindsCounter B.chip B.faults store.now bench.old bench.new result }
     ensures free { (db : Database) → IsHeld store.now Working (B.chip bench.old) db → IfOk result (λ _. list_any (has_name name.now) db.objects ≡ false) }
     ensures refused { (db : Database) (o : Object) → IsHeld store.now Working (B.chip bench.old) db → o.name ≡ name.now
         → IfErr result (λ stop. Ends {T = Unit {0}} db (named_anew db o) (Err stop) store.now store.now (B.chip bench.old) (B.chip bench.new)) }
-    ensures frame { Reads is_stop_fault B.chip B.faults bench.old bench.new result }
 {
-    if is_taken(store, bench, name.copy())? {
+    let mut reader = SideReader {
+        store,
+        bench: &mut *bench,
+        side: Side::Working,
+    };
+    if is_taken(&mut reader, name.copy())? {
         return refused(StatusWord::ALREADY_EXISTS);
     }
     next_stamp(store, bench)
@@ -60,12 +59,10 @@ pub(crate) fn find_new_stamp<B: Eeprom>(
 
 // Whether an object has the name. It isn't inlined, so that the place of that object doesn't stand beside what is made.
 #[inline(never)]
-fn is_taken<B: Eeprom>(store: &Store, bench: &mut B, name: Name) -> Result<bool, EepromFault>
-    requires over { IsOver store.now (B.chip bench.old) }
-    ensures taken { (db : Database) → IsHeld store.now Working (B.chip bench.old) db → IfOk result (λ taken. taken ≡ list_any (has_name name) db.objects) }
-    ensures frame { Reads each_error B.chip B.faults bench.old bench.new result }
+fn is_taken<B: Eeprom>(reader: &mut SideReader<'_, '_, B>, name: Name) -> Result<bool, EepromFault>
+    ensures { Asks each_error (λ db result. IfOk result (λ taken. taken ≡ list_any (has_name name) db.objects)) reader.old reader.new result }
 {
     let mut place = None;
-    find_name_into(store, bench, Side::Working, name, &mut place)?;
+    find_name_into(reader, name, &mut place)?;
     Ok(place.is_some())
 }

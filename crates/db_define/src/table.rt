@@ -20,7 +20,7 @@ use eeprom::Eeprom;
 use privilege_table::actor_stamp;
 use record_table::{Stop, refused};
 use row_table::Tables;
-use scql_base::{Actor, Name, NameList, Object, ObjectKind, StatusWord};
+use scql_base::{Actor, Copied, Name, NameList, Object, ObjectKind, StatusWord};
 
 /// CREATE TABLE: adds a table with these columns, which the actor owns. It isn't inlined, so that other commands have no room for its places.
 #[inline(never)]

@@ -1,23 +1,22 @@
 // CREATE VIEW and DROP VIEW.
-ghost use Rattle.std.specs.Prelude.{◌≡◌, ◌≤◌, ℕ, List, Err, IfOk, IfErr, OnOk, length};
+ghost use Rattle.std.specs.Prelude.{◌≡◌, ◌≤◌, ℕ, List, MatchResult, OnOk, length};
 ghost use Rattle.std.specs.List.{list_all, list_any};
 ghost use Rattle.std.specs.Str.{bytes_eq};
-ghost use Rattle.eeprom.specs.Frame.{Reads};
-ghost use Rattle.record_store.specs.Held.{IsOver};
 ghost use Rattle.record_store.specs.declared.side.Side.TheVariants.{Working};
 ghost use Rattle.scql_base.specs.declared.operation.Operation.TheVariants as operation;
 ghost use Rattle.scql_base.specs.declared.operation.TheConstants.Command.{LONGEST_DATA};
 ghost use Rattle.scql_base.specs.declared.records.ObjectKind.TheVariants.{View};
 ghost use Rattle.scql_model.specs.Creating as creating;
 ghost use Rattle.scql_model.specs.Creating.{IsActorOf};
-ghost use Rattle.scql_model.specs.Database.{Database, are_among, are_named_among};
+ghost use Rattle.scql_model.specs.Database.{are_among, are_named_among};
 ghost use Rattle.scql_model.specs.Defining.{named_anew, new_object, view_created, view_dropped};
 ghost use Rattle.scql_model.specs.ReadingCommands as model;
 ghost use Rattle.scql_model.specs.Records as records;
 ghost use Rattle.scql_model.specs.WellFormed.{HasForm};
 ghost use Rattle.catalog_codec.specs.Catalog.{object_kind};
 ghost use Rattle.catalog_codec.specs.Kinds.{FitsChain};
-ghost use Rattle.record_table.specs.Making.{Ends, IsHeld, KeepsRows, is_stop_fault};
+ghost use Rattle.record_table.specs.Asking.{Asks, IsStopOf};
+ghost use Rattle.record_table.specs.Making.{KeepsRows, is_stop_fault};
 ghost use Rattle.record_table.specs.Listed.{slots_of};
 ghost use Rattle.row_table.specs.Tables.{Ended, InTransaction};
 
@@ -27,10 +26,10 @@ use crate::dropping::{find_to_drop, remove_object};
 use crate::making::{find_new_stamp, makes_objects};
 use eeprom::Eeprom;
 use privilege_table::actor_stamp;
-use record_store::Store;
+use record_store::{Side, SideReader};
 use record_table::{Stop, refused};
 use row_table::Tables;
-use scql_base::{Actor, Conditions, Name, NameList, Object, ObjectKind, StatusWord};
+use scql_base::{Actor, Conditions, Copied, Name, NameList, Object, ObjectKind, StatusWord};
 
 /// CREATE VIEW: adds a view that the actor owns, on a table or a view that the actor owns too. With no columns it shows all of its base.
 /// It isn't inlined, so that other commands have no room for its places.
@@ -50,7 +49,12 @@ pub fn create_view<B: Eeprom>(
         (λ db. view_created db actor name base columns.now conditions.now) bench.old bench.new tables.old tables.new result }
     ensures rows { OnOk result (KeepsRows (slots_of tables.old.store Working (B.chip bench.old)) (slots_of tables.new.store Working (B.chip bench.new))) }
 {
-    let base = find_view_base(&tables.store, bench, actor, base, columns, conditions)?;
+    let mut reader = SideReader {
+        store: &tables.store,
+        bench: &mut *bench,
+        side: Side::Working,
+    };
+    let base = find_view_base(&mut reader, actor, base, columns, conditions)?;
     let counter = find_new_stamp(&tables.store, bench, &name)?;
     let view = new_view(counter.value.next, name, actor, &base, columns, conditions);
     tables.make(bench, &counter, &view)
@@ -76,25 +80,21 @@ pub fn drop_view<B: Eeprom>(
 // what is done with the view.
 #[inline(never)]
 fn find_view_base<B: Eeprom>(
-    store: &Store,
-    bench: &mut B,
+    reader: &mut SideReader<'_, '_, B>,
     actor: Actor,
     base: Name,
     columns: &NameList,
     conditions: &Conditions,
 ) -> Result<Base, Stop>
-    requires over { IsOver store.now (B.chip bench.old) }
-    ensures found { (db : Database) (name : List ℕ) → IsHeld store.now Working (B.chip bench.old) db
-        → IfOk result (λ found. named_anew db (new_object db actor name (View found.stamp (model.wanted_of found.columns columns.now) conditions.now)) ≡ view_created db actor name base columns.now conditions.now) }
-    ensures refused { (db : Database) (name : List ℕ) → IsHeld store.now Working (B.chip bench.old) db
-        → IfErr result (λ stop. Ends {T = Unit {0}} db (view_created db actor name base columns.now conditions.now) (Err stop) store.now store.now (B.chip bench.old) (B.chip bench.new)) }
-    ensures frame { Reads is_stop_fault B.chip B.faults bench.old bench.new result }
+    ensures { Asks is_stop_fault (λ db result. (name : List ℕ) → MatchResult result
+        (λ found. named_anew db (new_object db actor name (View found.stamp (model.wanted_of found.columns columns.now) conditions.now)) ≡ view_created db actor name base columns.now conditions.now)
+        (IsStopOf (view_created db actor name base columns.now conditions.now))) reader.old reader.new result }
 {
     if !makes_objects(actor) {
         return refused(StatusWord::SECURITY_NOT_SATISFIED);
     }
-    let base = find_base(store, bench, actor, base)?;
-    if !is_shallow(store, bench, base.layer)? {
+    let base = find_base(reader, actor, base)?;
+    if !is_shallow(reader, base.layer)? {
         return refused(StatusWord::CONDITIONS_NOT_SATISFIED);
     }
     if !has_columns(&base.columns, columns, conditions) {

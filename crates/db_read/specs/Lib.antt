@@ -3,6 +3,7 @@ pub mod Answered
 pub mod Chosen
 pub mod Costs
 pub mod Motion
+pub mod ReadRows
 pub mod Reader
 pub mod Scan
 pub mod Searched

@@ -22,8 +22,9 @@ use crate::finding::find_selected;
 use crate::reader::Reader;
 use crate::scan::{Choice, Scan};
 use eeprom::{Eeprom, EepromFault};
+use record_store::SideReader;
 use record_table::{Stop, refused};
-use scql_base::{Actor, Cursor, NameList, Object, ObjectKind, StatusWord};
+use scql_base::{Actor, Copied, Cursor, NameList, Object, ObjectKind, StatusWord};
 use search_cond::{Bound, bind_into};
 use views::{Places, Resolved, places_of, resolve_into};
 
@@ -83,7 +84,12 @@ pub fn resolve<B: Eeprom>(
 {
     let columns = match &object.kind {
         ObjectKind::View { .. } => {
-            return resolve_into(reader.store, reader.bench, reader.side, object, resolved);
+            let mut side = SideReader {
+                store: reader.store,
+                bench: &mut *reader.bench,
+                side: reader.side,
+            };
+            return resolve_into(&mut side, object, resolved);
         }
         ObjectKind::Table { columns } => columns.copy(),
         ObjectKind::Dictionary { subject } => dictionaries::columns_of(*subject),

@@ -2,7 +2,7 @@
 ghost use Rattle.std.specs.Prelude.{◌≡◌};
 ghost use Rattle.scql_model.specs.Objects as objects;
 
-use scql_base::{NameList, ObjectKind};
+use scql_base::{Copied, NameList, ObjectKind};
 
 /// The columns of a table, a view or a dictionary.
 pub(crate) fn columns_of(kind: &ObjectKind) -> NameList

@@ -23,7 +23,7 @@ use crate::finding::find_named;
 use crate::reader::Reader;
 use eeprom::{Eeprom, EepromFault};
 use record_table::{Stop, refused};
-use scql_base::{Actor, Conditions, Cursor, Name, NameList, Place, StatusWord};
+use scql_base::{Actor, Conditions, Copied, Cursor, Name, NameList, Place, StatusWord};
 
 /// DECLARE CURSOR: the cursor is on an object, shows these columns or all, and chooses rows by these conditions.
 pub fn declare<B: Eeprom>(

@@ -7,6 +7,7 @@ ghost use Rattle.eeprom.specs.StoreOf.{cell_size};
 ghost use Rattle.scql_model.specs.Database.{Database};
 ghost use Rattle.scql_model.specs.Rights as model;
 ghost use Rattle.scql_model.specs.Rights.{seen_named, seen_stamped};
+ghost use Rattle.record_table.specs.Asking.{Holds, SameSide, octets_so_far, slots_asked};
 ghost use Rattle.record_table.specs.Making.{is_stop_fault};
 ghost use Rattle.record_table.specs.Reading.{NeverFalls};
 ghost use Rattle.db_read.specs.Answered.{Stops, WhereRead, selectable};
@@ -17,6 +18,7 @@ use crate::reader::Reader;
 use eeprom::Eeprom;
 use object_table::{find_name_into, find_stamp_into};
 use privilege_table::{Privilege, rights_on};
+use record_store::SideReader;
 use record_table::{Stop, refused};
 use scql_base::{Actor, Name, Object, StatusWord};
 
@@ -35,8 +37,13 @@ pub fn find_selected<B: Eeprom>(
     ensures rises { WhereRead result (NeverFalls (slots_read reader.old) (read_so_far reader.old) (read_so_far reader.new)) }
     ensures reads { ReadsOn is_stop_fault reader.old reader.new result }
 {
-    find_stamp_into(reader.store, reader.bench, reader.side, stamp, place)?;
-    select(reader, actor, place)?;
+    let mut side = SideReader {
+        store: reader.store,
+        bench: &mut *reader.bench,
+        side: reader.side,
+    };
+    find_stamp_into(&mut side, stamp, place)?;
+    select(&mut side, actor, place)?;
     Ok(())
 }
 
@@ -53,30 +60,36 @@ pub(crate) fn find_named<'a, B: Eeprom>(
         → WhereRead result (Becomes (RisesAtMost (cell_size * cells_named db actor name)) (read_so_far reader.old) (read_so_far reader.new)) }
     ensures reads { ReadsOn is_stop_fault reader.old reader.new result }
 {
-    find_name_into(reader.store, reader.bench, reader.side, name, place)?;
-    select(reader, actor, place)
+    let mut side = SideReader {
+        store: reader.store,
+        bench: &mut *reader.bench,
+        side: reader.side,
+    };
+    find_name_into(&mut side, name, place)?;
+    select(&mut side, actor, place)
 }
 
 // The object that was found, if the actor may select from it, or the first refusal.
 fn select<'a, B: Eeprom>(
-    reader: &mut Reader<'_, B>,
+    reader: &mut SideReader<'_, '_, B>,
     actor: Actor,
     found: &'a Option<Object>,
 ) -> Result<&'a Object, Stop>
-    ensures found { (db : Database) → ReadsFrom reader.old db
+    ensures found { (db : Database) → Holds reader.old db
         → IfOk result (λ object. selectable db actor (option_filter (model.appears db actor) found.now) ≡ Ok object.now) }
-    ensures refused { (db : Database) → ReadsFrom reader.old db
+    ensures refused { (db : Database) → Holds reader.old db
         → IfErr result (Stops (selectable db actor (option_filter (model.appears db actor) found.now))) }
     ensures there { IfOk result (λ object. found.now ≡ Some object.now) }
-    ensures octets_read { (db : Database) → ReadsFrom reader.old db
-        → WhereRead result (Becomes (RisesAtMost (cell_size * rights_cells db actor found.now)) (read_so_far reader.old) (read_so_far reader.new)) }
-    ensures rises { WhereRead result (NeverFalls (slots_read reader.old) (read_so_far reader.old) (read_so_far reader.new)) }
-    ensures reads { ReadsOn is_stop_fault reader.old reader.new result }
+    ensures octets_read { (db : Database) → Holds reader.old db
+        → WhereRead result (Becomes (RisesAtMost (cell_size * rights_cells db actor found.now)) (octets_so_far reader.old) (octets_so_far reader.new)) }
+    ensures rises { WhereRead result (NeverFalls (slots_asked reader.old) (octets_so_far reader.old) (octets_so_far reader.new)) }
+    ensures goes_on { SameSide reader.old reader.new }
+    ensures frame { Reads is_stop_fault B.chip B.faults reader.old.bench.now reader.new.bench.now result }
 {
     let Some(object) = found else {
         return refused(StatusWord::NOT_FOUND);
     };
-    let rights = rights_on(reader.store, reader.bench, reader.side, actor, object)?;
+    let rights = rights_on(reader, actor, object)?;
     if !rights.see() {
         return refused(StatusWord::NOT_FOUND);
     }

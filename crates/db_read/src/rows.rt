@@ -1,10 +1,7 @@
 // The rows of a table that a cursor chooses, found by the index and read one at a time.
-ghost use Rattle.std.specs.Prelude.{◌≡◌, ◌<◌, ◌==◌, ◌*◌, ℕ, List, None, IfOk, IfSome, IsTrue, if◌then◌else◌, option_map, slice_index_or};
+ghost use Rattle.std.specs.Prelude.{◌≡◌, ◌<◌, ◌==◌, ◌*◌, ℕ, List, None, IfOk, IsTrue, if◌then◌else◌, option_map, slice_index_or};
 ghost use Rattle.std.specs.List.{find};
 ghost use Rattle.std.proofs.lemmas.Map.Entries.{option_filter};
-ghost use Rattle.eeprom.specs.Chip.{Becomes};
-ghost use Rattle.eeprom.specs.Fault.{each_error};
-ghost use Rattle.eeprom.specs.Frame.{Reads};
 ghost use Rattle.eeprom.specs.Slots.{has};
 ghost use Rattle.eeprom.specs.StoreOf.{cell_size};
 ghost use Rattle.record_store.specs.Held.{StandsFor, record_at};
@@ -16,11 +13,11 @@ ghost use Rattle.record_table.specs.Listed.{at_slot, has_kind_mark, kind_cells, 
 ghost use Rattle.row_index.specs.Index.{WhereIndexed};
 ghost use Rattle.row_index.specs.Places.{is_later_in, place_stamp, row_places};
 ghost use Rattle.row_table.specs.Found.{is_row_after};
-ghost use Rattle.cursor.specs.Costs.{RisesBetween, cost_behind, cost_of, size_handed};
+ghost use Rattle.cursor.specs.Costs.{cost_behind, cost_of, size_handed};
 ghost use Rattle.cursor.specs.Moved.{handed, row_handed};
-ghost use Rattle.db_read.specs.Chosen.{IsNextShown, costs_shown, rows_shown};
-ghost use Rattle.db_read.specs.Costs.{cost_passed, cost_reached, least_of, row_costs, row_read};
-ghost use Rattle.db_read.specs.Reader.{read_so_far, ReadsOn, slots_read};
+ghost use Rattle.db_read.specs.Chosen.{IsNextShown};
+ghost use Rattle.db_read.specs.Costs.{cost_passed, cost_reached, row_costs};
+ghost use Rattle.db_read.specs.ReadRows.{ReadsRow, ReadsShown};
 
 use crate::chosen::{Chosen, cut_into};
 use crate::reader::Reader;
@@ -39,11 +36,7 @@ pub(crate) fn next_chosen<B: Eeprom>(
     stamp: u32,
     room: &mut RowRoom,
 ) -> Result<Option<u32>, EepromFault>
-    ensures next { IfOk result (λ next. IfSome (rows_shown chosen.now (slots_read reader.old))
-        (λ rows. next ≡ option_map (λ row. row.stamp) (moves.row_behind (Place.At stamp) rows))) }
-    ensures octets_read { IfOk result (λ next. IfSome (costs_shown chosen.now (slots_read reader.old))
-        (λ costs. Becomes (RisesBetween 0 (cost_behind stamp next costs)) (read_so_far reader.old) (read_so_far reader.new))) }
-    ensures reads { ReadsOn each_error reader.old reader.new result }
+    ensures { ReadsShown chosen.now (λ next rows. next ≡ option_map (λ row. row.stamp) (moves.row_behind (Place.At stamp) rows)) (λ _. 0) (cost_behind stamp) reader.old reader.new result }
 {
     if chosen.shows_all() {
         Ok(stamp_behind(
@@ -67,11 +60,7 @@ pub(crate) fn next_chosen_row<B: Eeprom>(
     out: &mut Row,
     room: &mut RowRoom,
 ) -> Result<Option<u32>, EepromFault>
-    ensures next { IfOk result (λ next. IfSome (rows_shown chosen.now (slots_read reader.old))
-        (λ rows. row_handed next out.new ≡ moves.row_behind (Place.At stamp) rows)) }
-    ensures octets_read { IfOk result (λ next. IfSome (costs_shown chosen.now (slots_read reader.old))
-        (λ costs. Becomes (RisesBetween (size_handed next out.new) (cost_behind stamp next costs)) (read_so_far reader.old) (read_so_far reader.new))) }
-    ensures reads { ReadsOn each_error reader.old reader.new result }
+    ensures { ReadsShown chosen.now (λ next rows. row_handed next out.new ≡ moves.row_behind (Place.At stamp) rows) (λ next. size_handed next out.new) (cost_behind stamp) reader.old reader.new result }
 {
     if shown_behind(reader, chosen, stamp, room)? {
         cut_into(chosen.places, &room.row.row, out);
@@ -89,11 +78,8 @@ pub(crate) fn chosen_row<B: Eeprom>(
     out: &mut Row,
     room: &mut RowRoom,
 ) -> Result<bool, EepromFault>
-    ensures there { IfOk result (λ there. IfSome (rows_shown chosen.now (slots_read reader.old))
-        (λ rows. handed there out.new ≡ option_map (λ row. row.values) (moves.row_at stamp rows))) }
-    ensures octets_read { IfOk result (λ there. IfSome (costs_shown chosen.now (slots_read reader.old))
-        (λ costs. Becomes (RisesBetween (if there then row_size out.new else 0) (cost_of stamp costs)) (read_so_far reader.old) (read_so_far reader.new))) }
-    ensures reads { ReadsOn each_error reader.old reader.new result }
+    ensures { ReadsShown chosen.now (λ there rows. handed there out.new ≡ option_map (λ row. row.values) (moves.row_at stamp rows)) (λ there. if there then row_size out.new else 0) (λ _. cost_of stamp)
+        reader.old reader.new result }
 {
     if !row_of_table(reader, chosen.table, stamp, room)? {
         return Ok(false);
@@ -127,11 +113,7 @@ fn next_read<B: Eeprom>(
     stamp: u32,
     room: &mut RowRoom,
 ) -> Result<Option<u32>, EepromFault>
-    ensures next { IfOk result (λ next. IfSome (rows_shown chosen.now (slots_read reader.old))
-        (λ rows. next ≡ option_map (λ row. row.stamp) (moves.row_behind (Place.At stamp) rows))) }
-    ensures octets_read { IfOk result (λ next. IfSome (costs_shown chosen.now (slots_read reader.old))
-        (λ costs. Becomes (RisesBetween 0 (cost_behind stamp next costs)) (read_so_far reader.old) (read_so_far reader.new))) }
-    ensures reads { ReadsOn each_error reader.old reader.new result }
+    ensures { ReadsShown chosen.now (λ next rows. next ≡ option_map (λ row. row.stamp) (moves.row_behind (Place.At stamp) rows)) (λ _. 0) (cost_behind stamp) reader.old reader.new result }
 {
     if shown_behind(reader, chosen, stamp, room)? {
         Ok(Some(room.row.stamp))
@@ -149,10 +131,7 @@ fn shown_behind<B: Eeprom>(
     stamp: u32,
     room: &mut RowRoom,
 ) -> Result<bool, EepromFault>
-    ensures next { IfOk result (λ there. IfSome (slots_read reader.old) (IsNextShown chosen.now stamp (row_read there room.new.row))) }
-    ensures octets_read { IfOk result (λ there. IfSome (slots_read reader.old)
-        (λ slots. Becomes (RisesBetween (least_of (row_read there room.new.row)) (cost_passed chosen.now.table stamp slots (row_read there room.new.row))) (read_so_far reader.old) (read_so_far reader.new))) }
-    ensures reads { ReadsOn each_error reader.old reader.new result }
+    ensures { ReadsRow room.new.row (IsNextShown chosen.now stamp) (λ row slots. cost_passed chosen.now.table stamp slots row) reader.old reader.new result }
 {
     let mut passed = stamp;
     while row_behind(reader, chosen.table, passed, room)? {
@@ -173,10 +152,7 @@ fn row_behind<B: Eeprom>(
     room: &mut RowRoom,
 ) -> Result<bool, EepromFault>
     ensures behind { IfOk result (λ there. IsTrue there → stamp < room.new.row.stamp) }
-    ensures next { IfOk result (λ there. IfSome (slots_read reader.old) (λ slots. row_read there room.new.row ≡ find (is_row_after table stamp) (listed row_kind slots))) }
-    ensures octets_read { IfOk result (λ there. IfSome (slots_read reader.old)
-        (λ slots. Becomes (RisesBetween (least_of (row_read there room.new.row)) (cost_reached table slots (row_read there room.new.row))) (read_so_far reader.old) (read_so_far reader.new))) }
-    ensures reads { ReadsOn each_error reader.old reader.new result }
+    ensures reads { ReadsRow room.new.row (λ row slots. row ≡ find (is_row_after table stamp) (listed row_kind slots)) (λ row slots. cost_reached table slots row) reader.old reader.new result }
 {
     let (store, index) = (reader.store, reader.index);
     let Some((_, slot)) = index.next_after(store, reader.side, table, stamp, &mut room.near) else {
@@ -199,11 +175,8 @@ fn row_of_table<B: Eeprom>(
     stamp: u32,
     room: &mut RowRoom,
 ) -> Result<bool, EepromFault>
-    ensures found { IfOk result (λ there. IfSome (slots_read reader.old)
-        (λ slots. row_read there room.new.row ≡ option_filter (λ row. row.table == table) (find (has row_kind.key stamp) (listed row_kind slots)))) }
-    ensures octets_read { IfOk result (λ there. IfSome (slots_read reader.old)
-        (λ slots. Becomes (RisesBetween (least_of (row_read there room.new.row)) (cost_of stamp (row_costs table slots))) (read_so_far reader.old) (read_so_far reader.new))) }
-    ensures reads { ReadsOn each_error reader.old reader.new result }
+    ensures { ReadsRow room.new.row (λ row slots. row ≡ option_filter (λ row. row.table == table) (find (has row_kind.key stamp) (listed row_kind slots))) (λ _ slots. cost_of stamp (row_costs table slots))
+        reader.old reader.new result }
 {
     let (store, index) = (reader.store, reader.index);
     let Some(slot) = index.find(store, reader.side, table, stamp, room.near) else {
@@ -220,10 +193,7 @@ pub fn row_in<B: Eeprom>(
     room: &mut RowRoom,
 ) -> Result<bool, EepromFault>
     requires slot { slot < reader.old.store.now.chains.cells }
-    ensures value { IfOk result (λ there. IfSome (slots_read reader.old) (λ slots. row_read there room.new.row ≡ at_slot row_kind slot slots)) }
-    ensures octets_read { IfOk result (λ there. IfSome (slots_read reader.old)
-        (λ slots. Becomes (RisesBetween (least_of (row_read there room.new.row)) (cell_size * kind_cells row_kind (slice_index_or slots slot None))) (read_so_far reader.old) (read_so_far reader.new))) }
-    ensures reads { ReadsOn each_error reader.old reader.new result }
+    ensures { ReadsRow room.new.row (λ row slots. row ≡ at_slot row_kind slot slots) (λ _ slots. cell_size * kind_cells row_kind (slice_index_or slots slot None)) reader.old reader.new result }
 {
     if !is_row(reader.store, reader.side, slot) {
         return Ok(false);

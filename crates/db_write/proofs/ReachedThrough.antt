@@ -22,7 +22,8 @@ use Rattle.scql_model.specs.Writing.{record_at_cursor, written_through}
 use Rattle.record_table.specs.Making.{Ends}
 use Rattle.record_table.specs.declared.stop.Stop.{Stop}
 use Rattle.record_table.specs.declared.stop.Stop.TheVariants.{Refused, Fault}
-use Rattle.db_write.specs.Reached.{FindsRow, IsRowOfObject, IsStopOf, IsThrough, without_conditions}
+use Rattle.record_table.specs.Asking.{IsStopOf}
+use Rattle.db_write.specs.Reached.{FindsRow, IsRowOfObject, IsThrough, without_conditions}
 
 same-ok : {A : Type 0} (x y : A) → ◌≡◌ {A = Result A StatusWord} (Ok x) (Ok y) → x ≡ y
 same-ok x y is = cc

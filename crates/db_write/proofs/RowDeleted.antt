@@ -21,7 +21,8 @@ use Rattle.record_table.specs.declared.stop.Stop.TheVariants.{Refused, Fault}
 use Rattle.row_table.specs.Tables.{RemovesRow, Stand}
 use Rattle.row_table.specs.declared.tables.Tables.{Tables}
 use Rattle.row_table.proofs.Endings.{Follows}
-use Rattle.db_write.specs.Reached.{IsStopOf, IsThrough}
+use Rattle.record_table.specs.Asking.{IsStopOf}
+use Rattle.db_write.specs.Reached.{IsThrough}
 use Rattle.db_write.proofs.ReachedThrough.{IsReached}
 
 pub deletes-closed : (db : Database) (actor : Actor) (cursor : Option Cursor) → opened cursor ≡ Err conditions_not_satisfied → row_deleted db actor cursor ≡ Err conditions_not_satisfied

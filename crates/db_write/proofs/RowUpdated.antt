@@ -35,7 +35,8 @@ use Rattle.record_table.specs.Making.{IsValidWith}
 use Rattle.record_table.specs.declared.stop.Stop.{Stop}
 use Rattle.record_table.specs.declared.stop.Stop.TheVariants.{Refused, Fault}
 use Rattle.db_write.specs.Assigned.{within_limit}
-use Rattle.db_write.specs.Reached.{AnswersEdits, HasObject, IsStopOf, IsThrough}
+use Rattle.record_table.specs.Asking.{IsStopOf}
+use Rattle.db_write.specs.Reached.{AnswersEdits, HasObject, IsThrough}
 use Rattle.db_write.proofs.ReachedThrough.{IsReached}
 
 pub updates-closed : (db : Database) (actor : Actor) (cursor : Option Cursor) (assignments : List Assignment) → opened cursor ≡ Err conditions_not_satisfied → row_updated db actor cursor assignments ≡ Err conditions_not_satisfied

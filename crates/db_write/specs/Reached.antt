@@ -19,9 +19,9 @@ use Rattle.scql_model.specs.Resolving.{Resolved, resolved_of}
 use Rattle.scql_model.specs.Writing.{columns_of_row, record_at_cursor, written_through}
 use Rattle.catalog_codec.specs.Catalog.{row_kind}
 use Rattle.catalog_codec.specs.Kinds.{FitsChain}
+use Rattle.record_table.specs.Asking.{IsStopOf}
 use Rattle.record_table.specs.Listed.{at_slot, slots_of}
 use Rattle.record_table.specs.declared.stop.Stop.{Stop}
-use Rattle.record_table.specs.declared.stop.Stop.TheVariants.{Refused, Fault}
 use Rattle.row_table.specs.Found.{HasRowLike}
 use Rattle.row_table.specs.declared.tables.Tables.{Tables}
 use Rattle.search_cond.specs.Bound.{Binds, passes}
@@ -29,11 +29,6 @@ use Rattle.search_cond.specs.declared.placed.Placed.{Placed}
 use Rattle.views.specs.Resolved.{AreBound}
 use Rattle.db_read.specs.Scan.{IsRight, found_in}
 use Rattle.db_read.specs.declared.scan.Choice.{Choice}
-
--- a stop is the refusal of an outcome, or the EEPROM's fault
-abbrev pub IsStopOf : {T : Type 0} → Result T StatusWord → Stop → Type 0
-IsStopOf {T} outcome (Refused word) = outcome ≡ Err word
-IsStopOf {T} outcome Fault = Unit {0}
 
 -- what is answered stands for the edits of an outcome, or it is stopped by the outcome's refusal
 abbrev pub AnswersEdits : {X : Type 0} → (X → List Edit) → Result (List Edit) StatusWord → Result X Stop → Type 0

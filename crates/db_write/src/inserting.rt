@@ -21,7 +21,7 @@ use privilege_table::{Privilege, rights_on};
 use record_store::{Side, SideReader};
 use record_table::{Stop, next_stamp, refused};
 use row_table::Tables;
-use scql_base::{Actor, Name, ObjectKind, Row, RowRecord, StatusWord};
+use scql_base::{Actor, Copied, Name, ObjectKind, Row, RowRecord, StatusWord};
 
 /// INSERT: adds a row behind all others of a table. The index follows.
 pub fn insert<B: Eeprom>(
@@ -56,11 +56,11 @@ fn find_table<B: Eeprom>(
     ensures { Asks is_stop_fault (λ db. AnswersEdits (λ table. making db (of_row (record { stamp = db.next; table = table; row = row.now }))) (row_inserted db actor name row.now)) reader.old reader.new result }
 {
     let mut place = None;
-    find_name_into(reader.store, reader.bench, reader.side, name, &mut place)?;
+    find_name_into(reader, name, &mut place)?;
     let Some(object) = &place else {
         return refused(StatusWord::NOT_FOUND);
     };
-    let rights = rights_on(reader.store, reader.bench, reader.side, actor, object)?;
+    let rights = rights_on(reader, actor, object)?;
     if !rights.see() {
         return refused(StatusWord::NOT_FOUND);
     }

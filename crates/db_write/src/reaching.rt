@@ -11,19 +11,20 @@ ghost use Rattle.scql_model.specs.Database.{Database, object_stamped};
 ghost use Rattle.scql_model.specs.Moves as moves;
 ghost use Rattle.scql_model.specs.Writing.{written_through};
 ghost use Rattle.privilege_table.specs.Rights.{privilege_bit};
+ghost use Rattle.record_table.specs.Asking.{Asks, IsStopOf};
 ghost use Rattle.record_table.specs.Making.{IsHeld, is_stop_fault};
 ghost use Rattle.row_table.specs.Tables.{Stand};
 ghost use Rattle.search_cond.specs.Bound.{passes};
 ghost use Rattle.db_read.specs.Reader.{ReadsFrom, ReadsOn};
 ghost use Rattle.db_read.specs.Scan.{IsRight, found_in};
-ghost use Rattle.db_write.specs.Reached.{FindsRow, HasTable, IsChosen, IsInSlot, IsStopOf, IsWritten, is_reached};
+ghost use Rattle.db_write.specs.Reached.{FindsRow, HasTable, IsChosen, IsInSlot, IsWritten, is_reached};
 ghost use Rattle.db_write.specs.Reached as reached;
 
 use db_read::{Choice, Reader, RowRoom, is_table_or_view, resolve, row_in};
 use eeprom::{Eeprom, EepromFault};
 use object_table::find_stamp_into;
 use privilege_table::{Privilege, rights_on};
-use record_store::{Side, Store};
+use record_store::{Side, SideReader, Store};
 use record_table::{Stop, refused};
 use row_table::Tables;
 use scql_base::{Actor, Cursor, Place, Row, RowRecord, StatusWord};
@@ -68,11 +69,16 @@ pub(crate) fn find_written<B: Eeprom>(
     ensures same { found_in is_found.new choice.new ≡ found_in is_found.old choice.old }
     ensures frame { Reads is_stop_fault B.chip B.faults bench.old bench.new result }
 {
-    find_object(store, bench, cursor, is_found, choice)?;
+    let mut reader = SideReader {
+        store,
+        bench,
+        side: Side::Working,
+    };
+    find_object(&mut reader, cursor, is_found, choice)?;
     let Some(object) = &choice.object else {
         return refused(StatusWord::NOT_FOUND);
     };
-    let rights = rights_on(store, bench, Side::Working, actor, object)?;
+    let rights = rights_on(&mut reader, actor, object)?;
     if !rights.see() {
         return refused(StatusWord::NOT_FOUND);
     }
@@ -87,29 +93,20 @@ pub(crate) fn find_written<B: Eeprom>(
 
 // Finds the object of a cursor, where nothing was found yet.
 fn find_object<B: Eeprom>(
-    store: &Store,
-    bench: &mut B,
+    reader: &mut SideReader<'_, '_, B>,
     cursor: &Cursor,
     is_found: &mut bool,
     choice: &mut Choice,
 ) -> Result<(), EepromFault>
-    requires over { IsOver store.now (B.chip bench.old) }
-    ensures found { (db : Database) (actor : model.Actor) → IsHeld store.now Working (B.chip bench.old) db → IsRight db actor (found_in is_found.old choice.old) cursor.now
-        → IfOk result (λ _. choice.new.object ≡ object_stamped db.objects cursor.now.object) }
+    ensures asks { Asks each_error (λ db result. (actor : model.Actor) → IsRight db actor (found_in is_found.old choice.old) cursor.now
+        → IfOk result (λ _. choice.new.object ≡ object_stamped db.objects cursor.now.object)) reader.old reader.new result }
     ensures same { found_in is_found.new choice.new ≡ found_in is_found.old choice.old }
-    ensures frame { Reads each_error B.chip B.faults bench.old bench.new result }
 {
     if *is_found && choice.object.is_some() {
         return Ok(());
     }
     *is_found = false;
-    find_stamp_into(
-        store,
-        bench,
-        Side::Working,
-        cursor.object,
-        &mut choice.object,
-    )?;
+    find_stamp_into(reader, cursor.object, &mut choice.object)?;
     Ok(())
 }
 

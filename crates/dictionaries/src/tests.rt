@@ -3,7 +3,7 @@ ghost use Rattle.std.specs.Prelude.{◌≤◌, length};
 
 use crate::next_after;
 use eeprom::{Eeprom, FaultPlan, MemBench};
-use record_store::{Side, Store};
+use record_store::{Side, SideReader, Store};
 use scql_base::{Name, Object, ObjectKind, Row, Subject};
 use std::alloc::{AllocError, Global};
 use std::test::Fail;
@@ -54,7 +54,12 @@ fn first_row<B: Eeprom>(alloc: Global, bench: &mut B, subject: Subject) -> Optio
         kind: ObjectKind::Dictionary { subject },
     };
     let mut row = Row::new();
-    let next = next_after(&store, bench, Side::Committed, &dictionary, 0, &mut row).ok()?;
+    let mut reader = SideReader {
+        store: &store,
+        bench,
+        side: Side::Committed,
+    };
+    let next = next_after(&mut reader, &dictionary, 0, &mut row).ok()?;
     Some((next?, row))
 }
 

@@ -1,4 +1,5 @@
 pub mod Calls
+pub mod CallsLaws
 pub mod Chip
 pub mod CutBench
 pub mod Fault
@@ -6,6 +7,8 @@ pub mod Frame
 pub mod Image
 pub mod Input
 pub mod MemBench
+pub mod Octets
+pub mod OnImage
 pub mod Output
 pub mod Planned
 pub mod Recorded

@@ -1,13 +1,16 @@
 -- What a bench in memory tells.
-use Rattle.std.specs.Prelude.{◌≡◌, ◌⊎◌, ℕ, ◌/◌, ◌<◌, ◌≤◌, ◌^◌, IsTrue, List, Option, IfSome, length, take, replicate}
+use Rattle.std.specs.Prelude.{◌≡◌, ◌⊎◌, ◌↔◌, ℕ, ◌/◌, ◌<◌, ◌≤◌, ◌^◌, IsTrue, List, Option, Some, Result, IfSome, IsErr, OnOk, OnErr, length, take, replicate}
 use Rattle.std.proofs.Common.{arith}
 use Rattle.eeprom.specs.Chip.{Chip, Gives}
-use Rattle.eeprom.specs.Fault.{Rose}
-use Rattle.eeprom.specs.Planned.{Plan, calls_of, is_next_failing}
-use Rattle.eeprom.specs.Told.{Told, with_write, with_output, chip_from, told_count}
+use Rattle.eeprom.specs.Fault.{Counts, Rose}
+use Rattle.eeprom.specs.Octets.{ReadsOctets, WritesOctets}
+use Rattle.eeprom.specs.Output.{Follows}
+use Rattle.eeprom.specs.Planned.{Plan, calls_of, is_next_failing, plan_from, after_read, after_write, after_give}
+use Rattle.eeprom.specs.Told.{Told, untouched, with_write, with_output, chip_from, told_count}
 use Rattle.eeprom.specs.Recorded.{length-past_of}
 use Rattle.eeprom.specs.Recording.{told}
 use Rattle.eeprom.specs.declared.mem_bench.MemBench.{MemBench}
+use Rattle.eeprom.specs.declared.plan.FaultPlan.{FaultPlan}
 
 -- its image, its output, and each stretch of time
 abbrev pub told_of : MemBench → Told
@@ -50,6 +53,53 @@ FailsGive octets old new =
 -- what giving leaves of the EEPROM
 abbrev pub Leaves : MemBench → MemBench → Type 0
 Leaves old new = Gives (chip_of old) (chip_of new) × (faults_of new ≡ faults_of old) × (octets_read_of new ≡ octets_read_of old)
+
+-- A new one over an image, to which nothing happened yet.
+pub record IsNew (image : List ℕ) (planned : FaultPlan) (bench : MemBench) : Type 0 where
+  pub chip : chip_of bench ≡ chip_from (untouched image) 0 0
+  pub read : octets_read_of bench ≡ Some 0
+  pub faults : faults_of bench ≡ 0
+  pub plan : plan_of bench ≡ plan_from planned
+  pub room : lacks_of bench ≡ 0
+
+-- A read fails exactly where that was planned.
+pub record ReadsAsPlanned {T E : Type 0} (at : ℕ) (buffer got : List ℕ) (old new : MemBench) (result : Result T E) : Type 0 where
+  pub fails : IsErr result ↔ IsTrue (is_next_failing (plan_of old).reads)
+  pub reads : ReadsOctets chip_of octets_read_of faults_of at buffer got old new result
+  -- One read more was made,
+  pub plan : plan_of new ≡ after_read (plan_of old)
+  -- and no record was wanting.
+  pub room : lacks_of new ≡ lacks_of old
+
+-- A write fails where that was planned, or where there is no room for its record.
+pub record WritesAsPlanned {T E : Type 0} (at : ℕ) (octets : List ℕ) (old new : MemBench) (result : Result T E) : Type 0 where
+  pub fails : IsTrue (is_next_failing (plan_of old).writes) → IsErr result
+  pub beside_the_plan : OnErr result (IsTrue (is_next_failing (plan_of old).writes) ⊎ LacksRoom old new)
+  pub done : OnOk result (told_of new ≡ with_write at octets (told_of old))
+  pub failed : OnErr result (FailsWrite at (length octets) old new)
+  pub writes : WritesOctets chip_of octets_read_of faults_of at octets old new result
+  -- One write more was made.
+  pub plan : plan_of new ≡ after_write (plan_of old)
+  -- A write that was done had room for its record, and no count of those that hadn't falls.
+  pub room : OnOk result (lacks_of new ≡ lacks_of old)
+  pub lacks : lacks_of old ≤ lacks_of new
+
+-- A give fails where that was planned, or where there is no room for its record.
+pub record GivesAsPlanned {T E : Type 0} (octets : List ℕ) (old new : MemBench) (result : Result T E) : Type 0 where
+  pub fails : IsTrue (is_next_failing (plan_of old).gives) → IsErr result
+  pub beside_the_plan : OnErr result (IsTrue (is_next_failing (plan_of old).gives) ⊎ LacksRoom old new)
+  pub done : OnOk result (told_of new ≡ with_output octets (told_of old))
+  pub failed : OnErr result (FailsGive octets old new)
+  -- What an outlet does:
+  pub ok : OnOk result (Follows (length octets) octets (chip_of old).still.given (chip_of new).still.given)
+  pub err : OnErr result ((count : ℕ) × Follows count octets (chip_of old).still.given (chip_of new).still.given)
+  pub rest : Leaves old new
+  pub cause : Counts (sink_faults_of old) (sink_faults_of new) result
+  -- One give more was made.
+  pub plan : plan_of new ≡ after_give (plan_of old)
+  -- A give that was done had room for its record, and no count of those that hadn't falls.
+  pub room : OnOk result (lacks_of new ≡ lacks_of old)
+  pub lacks : lacks_of old ≤ lacks_of new
 
 -- the laws of an EEPROM
 pub small_length : (n len cap : ℕ) → (len ≡ n) × (len ≤ cap) → cap < 2 ^ 63 → n < 2 ^ 64

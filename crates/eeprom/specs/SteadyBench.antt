@@ -1,7 +1,10 @@
 -- What a bench in memory tells that never fails: its image always, its output and its moments as far as there was room for them.
-use Rattle.std.specs.Prelude.{◌≡◌, ◌↔◌, IsSome, ℕ, ◌<◌, ◌≤◌, ◌^◌, Bool, true, false, List, [], ◌∷◌, ◌++◌, Option, Some, None, IfSome, length, if◌then◌else◌, refl}
-use Rattle.eeprom.specs.Chip.{Chip, Stretch, Becomes, Gives}
+use Rattle.std.specs.Prelude.{◌≡◌, ◌↔◌, IsSome, ℕ, ◌-◌, ◌<◌, ◌≤◌, ◌^◌, Bool, true, false, List, [], ◌∷◌, ◌++◌, Option, Some, None, Result, IfSome, IsOk, OnOk, OnErr, length, if◌then◌else◌, refl}
+use Rattle.eeprom.specs.Chip.{Chip, Stretch, Becomes, Gives, writing, giving}
+use Rattle.eeprom.specs.Fault.{Counts}
 use Rattle.eeprom.specs.MemBench.{small_length}
+use Rattle.eeprom.specs.Octets.{ReadsOctets, WritesOctets}
+use Rattle.eeprom.specs.Output.{Follows}
 use Rattle.eeprom.specs.Told.{told_count}
 use Rattle.eeprom.specs.Steps.{told_past, length-stretches_of}
 use Rattle.eeprom.specs.declared.steady_bench.SteadyBench.{SteadyBench}
@@ -46,6 +49,37 @@ TellsStretch stretch old new = Becomes (λ before after. (image : List ℕ) × (
 -- what giving leaves of the EEPROM
 abbrev pub Leaves : SteadyBench → SteadyBench → Type 0
 Leaves old new = Gives (chip_of old) (chip_of new) × (octets_read_of new ≡ octets_read_of old)
+
+-- A read never fails, and the room that is left stays.
+pub record ReadsSteadily {T E : Type 0} (at : ℕ) (buffer got : List ℕ) (old new : SteadyBench) (result : Result T E) : Type 0 where
+  pub succeeds : IsOk result
+  pub reads : ReadsOctets chip_of octets_read_of (λ _. 0) at buffer got old new result
+  pub room : (room_for_writes new ≡ room_for_writes old) × (room_for_output new ≡ room_for_output old)
+
+-- A write never fails.
+pub record WritesSteadily {T E : Type 0} (at : ℕ) (octets : List ℕ) (old new : SteadyBench) (result : Result T E) : Type 0 where
+  pub succeeds : IsOk result
+  pub writes : WritesOctets chip_of octets_read_of (λ _. 0) at octets old new result
+  -- Each write of some octets is a moment, where told: as long as there is room for it.
+  pub moment : 0 < length octets → TellsStretch (λ image. writing (record { image = image; at = at; count = length octets; mark = (chip_of old).still.mark })) (chip_of old) (chip_of new)
+  pub told : ToldWithin (length octets) (room_for_writes old) (chip_of old).past (chip_of new).past
+  -- It takes up room of the writes.
+  pub room : (room_for_writes new ≡ room_for_writes old - length octets) × (room_for_output new ≡ room_for_output old)
+
+-- A give never fails.
+pub record GivesSteadily {T E : Type 0} (octets : List ℕ) (old new : SteadyBench) (result : Result T E) : Type 0 where
+  pub succeeds : IsOk result
+  -- What an outlet does:
+  pub ok : OnOk result (Follows (length octets) octets (given_of old) (given_of new))
+  pub err : OnErr result ((count : ℕ) × Follows count octets (given_of old) (given_of new))
+  pub rest : Leaves old new
+  pub cause : Counts 0 0 result
+  -- Each give of some octets is a moment, where told: output and moments are, as long as there is room for them.
+  pub moment : 0 < length octets → TellsStretch (λ image. giving image (chip_of old).still.mark (chip_of new).still.mark) (chip_of old) (chip_of new)
+  pub output_told : ToldWithin (length octets) (room_for_output old) (given_of old) (given_of new)
+  pub past_told : ToldWithin (length octets) (room_for_output old) (chip_of old).past (chip_of new).past
+  -- It takes up room of the output.
+  pub room : (room_for_output new ≡ room_for_output old - length octets) × (room_for_writes new ≡ room_for_writes old)
 
 -- the laws of an EEPROM and of a bench
 pub small_of : (b : SteadyBench) → (chip_of b).still.size < 2 ^ 64

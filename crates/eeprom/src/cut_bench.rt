@@ -1,5 +1,6 @@
 // A bench whose EEPROM is cut off after so many writes, for tests of what is left then.
 ghost use Rattle.std.specs.Prelude.{◌≡◌, ◌+◌, ◌≤◌, length};
+ghost use Rattle.eeprom.specs.CutBench.{FillsOver};
 
 use crate::counting::count;
 use crate::{Eeprom, EepromFault};
@@ -56,12 +57,8 @@ impl<B: Eeprom + Drop> CutBench<B> {
 }
 
 impl<B: Eeprom + Drop> Eeprom for CutBench<B> {
-    ghost use Rattle.std.specs.Prelude.{◌≡◌, ◌≤◌, ◌+◌, ◌==◌, true, false, length, slice_range, option_map, None, IfSome, OnOk, IsErr, IsTrue};
-    ghost use Rattle.eeprom.specs.Chip.{Becomes, RisesBy, Writes};
-    ghost use Rattle.eeprom.specs.Fault.{Counts, each_error};
-    ghost use Rattle.eeprom.specs.Frame.{Reads};
-    ghost use Rattle.eeprom.specs.Image.{overwrite};
-    ghost use Rattle.eeprom.specs.CutBench.{inner_of, cut_of, faults_of, untold, after_write, is_cut_by_write};
+    ghost use Rattle.std.specs.Prelude.{◌≤◌, ◌+◌, length, None};
+    ghost use Rattle.eeprom.specs.CutBench.{PassesRead, PassesWrite, inner_of, faults_of, untold};
 
     ghost chip = { λ bench. untold (B.chip (inner_of bench)) };
 
@@ -75,12 +72,7 @@ impl<B: Eeprom + Drop> Eeprom for CutBench<B> {
 
     fn read(&mut self, at: usize, into: &mut [u8]) -> Result<(), EepromFault>
         requires { at + length into.old ≤ (B.chip (inner_of self.old)).still.size }
-        ensures refuses { IsTrue (cut_of self.old).cut → IsErr result × (inner_of self.new ≡ inner_of self.old) }
-        ensures passes { OnOk result (IfSome (B.chip (inner_of self.old)).image (λ image. into.new ≡ slice_range image at (at + length into.old))) }
-        ensures inner { B.chip (inner_of self.new) ≡ B.chip (inner_of self.old) }
-        ensures cut { cut_of self.new ≡ cut_of self.old }
-        ensures frame { Reads each_error (λ bench. untold (B.chip (inner_of bench))) (faults_of B.faults) self.old self.new result }
-        ensures read { Becomes (RisesBy (length into.old)) None None }
+        ensures { PassesRead B.chip B.faults at into.old into.new self.old self.new result }
     {
         if self.cut {
             return self.refuse();
@@ -90,12 +82,7 @@ impl<B: Eeprom + Drop> Eeprom for CutBench<B> {
 
     fn write(&mut self, at: usize, from: &[u8]) -> Result<(), EepromFault>
         requires { at + length from.now ≤ (B.chip (inner_of self.old)).still.size }
-        ensures refuses { IsTrue (cut_of self.old).cut → IsErr result × (inner_of self.new ≡ inner_of self.old) }
-        ensures cuts { IsTrue (is_cut_by_write (cut_of self.old)) → IsErr result }
-        ensures passes { OnOk result ((B.chip (inner_of self.new)).image ≡ option_map (λ image. overwrite image at from.now) (B.chip (inner_of self.old)).image) }
-        ensures cut { cut_of self.new ≡ after_write (cut_of self.old) }
-        ensures writes { Writes at from.now (untold (B.chip (inner_of self.old))) (untold (B.chip (inner_of self.new))) }
-        ensures cause { Counts (faults_of B.faults self.old) (faults_of B.faults self.new) result }
+        ensures { PassesWrite B.chip B.faults at from.now self.old self.new result }
     {
         if self.cut {
             return self.refuse();
@@ -121,8 +108,7 @@ const PIECE: usize = 32;
 // Fills a range with one octet, piece by piece, whatever the EEPROM answers.
 fn fill_over<B: Eeprom>(bench: &mut B, at: usize, count: usize, fill: u8)
     requires { at + count ≤ (B.chip bench.old).still.size }
-    ensures still { (B.chip bench.new).still ≡ (B.chip bench.old).still }
-    ensures never_falls { B.faults bench.old ≤ B.faults bench.new }
+    ensures { FillsOver B.chip B.faults bench.old bench.new }
 {
     let piece = [fill; PIECE];
     let mut done = 0;

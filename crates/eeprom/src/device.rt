@@ -1,9 +1,7 @@
 // The EEPROM of a card, and the bench that has one together with the outlet of the card's answers.
-ghost use Rattle.std.specs.Prelude.{◌≡◌, ◌<◌, ◌≤◌, ◌+◌, ◌^◌, ℕ, List, Option, length, slice_range, option_map, IfSome, OnOk};
-ghost use Rattle.eeprom.specs.Chip.{Chip, Becomes, RisesBy, Writes, Gives};
-ghost use Rattle.eeprom.specs.Fault.{Counts, each_error};
-ghost use Rattle.eeprom.specs.Frame.{Reads};
-ghost use Rattle.eeprom.specs.Image.{overwrite};
+ghost use Rattle.std.specs.Prelude.{◌≡◌, ◌<◌, ◌≤◌, ◌+◌, ◌^◌, ℕ, Option, length, IfSome};
+ghost use Rattle.eeprom.specs.Chip.{Chip, Gives};
+ghost use Rattle.eeprom.specs.Octets.{ReadsOctets, WritesOctets};
 
 use crate::{EepromFault, Outlet};
 
@@ -25,17 +23,12 @@ pub trait Eeprom {
     /// Reads the octets from `at` on. The image stays, whatever is answered.
     fn read(&mut self, at: usize, into: &mut [u8]) -> Result<(), EepromFault>
         requires { at + length into.old ≤ (chip self.old).still.size }
-        ensures octets { OnOk result (IfSome (chip self.old).image (λ image. into.new ≡ slice_range image at (at + length into.old))) }
-        ensures frame { Reads each_error chip faults self.old self.new result }
-        ensures read { Becomes (RisesBy (length into.old)) (octets_read self.old) (octets_read self.new) };
+        ensures { ReadsOctets chip octets_read faults at into.old into.new self.old self.new result };
 
     /// Writes octets from `at` on. Where it fails, or where power is lost meanwhile, the range may hold anything.
     fn write(&mut self, at: usize, from: &[u8]) -> Result<(), EepromFault>
         requires { at + length from.now ≤ (chip self.old).still.size }
-        ensures written { OnOk result ((chip self.new).image ≡ option_map (λ image. overwrite image at from.now) (chip self.old).image) }
-        ensures writes { Writes at from.now (chip self.old) (chip self.new) }
-        ensures read { octets_read self.new ≡ octets_read self.old }
-        ensures cause { Counts (faults self.old) (faults self.new) result };
+        ensures { WritesOctets chip octets_read faults at from.now self.old self.new result };
 
     /// The size fits a usize.
     ghost small: { (b : Self) → (chip b).still.size < 2 ^ 64 };

@@ -7,6 +7,7 @@ mod device;
 mod entry;
 mod fault;
 mod heap;
+mod image_bench;
 mod input;
 mod layout;
 mod mem_bench;
@@ -23,6 +24,7 @@ pub use device::{Bench, Eeprom};
 pub use entry::Entry;
 pub use fault::{EepromFault, SinkFault, SourceFault};
 pub use heap::Heap;
+pub use image_bench::ImageBench;
 pub use input::Source;
 pub use layout::{
     CELL_SIZE, FEWEST_CELLS, GATE_PLACE, HEADER_SIZE, LARGEST_DIRECTORY, LONGEST_CHAIN,
@@ -33,6 +35,7 @@ pub use mem_bench::MemBench;
 pub use output::Outlet;
 pub use plan::FaultPlan;
 pub use record_octets::RecordOctets;
+pub use recording::write_over;
 pub use sources::{MemSource, SteadySource};
 pub use steady_bench::SteadyBench;
 

@@ -22,16 +22,11 @@ pub struct MemBench {
 
 impl MemBench {
     ghost use Rattle.std.specs.Prelude.{◌≡◌, ◌-◌, ◌^◌, min, nat_lt, length, slice_get, option_map, Some, IfSome, IfOk};
-    ghost use Rattle.eeprom.specs.Told.{untouched, chip_from, writes_of, filled};
-    ghost use Rattle.eeprom.specs.Planned.{plan_from};
-    ghost use Rattle.eeprom.specs.MemBench.{chip_of, plan_of, lacks_of};
+    ghost use Rattle.eeprom.specs.Told.{writes_of, filled};
+    ghost use Rattle.eeprom.specs.MemBench.{IsNew, chip_of, told_of, lacks_of};
 
     pub fn new(alloc: Global, image: Vec<u8>, plan: FaultPlan) -> Result<MemBench, AllocError>
-        ensures chip { IfOk result (λ bench. chip_of bench ≡ chip_from (untouched image.items) 0 0) }
-        ensures read { IfOk result (λ bench. ⟦<MemBench as Eeprom>⟧.octets_read bench ≡ Some 0) }
-        ensures faults { IfOk result (λ bench. ⟦<MemBench as Eeprom>⟧.faults bench ≡ 0) }
-        ensures plan { IfOk result (λ bench. plan_of bench ≡ plan_from plan) }
-        ensures room { IfOk result (λ bench. lacks_of bench ≡ 0) }
+        ensures { IfOk result (λ bench. IsNew image.items plan bench) }
     {
         Ok(MemBench {
             alloc,
@@ -49,7 +44,7 @@ impl MemBench {
     }
 
     pub fn image(&self) -> &[u8]
-        ensures { Some result.now ≡ (chip_of self.now).image }
+        ensures { result.now ≡ (told_of self.now).image }
     {
         self.recording.image()
     }
@@ -102,14 +97,8 @@ impl MemBench {
 }
 
 impl Eeprom for MemBench {
-    ghost use Rattle.std.specs.Prelude.{◌≡◌, ◌⊎◌, ◌↔◌, ◌≤◌, ◌+◌, length, slice_range, option_map, IfSome, IsTrue, IsErr, OnOk, OnErr, refl};
-    ghost use Rattle.eeprom.specs.Chip.{Becomes, RisesBy, Writes};
-    ghost use Rattle.eeprom.specs.Fault.{Counts, each_error};
-    ghost use Rattle.eeprom.specs.Frame.{Reads};
-    ghost use Rattle.eeprom.specs.Image.{overwrite};
-    ghost use Rattle.eeprom.specs.Planned.{is_next_failing, after_read, after_write};
-    ghost use Rattle.eeprom.specs.Told.{with_write};
-    ghost use Rattle.eeprom.specs.MemBench.{chip_of, told_of, plan_of, octets_read_of, faults_of, lacks_of, LacksRoom, FailsWrite, small_of, clocked_of};
+    ghost use Rattle.std.specs.Prelude.{◌≤◌, ◌+◌, length, refl};
+    ghost use Rattle.eeprom.specs.MemBench.{ReadsAsPlanned, WritesAsPlanned, chip_of, told_of, octets_read_of, faults_of, small_of, clocked_of};
 
     ghost chip = { chip_of };
 
@@ -122,13 +111,8 @@ impl Eeprom for MemBench {
     }
 
     fn read(&mut self, at: usize, into: &mut [u8]) -> Result<(), EepromFault>
-        requires { at + length into.old ≤ (chip_of self.old).still.size }
-        ensures fails { IsErr result ↔ IsTrue (is_next_failing (plan_of self.old).reads) }
-        ensures octets { OnOk result (IfSome (chip_of self.old).image (λ image. into.new ≡ slice_range image at (at + length into.old))) }
-        ensures frame { Reads each_error chip_of faults_of self.old self.new result }
-        ensures plan { plan_of self.new ≡ after_read (plan_of self.old) }
-        ensures room { lacks_of self.new ≡ lacks_of self.old }
-        ensures read { Becomes (RisesBy (length into.old)) (octets_read_of self.old) (octets_read_of self.new) }
+        requires { at + length into.old ≤ length (told_of self.old).image }
+        ensures { ReadsAsPlanned at into.old into.new self.old self.new result }
     {
         self.octets_read = self.octets_read.saturating_add(into.len() as u128);
         if self.reads.next_fails() {
@@ -140,18 +124,8 @@ impl Eeprom for MemBench {
     }
 
     fn write(&mut self, at: usize, from: &[u8]) -> Result<(), EepromFault>
-        requires { at + length from.now ≤ (chip_of self.old).still.size }
-        ensures fails { IsTrue (is_next_failing (plan_of self.old).writes) → IsErr result }
-        ensures beside_the_plan { OnErr result (IsTrue (is_next_failing (plan_of self.old).writes) ⊎ LacksRoom self.old self.new) }
-        ensures done { OnOk result (told_of self.new ≡ with_write at from.now (told_of self.old)) }
-        ensures failed { OnErr result (FailsWrite at (length from.now) self.old self.new) }
-        ensures written { OnOk result ((chip_of self.new).image ≡ option_map (λ image. overwrite image at from.now) (chip_of self.old).image) }
-        ensures writes { Writes at from.now (chip_of self.old) (chip_of self.new) }
-        ensures plan { plan_of self.new ≡ after_write (plan_of self.old) }
-        ensures room { OnOk result (lacks_of self.new ≡ lacks_of self.old) }
-        ensures lacks { lacks_of self.old ≤ lacks_of self.new }
-        ensures read { octets_read_of self.new ≡ octets_read_of self.old }
-        ensures cause { Counts (faults_of self.old) (faults_of self.new) result }
+        requires { at + length from.now ≤ length (told_of self.old).image }
+        ensures { WritesAsPlanned at from.now self.old self.new result }
     {
         self.octets_written = self.octets_written.saturating_add(from.len() as u128);
         if self.writes.next_fails() {
@@ -181,12 +155,7 @@ impl Eeprom for MemBench {
 }
 
 impl Outlet for MemBench {
-    ghost use Rattle.std.specs.Prelude.{◌≡◌, ◌⊎◌, ℕ, ◌≤◌, length, IsTrue, IsErr, OnOk, OnErr};
-    ghost use Rattle.eeprom.specs.Fault.{Counts};
-    ghost use Rattle.eeprom.specs.Output.{Follows};
-    ghost use Rattle.eeprom.specs.Planned.{is_next_failing, after_give};
-    ghost use Rattle.eeprom.specs.Told.{with_output};
-    ghost use Rattle.eeprom.specs.MemBench.{chip_of, told_of, plan_of, sink_faults_of, lacks_of, LacksRoom, FailsGive, Leaves};
+    ghost use Rattle.eeprom.specs.MemBench.{GivesAsPlanned, chip_of, sink_faults_of, Leaves};
 
     ghost given = { λ bench. (chip_of bench).still.given };
 
@@ -195,17 +164,7 @@ impl Outlet for MemBench {
     ghost leaves = { Leaves };
 
     fn give(&mut self, octets: &[u8]) -> Result<(), SinkFault>
-        ensures fails { IsTrue (is_next_failing (plan_of self.old).gives) → IsErr result }
-        ensures beside_the_plan { OnErr result (IsTrue (is_next_failing (plan_of self.old).gives) ⊎ LacksRoom self.old self.new) }
-        ensures done { OnOk result (told_of self.new ≡ with_output octets.now (told_of self.old)) }
-        ensures failed { OnErr result (FailsGive octets.now self.old self.new) }
-        ensures ok { OnOk result (Follows (length octets.now) octets.now (chip_of self.old).still.given (chip_of self.new).still.given) }
-        ensures err { OnErr result ((count : ℕ) × Follows count octets.now (chip_of self.old).still.given (chip_of self.new).still.given) }
-        ensures rest { Leaves self.old self.new }
-        ensures plan { plan_of self.new ≡ after_give (plan_of self.old) }
-        ensures room { OnOk result (lacks_of self.new ≡ lacks_of self.old) }
-        ensures lacks { lacks_of self.old ≤ lacks_of self.new }
-        ensures cause { Counts (sink_faults_of self.old) (sink_faults_of self.new) result }
+        ensures { GivesAsPlanned octets.now self.old self.new result }
     {
         if self.gives.next_fails() {
             count(&mut self.sink_faults);

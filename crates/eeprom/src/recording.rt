@@ -31,8 +31,8 @@ pub struct Recording {
 }
 
 impl Recording {
-    ghost use Rattle.std.specs.Prelude.{◌≡◌, ◌+◌, ◌≤◌, length, replicate, slice_get, option_map, IfOk, OnOk, OnErr};
-    ghost use Rattle.eeprom.specs.Recording.{told};
+    ghost use Rattle.std.specs.Prelude.{◌≡◌, ◌+◌, ◌≤◌, length, replicate, slice_get, option_map, IfOk};
+    ghost use Rattle.eeprom.specs.Recording.{Records, told};
     ghost use Rattle.eeprom.specs.Told.{untouched, with_write, with_output, writes_of, filled};
 
     pub fn new(alloc: Global, image: Vec<u8>) -> Result<Recording, AllocError>
@@ -122,8 +122,7 @@ impl Recording {
     /// Writes octets from `at` on. Where there is no room for their record nothing is written.
     pub fn write(&mut self, alloc: Global, at: usize, octets: &[u8]) -> Result<(), AllocError>
         requires { at + length octets.now ≤ length (told self.old).image }
-        ensures ok { OnOk result (told self.new ≡ with_write at octets.now (told self.old)) }
-        ensures err { OnErr result (told self.new ≡ told self.old) }
+        ensures { Records (with_write at octets.now) self.old self.new result }
     {
         self.write_owned(at, Vec::from_slice(alloc, octets)?)
     }
@@ -137,8 +136,7 @@ impl Recording {
         octet: u8,
     ) -> Result<(), AllocError>
         requires { at + count ≤ length (told self.old).image }
-        ensures ok { OnOk result (told self.new ≡ with_write at (replicate count octet) (told self.old)) }
-        ensures err { OnErr result (told self.new ≡ told self.old) }
+        ensures { Records (with_write at (replicate count octet)) self.old self.new result }
     {
         self.write_owned(at, vec![in alloc; octet; count]?)
     }
@@ -146,8 +144,7 @@ impl Recording {
     // Writes octets, which stay in the record.
     fn write_owned(&mut self, at: usize, octets: Vec<u8>) -> Result<(), AllocError>
         requires { at + length octets.items ≤ length (told self.old).image }
-        ensures ok { OnOk result (told self.new ≡ with_write at octets.items (told self.old)) }
-        ensures err { OnErr result (told self.new ≡ told self.old) }
+        ensures { Records (with_write at octets.items) self.old self.new result }
     {
         self.events.reserve(1)?;
         write_over(&mut self.image, at, &octets);
@@ -161,8 +158,7 @@ impl Recording {
 
     /// Adds octets to the output. Where there is no room for them and their record nothing is given.
     pub fn give(&mut self, octets: &[u8]) -> Result<(), AllocError>
-        ensures ok { OnOk result (told self.new ≡ with_output octets.now (told self.old)) }
-        ensures err { OnErr result (told self.new ≡ told self.old) }
+        ensures { Records (with_output octets.now) self.old self.new result }
     {
         self.events.reserve(1)?;
         let from = self.output.len();

@@ -98,12 +98,8 @@ impl SteadyBench {
 }
 
 impl Eeprom for SteadyBench {
-    ghost use Rattle.std.specs.Prelude.{◌≡◌, ◌<◌, ◌≤◌, ◌+◌, ◌-◌, length, slice_range, option_map, Some, IfSome, OnOk, IsOk, refl};
-    ghost use Rattle.eeprom.specs.Chip.{Becomes, RisesBy, Writes, writing};
-    ghost use Rattle.eeprom.specs.Fault.{Counts, each_error};
-    ghost use Rattle.eeprom.specs.Frame.{Reads};
-    ghost use Rattle.eeprom.specs.Image.{overwrite};
-    ghost use Rattle.eeprom.specs.SteadyBench.{chip_of, octets_read_of, room_for_writes, room_for_output, ToldWithin, TellsStretch, small_of, clocked_of};
+    ghost use Rattle.std.specs.Prelude.{◌≤◌, ◌+◌, length, refl};
+    ghost use Rattle.eeprom.specs.SteadyBench.{ReadsSteadily, WritesSteadily, chip_of, octets_read_of, small_of, clocked_of};
 
     ghost chip = { chip_of };
 
@@ -116,12 +112,8 @@ impl Eeprom for SteadyBench {
     }
 
     fn read(&mut self, at: usize, into: &mut [u8]) -> Result<(), EepromFault>
-        requires { at + length into.old ≤ (chip_of self.old).still.size }
-        ensures succeeds { IsOk result }
-        ensures octets { OnOk result (IfSome (chip_of self.old).image (λ image. into.new ≡ slice_range image at (at + length into.old))) }
-        ensures frame { Reads each_error chip_of (λ _. 0) self.old self.new result }
-        ensures room { (room_for_writes self.new ≡ room_for_writes self.old) × (room_for_output self.new ≡ room_for_output self.old) }
-        ensures read { Becomes (RisesBy (length into.old)) (octets_read_of self.old) (octets_read_of self.new) }
+        requires { at + length into.old ≤ length self.old.image.items }
+        ensures { ReadsSteadily at into.old into.new self.old self.new result }
     {
         self.octets_read = self.octets_read.saturating_add(into.len() as u128);
         into.copy_from_slice(&self.image[at..at + into.len()]);
@@ -129,15 +121,8 @@ impl Eeprom for SteadyBench {
     }
 
     fn write(&mut self, at: usize, from: &[u8]) -> Result<(), EepromFault>
-        requires { at + length from.now ≤ (chip_of self.old).still.size }
-        ensures succeeds { IsOk result }
-        ensures written { OnOk result ((chip_of self.new).image ≡ option_map (λ image. overwrite image at from.now) (chip_of self.old).image) }
-        ensures writes { Writes at from.now (chip_of self.old) (chip_of self.new) }
-        ensures moment { 0 < length from.now → TellsStretch (λ image. writing (record { image = image; at = at; count = length from.now; mark = (chip_of self.old).still.mark })) (chip_of self.old) (chip_of self.new) }
-        ensures told { ToldWithin (length from.now) (room_for_writes self.old) (chip_of self.old).past (chip_of self.new).past }
-        ensures room { (room_for_writes self.new ≡ room_for_writes self.old - length from.now) × (room_for_output self.new ≡ room_for_output self.old) }
-        ensures read { octets_read_of self.new ≡ octets_read_of self.old }
-        ensures cause { Counts 0 0 result }
+        requires { at + length from.now ≤ length self.old.image.items }
+        ensures { WritesSteadily at from.now self.old self.new result }
     {
         if from.is_empty() {
             return Ok(());
@@ -156,11 +141,7 @@ impl Eeprom for SteadyBench {
 }
 
 impl Outlet for SteadyBench {
-    ghost use Rattle.std.specs.Prelude.{◌≡◌, ◌<◌, ◌-◌, ℕ, length, OnOk, OnErr, IsOk};
-    ghost use Rattle.eeprom.specs.Fault.{Counts};
-    ghost use Rattle.eeprom.specs.Chip.{giving};
-    ghost use Rattle.eeprom.specs.Output.{Follows};
-    ghost use Rattle.eeprom.specs.SteadyBench.{chip_of, given_of, room_for_writes, room_for_output, ToldWithin, TellsStretch, Leaves};
+    ghost use Rattle.eeprom.specs.SteadyBench.{GivesSteadily, Leaves, given_of};
 
     ghost given = { given_of };
 
@@ -169,15 +150,7 @@ impl Outlet for SteadyBench {
     ghost leaves = { Leaves };
 
     fn give(&mut self, octets: &[u8]) -> Result<(), SinkFault>
-        ensures succeeds { IsOk result }
-        ensures ok { OnOk result (Follows (length octets.now) octets.now (given_of self.old) (given_of self.new)) }
-        ensures err { OnErr result ((count : ℕ) × Follows count octets.now (given_of self.old) (given_of self.new)) }
-        ensures rest { Leaves self.old self.new }
-        ensures moment { 0 < length octets.now → TellsStretch (λ image. giving image (chip_of self.old).still.mark (chip_of self.new).still.mark) (chip_of self.old) (chip_of self.new) }
-        ensures output_told { ToldWithin (length octets.now) (room_for_output self.old) (given_of self.old) (given_of self.new) }
-        ensures past_told { ToldWithin (length octets.now) (room_for_output self.old) (chip_of self.old).past (chip_of self.new).past }
-        ensures room { (room_for_output self.new ≡ room_for_output self.old - length octets.now) × (room_for_writes self.new ≡ room_for_writes self.old) }
-        ensures cause { Counts 0 0 result }
+        ensures { GivesSteadily octets.now self.old self.new result }
     {
         if octets.is_empty() {
             return Ok(());

@@ -1,6 +1,4 @@
 // What is said of a line that is in no grammar.
-ghost use Rattle.std.specs.Prelude.{◌≤◌, length};
-
 use crate::reason::Reason;
 use crate::spot::Spot;
 use crate::standing::put_standing;
@@ -11,7 +9,7 @@ use crate::{Dialect, Message};
 #[inline(never)]
 pub(crate) fn put_fault<D: Dialect>(dialect: &D, line: &[u8], place: usize, message: &mut Message) {
     let margin = message.len();
-    let place = place.min(line.len());
+    let spot = Spot::at(dialect, line, place);
     for octet in line {
         message.put(&[shown(*octet)]);
     }
@@ -19,19 +17,17 @@ pub(crate) fn put_fault<D: Dialect>(dialect: &D, line: &[u8], place: usize, mess
     for _ in 0..margin {
         message.put(b" ");
     }
-    for _ in 0..place {
+    for _ in spot.before {
         message.put(b" ");
     }
     message.put(b"^ ");
-    put_reason(dialect, line, place, message);
+    put_reason(&spot, line, message);
 }
 
 // Why the token at a place is at fault. Where it goes on with a word that is begun, that is told of the whole word.
-fn reason_at<'a, D: Dialect>(spot: &Spot<'a, D>, line: &'a [u8], place: usize) -> Reason<'a>
-    requires { place ≤ length line.now }
-{
+fn reason_at<'a, D: Dialect>(spot: &Spot<'a, D>, line: &'a [u8]) -> Reason<'a> {
     if goes_on(spot.rest) {
-        let start = place.saturating_sub(open_word_len(spot.before));
+        let start = spot.before.len().saturating_sub(open_word_len(spot.before));
         if let Some(reason) = Spot::at(spot.grammar, line, start).about_words() {
             return reason;
         }
@@ -55,12 +51,9 @@ fn shown(octet: u8) -> u8 {
     }
 }
 
-fn put_reason<D: Dialect>(dialect: &D, line: &[u8], place: usize, message: &mut Message)
-    requires { place ≤ length line.now }
-{
-    let spot = Spot::at(dialect, line, place);
-    match reason_at(&spot, line, place) {
-        Reason::Help => message.put(dialect.help()),
+fn put_reason<D: Dialect>(spot: &Spot<D>, line: &[u8], message: &mut Message) {
+    match reason_at(spot, line) {
+        Reason::Help => message.put(spot.grammar.help()),
         Reason::Tables => message.put(b"#help tables"),
         Reason::Leaves => message.put(b"^D leaves"),
         Reason::Unclosed => message.put(b"this ' isn't closed"),
@@ -88,7 +81,7 @@ fn put_reason<D: Dialect>(dialect: &D, line: &[u8], place: usize, message: &mut 
             put_around(b" ", of, b"", message);
         }
         Reason::NoObject => message.put(b"a column is named with its object, as ITEM.NAME"),
-        Reason::Other => put_standing(dialect, &spot, message),
+        Reason::Other => put_standing(spot, message),
     }
 }
 

@@ -1,12 +1,9 @@
 // What may stand at a place of a line is asked of the grammar itself.
-ghost use Rattle.std.specs.Prelude.{◌≡◌, ◌≤◌, ℕ, List, Option, length};
-ghost use Rattle.scql_model.specs.Lines.{longest_line};
+ghost use Rattle.std.specs.Prelude.{◌≡◌, ℕ, List, Option};
 ghost use Rattle.guide.specs.Standing as standing;
 
 use arrayvec::ArrayVec;
-
-/// The octets of the longest line.
-const LONGEST_LINE: usize = 1000;
+use taken_line::{LONGEST_LINE, TakenLine};
 
 /// A grammar of lines.
 pub trait Grammar {
@@ -14,9 +11,8 @@ pub trait Grammar {
     ghost fault_of: { Self → List ℕ → Option ℕ };
 
     /// The same of a line.
-    fn fault_place(&self, line: &[u8]) -> Option<usize>
-        requires short { length line.now ≤ longest_line }
-        ensures { result ≡ fault_of self.now line.now };
+    fn fault_place(&self, line: TakenLine<'_>) -> Option<usize>
+        ensures { result ≡ fault_of self.now line.entry.octets.now };
 }
 
 /// Whether a line of a grammar may have this token behind these octets, with a blank between. The empty token is the line's end.
@@ -30,7 +26,9 @@ pub fn may_stand<G: Grammar>(grammar: &G, before: &[u8], token: &[u8]) -> bool
     {
         return false;
     }
-    match grammar.fault_place(tried.as_slice()) {
+    match grammar.fault_place(TakenLine {
+        octets: tried.as_slice(),
+    }) {
         Some(place) => before.len() + 1 < place,
         None => true,
     }

@@ -4,9 +4,10 @@ ghost use Rattle.person.specs.Showing.{ShowsSome};
 use crate::fault::put_fault;
 use crate::lines::Lines;
 use crate::size::put_too_large;
-use crate::{Cells, Dialect, Message, Why};
+use crate::{Cells, Dialect, Message, Occasion, Why};
 use person::{Person, Presence};
 use script::ScriptFault;
+use taken_line::TakenLine;
 
 /// What a session tells a person beside its output. Nothing is told where nobody is there.
 #[derive(Drop)]
@@ -24,24 +25,62 @@ impl<D: Dialect + Drop> Guide<D> {
         }
     }
 
-    /// Says at the start, to one who types, what the session goes over and how it is left. The cells are those of its card.
-    pub fn greet<P: Person>(&mut self, cells: Option<Cells>, person: &mut P)
+    /// Tells a person of an occasion.
+    pub fn tell<P: Person>(&mut self, occasion: Occasion<'_>, person: &mut P)
         ensures { ShowsSome P.lost P.shown person.old person.new }
     {
-        show_title_where(self.is_titled(cells), person);
-        let mut message = Message::new();
-        if self.lines.presence == Presence::Typing {
-            self.put_greeting(cells, &mut message);
+        self.count(&occasion);
+        if !self.lines.is_watched() {
+            person.show(b"");
+            return;
         }
+        if self.is_titled(&occasion) {
+            person.show_title();
+        } else {
+            person.show(b"");
+        }
+        self.show_message(occasion, person);
+    }
+
+    fn count(&mut self, occasion: &Occasion<'_>) {
+        match occasion {
+            Occasion::Line { .. } => self.lines.see(),
+            Occasion::Outcome { why: Some(_), .. } => self.lines.refuse(),
+            _ => {}
+        }
+    }
+
+    // What the session goes over is called by its title, to one who types, where its cells are told.
+    fn is_titled(&self, occasion: &Occasion<'_>) -> bool {
+        self.lines.presence == Presence::Typing
+            && matches!(occasion, Occasion::Start { cells: Some(_) })
+    }
+
+    // In a function of its own that isn't inlined: what it clears as it is entered is then cleared only where somebody is there.
+    #[inline(never)]
+    fn show_message<P: Person>(&mut self, occasion: Occasion<'_>, person: &mut P)
+        ensures { ShowsSome P.lost P.shown person.old person.new }
+    {
+        let mut message = Message::new();
+        self.put(occasion, &mut message);
         person.show(message.as_slice());
     }
 
-    // What the session goes over is called by its title where its cells are told.
-    fn is_titled(&self, cells: Option<Cells>) -> bool {
-        self.lines.presence == Presence::Typing && cells.is_some()
+    fn put(&mut self, occasion: Occasion<'_>, message: &mut Message) {
+        match occasion {
+            Occasion::Start { cells } => self.put_greeting(cells, message),
+            Occasion::Line { line } => self.put_foreword(line, message),
+            Occasion::Outcome { line, why, cells } => self.put_afterword(line, why, cells, message),
+            Occasion::Message { message: text } => message.put(text.as_slice()),
+            Occasion::End { whole } => self.put_end(whole, message),
+        }
     }
 
+    // Says, to one who types, what the session goes over and how it is left.
     fn put_greeting(&self, cells: Option<Cells>, message: &mut Message) {
+        if self.lines.presence != Presence::Typing {
+            return;
+        }
         if let Some(cells) = cells {
             message.put(b": ");
             message.put_number(usize::from(cells.all));
@@ -53,29 +92,7 @@ impl<D: Dialect + Drop> Guide<D> {
         message.put(b"; ^D (end of input) leaves.\n");
     }
 
-    /// Says what is known of a line before it is carried out. It is none where it is longer than a line may be.
-    pub fn before<P: Person>(&mut self, line: Option<&[u8]>, person: &mut P)
-        ensures { ShowsSome P.lost P.shown person.old person.new }
-    {
-        self.lines.see();
-        if self.lines.is_watched() {
-            self.show_foreword(line, person);
-        } else {
-            person.show(b"");
-        }
-    }
-
-    // In a function of its own that isn't inlined: what it clears as it is entered is then cleared only where somebody is there.
-    #[inline(never)]
-    fn show_foreword<P: Person>(&self, line: Option<&[u8]>, person: &mut P)
-        ensures { ShowsSome P.lost P.shown person.old person.new }
-    {
-        let mut message = Message::new();
-        self.put_foreword(line, &mut message);
-        person.show(message.as_slice());
-    }
-
-    fn put_foreword(&self, line: Option<&[u8]>, message: &mut Message) {
+    fn put_foreword(&self, line: Option<TakenLine<'_>>, message: &mut Message) {
         self.lines.put_margin(message);
         let margin = message.len();
         if let Some(line) = line {
@@ -84,45 +101,9 @@ impl<D: Dialect + Drop> Guide<D> {
         end(message, margin);
     }
 
-    /// Says what came of a line, behind its closing text: why it wasn't carried out, or, where that isn't told, what goes with one that was.
-    pub fn behind<P: Person>(
-        &mut self,
-        line: Option<&[u8]>,
-        why: Option<Why>,
-        cells: Option<Cells>,
-        person: &mut P,
-    )
-        ensures { ShowsSome P.lost P.shown person.old person.new }
-    {
-        if why.is_some() {
-            self.lines.refuse();
-        }
-        if self.lines.is_watched() {
-            self.show_afterword(line, why, cells, person);
-        } else {
-            person.show(b"");
-        }
-    }
-
-    // The same as for what is said before a line.
-    #[inline(never)]
-    fn show_afterword<P: Person>(
-        &mut self,
-        line: Option<&[u8]>,
-        why: Option<Why>,
-        cells: Option<Cells>,
-        person: &mut P,
-    )
-        ensures { ShowsSome P.lost P.shown person.old person.new }
-    {
-        let mut message = Message::new();
-        self.put_afterword(line, why, cells, &mut message);
-        person.show(message.as_slice());
-    }
-
     fn put_afterword(
         &mut self,
-        line: Option<&[u8]>,
+        line: Option<TakenLine<'_>>,
         why: Option<Why>,
         cells: Option<Cells>,
         message: &mut Message,
@@ -138,7 +119,7 @@ impl<D: Dialect + Drop> Guide<D> {
 
     fn put_what_came(
         &mut self,
-        line: &[u8],
+        line: TakenLine<'_>,
         why: Option<Why>,
         cells: Option<Cells>,
         message: &mut Message,
@@ -150,12 +131,12 @@ impl<D: Dialect + Drop> Guide<D> {
                 Why::Fault {
                     fault: ScriptFault::At { place },
                 },
-            ) => put_fault(&self.dialect, line, usize::from(place), message),
+            ) => put_fault(&self.dialect, line.octets, usize::from(place), message),
             Some(
                 Why::Fault {
                     fault: ScriptFault::TooLarge,
                 },
-            ) => put_too_large(line, message),
+            ) => put_too_large(line.octets, message),
             Some(Why::TooLong) => message.put(b"a line has at most 1,000 octets"),
             Some(Why::NoCard) => message.put(b"this reader has no card that answers"),
             Some(Why::TooMany) => message.put(
@@ -164,37 +145,11 @@ impl<D: Dialect + Drop> Guide<D> {
         }
     }
 
-    /// Says something that is of no line.
-    pub fn tell<P: Person>(&self, message: &Message, person: &mut P)
-        ensures { ShowsSome P.lost P.shown person.old person.new }
-    {
-        let text = if self.lines.is_watched() {
-            message.as_slice()
-        } else {
-            b"".as_slice()
-        };
-        person.show(text);
-    }
-
-    /// Says at the end of the input how many lines were refused.
-    pub fn leave<P: Person>(&mut self, person: &mut P)
-        ensures { ShowsSome P.lost P.shown person.old person.new }
-    {
-        let mut message = Message::new();
-        if self.lines.is_watched() {
-            self.lines.put_end(self.dialect.kind(), &mut message);
+    // Says how many lines were refused, where all of them were read.
+    fn put_end(&self, whole: bool, message: &mut Message) {
+        if whole {
+            self.lines.put_end(self.dialect.kind(), message);
         }
-        person.show(message.as_slice());
-    }
-}
-
-fn show_title_where<P: Person>(is_titled: bool, person: &mut P)
-    ensures { ShowsSome P.lost P.shown person.old person.new }
-{
-    if is_titled {
-        person.show_title();
-    } else {
-        person.show(b"");
     }
 }
 

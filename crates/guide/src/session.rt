@@ -1,5 +1,5 @@
 // What is known of a card from the statements that it carried out.
-use scql_base::{Name, Operation};
+use scql_base::{Copied, Name, Operation};
 use script::Statement;
 
 /// How many channels a card has.

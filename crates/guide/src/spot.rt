@@ -1,6 +1,4 @@
 // A place of a line, and what may stand there.
-ghost use Rattle.std.specs.Prelude.{◌≤◌, length};
-
 use crate::words::NAMES;
 use crate::{Grammar, may_stand};
 use script::Tokens;
@@ -16,10 +14,9 @@ pub(crate) struct Spot<'a, G: Grammar> {
 }
 
 impl<'a, G: Grammar> Spot<'a, G> {
-    pub(crate) fn at(grammar: &'a G, line: &'a [u8], place: usize) -> Spot<'a, G>
-        requires { place ≤ length line.now }
-    {
-        let (before, rest) = line.split_at(place);
+    /// A place of a line, or its end where that comes first.
+    pub(crate) fn at(grammar: &'a G, line: &'a [u8], place: usize) -> Spot<'a, G> {
+        let (before, rest) = line.split_at(place.min(line.len()));
         Spot {
             grammar,
             before,

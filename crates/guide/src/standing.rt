@@ -43,10 +43,10 @@ impl Listing {
 }
 
 /// Puts what may stand at a place, and which of these looks like what stands there.
-pub(crate) fn put_standing<D: Dialect>(dialect: &D, spot: &Spot<D>, message: &mut Message) {
+pub(crate) fn put_standing<D: Dialect>(spot: &Spot<D>, message: &mut Message) {
     if spot.is_first() {
         message.put(b"a ");
-        message.put(dialect.kind());
+        message.put(spot.grammar.kind());
         message.put(b" begins with ");
     } else {
         message.put(b"here stands ");

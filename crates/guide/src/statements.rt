@@ -5,9 +5,7 @@ use crate::session::Session;
 use crate::{Cells, Dialect, Grammar, Message};
 use scql_base::{NameList, Operation, StatusWord};
 use script::{ScriptFault, Statement};
-
-/// The octets of the longest line.
-const LONGEST_LINE: usize = 1000;
+use taken_line::TakenLine;
 
 /// The statements of a terminal, and what is known of its card from those that were carried out.
 #[derive(Drop)]
@@ -47,8 +45,8 @@ impl Statements {
 }
 
 // Reads the statement of a line into a place, and tells whether it is one.
-fn is_read(line: &[u8], place: &mut Statement) -> bool {
-    line.len() <= LONGEST_LINE && Statement::read_into(line, place).is_ok()
+fn is_read(line: TakenLine<'_>, place: &mut Statement) -> bool {
+    Statement::read_into(line, place).is_ok()
 }
 
 fn put_names(names: &NameList, message: &mut Message) {
@@ -66,7 +64,7 @@ impl Grammar for Statements {
 
     ghost fault_of = { λ _ line. place_of (statement_of line) };
 
-    fn fault_place(&self, line: &[u8]) -> Option<usize> {
+    fn fault_place(&self, line: TakenLine<'_>) -> Option<usize> {
         let mut statement = Statement::Blank;
         match Statement::read_into(line, &mut statement) {
             Err(ScriptFault::At { place }) => Some(usize::from(place)),
@@ -85,7 +83,7 @@ impl Dialect for Statements {
     }
 
     #[inline(never)]
-    fn before(&self, line: &[u8], message: &mut Message) {
+    fn before(&self, line: TakenLine<'_>, message: &mut Message) {
         let mut statement = Statement::Blank;
         if !is_read(line, &mut statement) {
             return;
@@ -96,8 +94,8 @@ impl Dialect for Statements {
     }
 
     #[inline(never)]
-    fn done(&mut self, line: &[u8], message: &mut Message) {
-        put_note(line, message);
+    fn done(&mut self, line: TakenLine<'_>, message: &mut Message) {
+        put_note(line.octets, message);
         let mut statement = Statement::Blank;
         if is_read(line, &mut statement) {
             self.warn(&statement, message);
@@ -106,7 +104,13 @@ impl Dialect for Statements {
     }
 
     #[inline(never)]
-    fn refused(&self, line: &[u8], word: StatusWord, cells: Option<Cells>, message: &mut Message) {
+    fn refused(
+        &self,
+        line: TakenLine<'_>,
+        word: StatusWord,
+        cells: Option<Cells>,
+        message: &mut Message,
+    ) {
         let mut statement = Statement::Blank;
         if is_read(line, &mut statement) {
             put_refusal(&self.session, &statement, word, cells, message);

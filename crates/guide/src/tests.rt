@@ -1,10 +1,11 @@
 // What a person is shown of lines, word for word.
-use crate::{Cells, Guide, Statements, Why};
+use crate::{Cells, Guide, Occasion, Statements, Why};
 use arrayvec::ArrayVec;
 use person::{Person, Presence};
 use scql_base::StatusWord;
 use script::Statement;
 use std::process::Abort;
+use taken_line::TakenLine;
 
 /// A screen that keeps what it shows.
 #[derive(Drop)]
@@ -36,10 +37,10 @@ impl Person for Page {
 const CELLS: Cells = Cells { used: 25, all: 64 };
 
 // Why a line isn't carried out: it is at fault, or the card refuses it by this word.
-fn why_of(line: &[u8], word: u16) -> Option<Why> {
-    if line.len() > 1000 {
+fn why_of(line: Option<TakenLine<'_>>, word: u16) -> Option<Why> {
+    let Some(line) = line else {
         return Some(Why::TooLong);
-    }
+    };
     match Statement::read(line) {
         Err(fault) => Some(Why::Fault { fault }),
         Ok(_) if word == 0x9000 => None,
@@ -51,12 +52,17 @@ fn why_of(line: &[u8], word: u16) -> Option<Why> {
 
 // What a line shows, before and behind its text.
 fn told(guide: &mut Guide<Statements>, line: &str, word: u16) -> Page {
-    let line = line.as_bytes();
+    let line = TakenLine::of(line.as_bytes());
     let mut page = Page {
         text: ArrayVec::new(),
     };
-    guide.before(Some(line), &mut page);
-    guide.behind(Some(line), why_of(line, word), Some(CELLS), &mut page);
+    guide.tell(Occasion::Line { line }, &mut page);
+    let outcome = Occasion::Outcome {
+        line,
+        why: why_of(line, word),
+        cells: Some(CELLS),
+    };
+    guide.tell(outcome, &mut page);
     page
 }
 

@@ -1,6 +1,4 @@
 // Pieces of a line, as a person sees them.
-ghost use Rattle.std.specs.Prelude.{◌≤◌, length};
-
 use arrayvec::ArrayVec;
 
 /// How many octets of a word are looked at.
@@ -26,27 +24,16 @@ fn ends_piece(octet: u8) -> bool {
         )
 }
 
-fn word_len(rest: &[u8]) -> usize
-    ensures within { result ≤ length rest.now }
-{
-    rest.iter().take_while(|octet| is_of_word(**octet)).count()
-}
-
-fn piece_len(rest: &[u8]) -> usize
-    ensures within { result ≤ length rest.now }
-{
-    rest.iter().take_while(|octet| !ends_piece(**octet)).count()
-}
-
-fn blanks_len(rest: &[u8]) -> usize
-    ensures within { result ≤ length rest.now }
-{
-    rest.iter().take_while(|octet| is_blank(**octet)).count()
+// Octets before and behind the first one that ends a piece.
+fn split_piece(rest: &[u8]) -> (&[u8], &[u8]) {
+    let len = rest.iter().take_while(|octet| !ends_piece(**octet)).count();
+    rest.split_at(len)
 }
 
 /// The letters of either case, digits and `_` with which these octets begin.
 pub(crate) fn word_of(rest: &[u8]) -> &[u8] {
-    &rest[..word_len(rest)]
+    let len = rest.iter().take_while(|octet| is_of_word(**octet)).count();
+    &rest[..len]
 }
 
 /// How many of these octets, at their end, could be the start of a word.
@@ -60,17 +47,18 @@ pub(crate) fn open_word_len(before: &[u8]) -> usize {
 
 /// What stands before the first blank, comma, bracket, quote, sign of comparison or semicolon.
 pub(crate) fn piece_of(rest: &[u8]) -> &[u8] {
-    &rest[..piece_len(rest)]
+    split_piece(rest).0
 }
 
 /// What stands behind that.
 pub(crate) fn behind_piece(rest: &[u8]) -> &[u8] {
-    &rest[piece_len(rest)..]
+    split_piece(rest).1
 }
 
 /// The octets without the blanks with which they begin.
 pub(crate) fn after_blanks(line: &[u8]) -> &[u8] {
-    &line[blanks_len(line)..]
+    let len = line.iter().take_while(|octet| is_blank(**octet)).count();
+    &line[len..]
 }
 
 /// A word in capital letters.

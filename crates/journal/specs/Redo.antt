@@ -1,8 +1,9 @@
 -- What the entries behind an open gate make of a directory, in one write after another.
-use Rattle.std.specs.Prelude.{◌≡◌, ℕ, ◌+◌, ◌*◌, ◌<◌, ◌≤◌, ◌==◌, Bool, true, false, List, length, take, drop, get_or}
+use Rattle.std.specs.Prelude.{◌≡◌, ℕ, ◌+◌, ◌*◌, ◌<◌, ◌≤◌, ◌==◌, Bool, true, false, List, length, take, drop, get_or, Option, IfSome}
 use Rattle.std.specs.List.{list_any}
 use Rattle.eeprom.specs.StoreOf.{header_size, journal_place, written_directory, journal, is_in_range, is_gate_open, with_entries}
 use Rattle.eeprom.specs.declared.entry.Entry.{Entry}
+use Rattle.journal.specs.Journal.{AreEntriesOf}
 use Rattle.journal.specs.Run.{Numbers}
 
 -- an entry names this slot
@@ -37,3 +38,13 @@ pub record IsRun (n : ℕ) (entries : List Entry) (run : Numbers) : Type 0 where
 -- the written directory has these entries, and is else as it was
 abbrev pub HasEntries : ℕ → List Entry → List ℕ → List ℕ → Type 0
 HasEntries n entries was now = written_directory now n ≡ with_entries entries (written_directory was n)
+
+-- What an open gate asks for may be done: these are the entries of the journal behind it.
+pub record MayRedo (n : ℕ) (listed : List Entry) (image : Option (List ℕ)) : Type 0 where
+  pub entries : AreEntriesOf n listed
+  pub over : IfSome image (IsOpenWith n listed)
+
+-- These entries may be committed: the gate is closed.
+pub record MayCommit (n : ℕ) (listed : List Entry) (image : Option (List ℕ)) : Type 0 where
+  pub entries : AreEntriesOf n listed
+  pub closed : IfSome image (λ image. is_gate_open image ≡ false)

@@ -1,6 +1,9 @@
 -- What an EEPROM in memory tells that keeps a log of its writes and a text.
 use Rattle.std.specs.Prelude.{◌≡◌, ℕ, ◌-◌, ◌<◌, ◌≤◌, ◌^◌, suc, List, [], ◌∷◌, ◌++◌, length, min, vec_len, vec_capacity, Option, Some, None, Result, IsOk, OnOk, OnErr}
 use Rattle.eeprom.specs.Chip.{Chip, Stretch, giving}
+use Rattle.eeprom.specs.Fault.{Counts}
+use Rattle.eeprom.specs.Octets.{ReadsOctets, WritesOctets}
+use Rattle.eeprom.specs.Output.{Follows}
 use Rattle.log_bench.specs.Log as logs
 use Rattle.log_bench.specs.LogBench as log
 use Rattle.log_bench.specs.LogBench.{LogsWrite}
@@ -60,6 +63,10 @@ room_for_octets b = logs.room_for_octets b.log.log
 abbrev pub room_for_text : LineBench → ℕ
 room_for_text b = vec_capacity b.text - vec_len b.text
 
+-- how many octets the image has
+abbrev pub size_of : LineBench → ℕ
+size_of b = (chip_of b).still.size
+
 -- how many octets were read isn't told
 abbrev pub octets_read_of : LineBench → Option ℕ
 octets_read_of b = None
@@ -118,3 +125,24 @@ pub record WritesOrWants {E : Type 0} (at : ℕ) (octets : List ℕ) (old new : 
   pub fits : 1 ≤ room_for_writes old → length octets ≤ room_for_octets old → IsOk result
   -- The text stays.
   pub text : new.text ≡ old.text
+
+-- A read never fails.
+pub record ReadsImage {T E : Type 0} (at : ℕ) (buffer got : List ℕ) (old new : LineBench) (result : Result T E) : Type 0 where
+  pub succeeds : IsOk result
+  pub reads : ReadsOctets chip_of octets_read_of faults_of at buffer got old new result
+
+-- A write is entered into the log.
+pub record EntersWrite {E : Type 0} (at : ℕ) (octets : List ℕ) (old new : LineBench) (result : Result (Unit {0}) E) : Type 0 where
+  pub entered : WritesOrWants at octets old new result
+  pub writes : WritesOctets chip_of octets_read_of faults_of at octets old new result
+
+-- A piece of text is given, or there was no memory for it.
+pub record GivesText {T E : Type 0} (octets : List ℕ) (old new : LineBench) (result : Result T E) : Type 0 where
+  pub wanting : OnErr result (text_of new ≡ text_of old)
+  -- Where there is room for it, it is given.
+  pub fits : length octets ≤ room_for_text old → IsOk result
+  -- What an outlet does:
+  pub ok : OnOk result (Follows (length octets) octets (given_of old) (given_of new))
+  pub err : OnErr result ((count : ℕ) × Follows count octets (given_of old) (given_of new))
+  pub rest : LeavesLog old new
+  pub cause : Counts (text_faults_of old) (text_faults_of new) result

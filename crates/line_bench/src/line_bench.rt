@@ -23,7 +23,7 @@ pub struct LineBench {
 
 impl LineBench {
     ghost use Rattle.std.specs.Prelude.{◌≡◌, ◌+◌, ◌≤◌, length, slice_get, option_map, vec_capacity, IfOk};
-    ghost use Rattle.line_bench.specs.LineBench.{IsBegun, IsNew, KeepsFaults, WritesOrWants, image_of, room_for_text, text_of, writes_of};
+    ghost use Rattle.line_bench.specs.LineBench.{IsBegun, IsNew, KeepsFaults, WritesOrWants, image_of, room_for_text, size_of, text_of, writes_of};
 
     /// Begins a log with room for so many writes, and for so many octets of them. There is no text, nor room for one.
     pub fn new(
@@ -93,7 +93,7 @@ impl LineBench {
 
     // Writes, where there is memory for the log.
     fn enter(&mut self, at: usize, from: &[u8]) -> Result<(), EepromFault>
-        requires { at + length from.now ≤ length (image_of self.old) }
+        requires { at + length from.now ≤ size_of self.old }
         ensures entered { WritesOrWants at from.now self.old self.new result }
         ensures faults { KeepsFaults self.old self.new }
     {
@@ -107,12 +107,8 @@ impl LineBench {
 }
 
 impl Eeprom for LineBench {
-    ghost use Rattle.std.specs.Prelude.{◌≡◌, ◌+◌, ◌≤◌, length, slice_range, option_map, IfSome, OnOk, IsOk, refl};
-    ghost use Rattle.eeprom.specs.Chip.{Becomes, RisesBy, Writes};
-    ghost use Rattle.eeprom.specs.Fault.{Counts, each_error};
-    ghost use Rattle.eeprom.specs.Frame.{Reads};
-    ghost use Rattle.eeprom.specs.Image.{overwrite};
-    ghost use Rattle.line_bench.specs.LineBench.{WritesOrWants, chip_of, faults_of, octets_read_of, small_of};
+    ghost use Rattle.std.specs.Prelude.{◌+◌, ◌≤◌, length, refl};
+    ghost use Rattle.line_bench.specs.LineBench.{EntersWrite, ReadsImage, chip_of, faults_of, octets_read_of, size_of, small_of};
 
     ghost chip = { chip_of };
 
@@ -125,23 +121,16 @@ impl Eeprom for LineBench {
     }
 
     fn read(&mut self, at: usize, into: &mut [u8]) -> Result<(), EepromFault>
-        requires { at + length into.old ≤ (chip_of self.old).still.size }
-        ensures succeeds { IsOk result }
-        ensures octets { OnOk result (IfSome (chip_of self.old).image (λ image. into.new ≡ slice_range image at (at + length into.old))) }
-        ensures frame { Reads each_error chip_of faults_of self.old self.new result }
-        ensures read { Becomes (RisesBy (length into.old)) (octets_read_of self.old) (octets_read_of self.new) }
+        requires { at + length into.old ≤ size_of self.old }
+        ensures { ReadsImage at into.old into.new self.old self.new result }
     {
         into.copy_from_slice(&self.log.image()[at..at + into.len()]);
         Ok(())
     }
 
     fn write(&mut self, at: usize, from: &[u8]) -> Result<(), EepromFault>
-        requires { at + length from.now ≤ (chip_of self.old).still.size }
-        ensures entered { WritesOrWants at from.now self.old self.new result }
-        ensures written { OnOk result ((chip_of self.new).image ≡ option_map (λ image. overwrite image at from.now) (chip_of self.old).image) }
-        ensures writes { Writes at from.now (chip_of self.old) (chip_of self.new) }
-        ensures read { octets_read_of self.new ≡ octets_read_of self.old }
-        ensures cause { Counts (faults_of self.old) (faults_of self.new) result }
+        requires { at + length from.now ≤ size_of self.old }
+        ensures { EntersWrite at from.now self.old self.new result }
     {
         match self.enter(at, from) {
             Ok(()) => Ok(()),
@@ -160,10 +149,7 @@ impl Eeprom for LineBench {
 }
 
 impl Outlet for LineBench {
-    ghost use Rattle.std.specs.Prelude.{◌≡◌, ◌≤◌, ℕ, length, IsOk, OnOk, OnErr};
-    ghost use Rattle.eeprom.specs.Fault.{Counts};
-    ghost use Rattle.eeprom.specs.Output.{Follows};
-    ghost use Rattle.line_bench.specs.LineBench.{LeavesLog, given_of, room_for_text, text_faults_of, text_of};
+    ghost use Rattle.line_bench.specs.LineBench.{GivesText, LeavesLog, given_of, text_faults_of};
 
     ghost given = { given_of };
 
@@ -172,12 +158,7 @@ impl Outlet for LineBench {
     ghost leaves = { LeavesLog };
 
     fn give(&mut self, octets: &[u8]) -> Result<(), SinkFault>
-        ensures wanting { OnErr result (text_of self.new ≡ text_of self.old) }
-        ensures fits { length octets.now ≤ room_for_text self.old → IsOk result }
-        ensures ok { OnOk result (Follows (length octets.now) octets.now (given_of self.old) (given_of self.new)) }
-        ensures err { OnErr result ((count : ℕ) × Follows count octets.now (given_of self.old) (given_of self.new)) }
-        ensures rest { LeavesLog self.old self.new }
-        ensures cause { Counts (text_faults_of self.old) (text_faults_of self.new) result }
+        ensures { GivesText octets.now self.old self.new result }
     {
         if self.text.extend_from_slice(octets).is_ok() {
             return Ok(());

@@ -1,6 +1,7 @@
 // What the lines of an input are handed to.
-ghost use Rattle.std.specs.Prelude.{ℕ, List, [], ◌∷◌, ◌++◌, ◌≤◌, Option, option_map, length, IfSome, OnOk, IfErr};
-ghost use Rattle.scql_model.specs.Lines.{longest_line};
+ghost use Rattle.std.specs.Prelude.{ℕ, List, [], ◌∷◌, ◌++◌, Option, option_map, OnOk, IfErr};
+
+use taken_line::TakenLine;
 
 /// Answers lines one after another, until one stops it.
 pub trait LineAnswerer {
@@ -16,12 +17,11 @@ pub trait LineAnswerer {
     /// It went from the one state to the other as it was stopped in this line, for this reason.
     ghost stops: { Self → Option (List ℕ) → Self.Stop → Self → Type 0 };
 
-    /// Answers a whole line, without its line feed: its octets, or none where it has more than 1,000.
-    fn answer(&mut self, line: Option<&[u8]>) -> Result<(), Self::Stop>
+    /// Answers a whole line, or none where it has more octets than a line may have.
+    fn answer(&mut self, line: Option<TakenLine<'_>>) -> Result<(), Self::Stop>
         requires ready { is_ready self.old }
-        requires short { IfSome line (λ octets. length octets.now ≤ longest_line) }
-        ensures answered { OnOk result (answers self.old (option_map (λ octets. octets.now) line.entry ∷ []) self.new) }
-        ensures stopped { IfErr result (λ stop. stops self.old (option_map (λ octets. octets.now) line.entry) stop self.new) }
+        ensures answered { OnOk result (answers self.old (option_map (λ line. line.octets.now) line.entry ∷ []) self.new) }
+        ensures stopped { IfErr result (λ stop. stops self.old (option_map (λ line. line.octets.now) line.entry) stop self.new) }
         ensures ready { OnOk result (is_ready self.new) };
 
     /// Without a line it stays as it is.

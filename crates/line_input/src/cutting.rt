@@ -5,7 +5,8 @@ ghost use Rattle.line_input.specs.Answering.{Feeds, Halts, LacksLineFeed};
 ghost use Rattle.line_input.specs.Line.{line_octets};
 
 use crate::LineAnswerer;
-use crate::line::{Line, within_length};
+use crate::line::Line;
+use taken_line::TakenLine;
 
 /// Takes octets behind a line that has begun: each line feed ends a line, which is answered. Where the answerer stops, the octets
 /// behind that line aren't looked at, and the line isn't begun anew.
@@ -66,10 +67,10 @@ fn end_line<A: LineAnswerer>(
     ensures ready { OnOk result (A.is_ready answerer.new) }
 {
     if line.is_empty() {
-        return answerer.answer(within_length(octets));
+        return answerer.answer(TakenLine::of(octets));
     }
     line.extend(octets);
-    answerer.answer(line.octets())?;
+    answerer.answer(line.taken())?;
     line.clear();
     Ok(())
 }

@@ -72,5 +72,5 @@ fn answer_last<A: LineAnswerer>(answerer: &mut A, line: &Line) -> Result<(), A::
     if line.is_empty() {
         return Ok(());
     }
-    answerer.answer(line.octets())
+    answerer.answer(line.taken())
 }

@@ -1,16 +1,14 @@
 // A line as far as it has come in.
-ghost use Rattle.std.specs.Prelude.{◌≡◌, ◌≤◌, ◌++◌, Option, Some, None, [], length, option_map, IfSome};
-ghost use Rattle.scql_model.specs.Lines.{longest_line, taken_line};
+ghost use Rattle.std.specs.Prelude.{◌≡◌, ◌++◌, Some, [], option_map};
+ghost use Rattle.scql_model.specs.Lines.{taken_line};
 ghost use Rattle.line_input.specs.Cutting.{is_empty_line};
 ghost use Rattle.line_input.specs.Line.{line_octets};
 
 use arrayvec::ArrayVec;
-
-/// How many octets a line has at most.
-pub(crate) const LONGEST: usize = 1000;
+use taken_line::{LONGEST_LINE, TakenLine};
 
 /// So many octets say that a line is too long.
-const TOO_LONG: usize = LONGEST + 1;
+const TOO_LONG: usize = LONGEST_LINE + 1;
 
 /// A line that has begun: its octets, as far as they have come in. One of more than 1,000 octets is too long, and keeps the first ones.
 #[derive(Drop)]
@@ -35,12 +33,11 @@ impl Line {
         self.octets.is_empty()
     }
 
-    /// Its octets, or none where it is too long.
-    pub fn octets(&self) -> Option<&[u8]>
-        ensures octets { option_map (λ octets. octets.now) result ≡ line_octets self.now }
-        ensures short { IfSome result (λ octets. length octets.now ≤ longest_line) }
+    /// The line as it is taken, or none where it is too long.
+    pub fn taken(&self) -> Option<TakenLine<'_>>
+        ensures { option_map (λ line. line.octets.now) result ≡ line_octets self.now }
     {
-        within_length(&self.octets)
+        TakenLine::of(&self.octets)
     }
 
     // Puts octets behind the line, as far as it has room.
@@ -61,12 +58,4 @@ impl Line {
     {
         self.octets.clear();
     }
-}
-
-/// A whole line as it is taken: its octets, or none where there are more than a line may have.
-pub(crate) fn within_length(line: &[u8]) -> Option<&[u8]>
-    ensures taken { option_map (λ octets. octets.now) result ≡ taken_line line.now }
-    ensures short { IfSome result (λ octets. length octets.now ≤ longest_line) }
-{
-    (line.len() <= LONGEST).then_some(line)
 }

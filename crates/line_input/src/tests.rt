@@ -5,6 +5,7 @@ use crate::{InputEnd, Line, LineAnswerer, answer_lines, take_octets};
 use arrayvec::ArrayVec;
 use eeprom::MemSource;
 use std::alloc::AllocError;
+use taken_line::TakenLine;
 
 // Keeps the lines that it answers, each with a line feed, and `-` for one that is too long. It stops in the line `stop`.
 #[derive(Drop)]
@@ -34,11 +35,11 @@ impl LineAnswerer for Keeper {
 
     ghost stops = { λ _ _ _ _. Unit {0} };
 
-    fn answer(&mut self, line: Option<&[u8]>) -> Result<(), AllocError> {
+    fn answer(&mut self, line: Option<TakenLine<'_>>) -> Result<(), AllocError> {
         match line {
             None => self.keep(b"-"),
-            Some(b"stop") => return Err(AllocError),
-            Some(octets) => self.keep(octets),
+            Some(line) if line.octets == b"stop".as_slice() => return Err(AllocError),
+            Some(line) => self.keep(line.octets),
         }
         self.keep(b"\n");
         Ok(())
@@ -80,9 +81,9 @@ fn a_line_of_1001_octets_is_too_long(rt: HostRuntime) -> Result<(), AllocError> 
     let mut keeper = Keeper::new();
     let mut line = Line::new();
     assert_eq!(rt; take_octets(&mut keeper, &mut line, &[b'a'; 1000]), Ok(()));
-    assert_eq!(rt; line.octets().is_some(), true);
+    assert_eq!(rt; TakenLine::octets_of(line.taken()).is_some(), true);
     assert_eq!(rt; take_octets(&mut keeper, &mut line, b"a"), Ok(()));
-    assert_eq!(rt; line.octets().is_some(), false);
+    assert_eq!(rt; TakenLine::octets_of(line.taken()).is_some(), false);
     assert_eq!(rt; take_octets(&mut keeper, &mut line, b"\nb\n"), Ok(()));
     assert_eq!(rt; keeper.text.as_slice(), b"-\nb\n".as_slice());
     assert_eq!(rt; line.is_empty(), true);

@@ -1,12 +1,13 @@
 // What answers the lines of a run.
-ghost use Rattle.std.specs.Prelude.{◌≡◌, ℕ, ◌≤◌, Bool, true, length, Option, option_map, IfSome, OnOk, IfErr, IsErrOf};
+ghost use Rattle.std.specs.Prelude.{◌≡◌, ℕ, Bool, true, Option, option_map, OnOk, IfErr, IsErrOf};
 ghost use Rattle.eeprom.specs.Chip.{Chip};
 ghost use Rattle.scql_model.specs.Heard.{IsLawful};
-ghost use Rattle.scql_model.specs.Lines.{Language, longest_line};
+ghost use Rattle.scql_model.specs.Lines.{Language};
 ghost use Rattle.line_run.specs.Answering.{Answered, Failed, IsOver};
 ghost use Rattle.line_run.specs.Causes.{Faults, Causes};
 
 use crate::LineStop;
+use taken_line::TakenLine;
 
 /// A card with the outlet of its answers, asked in a language of lines.
 pub trait Responder {
@@ -34,14 +35,13 @@ pub trait Responder {
     /// Lines lead from one to the other, the last of which it may have failed in. What they keep of the object is for callers who know its type.
     ghost goes_on: { Self → Self → Type 0 };
 
-    /// Answers a whole line, without its line feed: its octets, or none where it has more than 1,000.
-    fn answer_line(&mut self, line: Option<&[u8]>) -> Result<(), LineStop>
+    /// Answers a whole line, or none where it has more octets than a line may have.
+    fn answer_line(&mut self, line: Option<TakenLine<'_>>) -> Result<(), LineStop>
         requires ready { is_ready self.old }
-        requires short { IfSome line (λ octets. length octets.now ≤ longest_line) }
         ensures answered { (state : Self.State) → is_at self.old state
-            → OnOk result (Answered language state (language.effect state (option_map (λ octets. octets.now) line.entry)) (is_at self.new) (chip self.old) (chip self.new)) }
+            → OnOk result (Answered language state (language.effect state (option_map (λ line. line.octets.now) line.entry)) (is_at self.new) (chip self.old) (chip self.new)) }
         ensures failed { (state : Self.State) → is_at self.old state
-            → IfErr result (λ stop. Failed stop language state (language.effect state (option_map (λ octets. octets.now) line.entry)) (chip self.old) (chip self.new)) }
+            → IfErr result (λ stop. Failed stop language state (language.effect state (option_map (λ line. line.octets.now) line.entry)) (chip self.old) (chip self.new)) }
         ensures ready { OnOk result (is_ready self.new) }
         ensures causes { Causes (faults self.old) (faults self.new) result }
         ensures memory { IsErrOf result LineStop.NoMemory → takes_memory ≡ true }

@@ -9,6 +9,7 @@ ghost use Rattle.line_run.specs.Extent.{RunsInput};
 use crate::{LineStop, Responder};
 use eeprom::Source;
 use line_input::{InputEnd, LineAnswerer, answer_lines};
+use taken_line::TakenLine;
 
 /// Answers each line of the input.
 pub fn run_lines<S: Source, R: Responder>(source: &mut S, responder: R) -> (InputEnd<LineStop>, R)
@@ -50,7 +51,7 @@ impl<R: Responder> LineAnswerer for Answering<R> {
 
     ghost stops = { λ old line stop new. StopsInLine R.language R.is_at R.chip R.faults R.takes_memory R.goes_on old.responder line stop new.responder };
 
-    fn answer(&mut self, line: Option<&[u8]>) -> Result<(), LineStop> {
+    fn answer(&mut self, line: Option<TakenLine<'_>>) -> Result<(), LineStop> {
         self.responder.answer_line(line)
     }
 

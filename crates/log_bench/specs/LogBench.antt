@@ -1,11 +1,12 @@
 -- What an EEPROM in memory tells that keeps a log of its writes.
-use Rattle.std.specs.Prelude.{◌≡◌, ℕ, ◌+◌, ◌<◌, ◌^◌, suc, List, [], ◌∷◌, ◌++◌, length, slice_range, Option, Some, None, IfSome}
+use Rattle.std.specs.Prelude.{◌≡◌, ℕ, ◌+◌, ◌<◌, ◌≤◌, ◌^◌, suc, List, [], ◌∷◌, ◌++◌, length, slice_range, Option, Some, None, Result, IfSome, IsOk, OnOk, OnErr}
 use Rattle.std.proofs.Common.{ap}
 use Rattle.eeprom.specs.Chip.{Chip, giving}
 use Rattle.eeprom.specs.Image.{overwrite}
 use Rattle.eeprom.specs.MemBench.{small_length}
+use Rattle.eeprom.specs.Octets.{ReadsOctets, WritesOctets}
 use Rattle.eeprom.specs.Told.{told_count}
-use Rattle.log_bench.specs.Log.{writes_in}
+use Rattle.log_bench.specs.Log.{writes_in, room_for_writes, room_for_octets}
 use Rattle.log_bench.specs.Writes.{Write, undone, stretches, length-stretches}
 use Rattle.log_bench.specs.declared.log_bench.LogBench.{LogBench}
 
@@ -52,3 +53,17 @@ pub record LogsWrite (at : ℕ) (octets : List ℕ) (old new : LogBench) : Type 
   pub image : image_of new ≡ overwrite (image_of old) at octets
   pub log : log_of new ≡ log_of old ++ record { at = at; octets = octets; replaced = slice_range (image_of old) at (at + length octets) } ∷ []
   pub first : first_of new ≡ first_of old
+
+-- A read never fails.
+pub record ReadsInMemory {T E : Type 0} (at : ℕ) (buffer got : List ℕ) (old new : LogBench) (result : Result T E) : Type 0 where
+  pub succeeds : IsOk result
+  pub reads : ReadsOctets chip_of octets_read_of faults_of at buffer got old new result
+
+-- A write is logged.
+pub record WritesLogged {T E : Type 0} (at : ℕ) (octets : List ℕ) (old new : LogBench) (result : Result T E) : Type 0 where
+  pub logged : OnOk result (LogsWrite at octets old new)
+  -- It succeeds where the log has room for it,
+  pub fits : 1 ≤ room_for_writes old.log → length octets ≤ room_for_octets old.log → IsOk result
+  -- and where there is no memory for it, nothing is written.
+  pub wanting : OnErr result ((image_of new ≡ image_of old) × (log_of new ≡ log_of old))
+  pub writes : WritesOctets chip_of octets_read_of faults_of at octets old new result

@@ -1,11 +1,10 @@
 // An EEPROM in memory with a log of its writes.
-ghost use Rattle.std.specs.Prelude.{◌≡◌, ◌+◌, ◌≤◌, length};
-ghost use Rattle.eeprom.specs.Image.{overwrite};
+ghost use Rattle.std.specs.Prelude.{◌≡◌, length};
 ghost use Rattle.log_bench.specs.Log.{writes_in};
 ghost use Rattle.log_bench.specs.Writes.{AllFit, AllFit-prop, applied, undone};
 
 use crate::log::Log;
-use eeprom::{Eeprom, EepromFault, Heap};
+use eeprom::{Eeprom, EepromFault, Heap, write_over};
 use std::alloc::AllocError;
 
 /// An image, and a log of the writes since it was begun. It fails only where there is no memory for the log, and then it writes nothing.
@@ -102,12 +101,8 @@ impl LogBench {
 }
 
 impl Eeprom for LogBench {
-    ghost use Rattle.std.specs.Prelude.{◌≡◌, ◌+◌, ◌≤◌, length, slice_range, option_map, IfSome, OnOk, OnErr, IsOk, refl};
-    ghost use Rattle.eeprom.specs.Chip.{Becomes, RisesBy, Writes};
-    ghost use Rattle.eeprom.specs.Fault.{Counts, each_error};
-    ghost use Rattle.eeprom.specs.Frame.{Reads};
-    ghost use Rattle.log_bench.specs.Log.{room_for_writes, room_for_octets};
-    ghost use Rattle.log_bench.specs.LogBench.{chip_of, image_of, log_of, first_of, octets_read_of, faults_of, small_of, clocked_of, LogsWrite};
+    ghost use Rattle.std.specs.Prelude.{◌+◌, ◌≤◌, length, refl};
+    ghost use Rattle.log_bench.specs.LogBench.{ReadsInMemory, WritesLogged, chip_of, image_of, octets_read_of, faults_of, small_of, clocked_of};
 
     ghost chip = { chip_of };
 
@@ -120,11 +115,8 @@ impl Eeprom for LogBench {
     }
 
     fn read(&mut self, at: usize, into: &mut [u8]) -> Result<(), EepromFault>
-        requires { at + length into.old ≤ (chip_of self.old).still.size }
-        ensures succeeds { IsOk result }
-        ensures octets { OnOk result (IfSome (chip_of self.old).image (λ image. into.new ≡ slice_range image at (at + length into.old))) }
-        ensures frame { Reads each_error chip_of faults_of self.old self.new result }
-        ensures read { Becomes (RisesBy (length into.old)) (octets_read_of self.old) (octets_read_of self.new) }
+        requires { at + length into.old ≤ length (image_of self.old) }
+        ensures { ReadsInMemory at into.old into.new self.old self.new result }
     {
         self.octets_read = self.octets_read.saturating_add(into.len() as u128);
         into.copy_from_slice(&self.image[at..at + into.len()]);
@@ -132,14 +124,8 @@ impl Eeprom for LogBench {
     }
 
     fn write(&mut self, at: usize, from: &[u8]) -> Result<(), EepromFault>
-        requires { at + length from.now ≤ (chip_of self.old).still.size }
-        ensures logged { OnOk result (LogsWrite at from.now self.old self.new) }
-        ensures fits { 1 ≤ room_for_writes self.old.log → length from.now ≤ room_for_octets self.old.log → IsOk result }
-        ensures wanting { OnErr result ((image_of self.new ≡ image_of self.old) × (log_of self.new ≡ log_of self.old)) }
-        ensures written { OnOk result ((chip_of self.new).image ≡ option_map (λ image. overwrite image at from.now) (chip_of self.old).image) }
-        ensures writes { Writes at from.now (chip_of self.old) (chip_of self.new) }
-        ensures read { octets_read_of self.new ≡ octets_read_of self.old }
-        ensures cause { Counts (faults_of self.old) (faults_of self.new) result }
+        requires { at + length from.now ≤ length (image_of self.old) }
+        ensures { WritesLogged at from.now self.old self.new result }
     {
         self.octets_written = self.octets_written.saturating_add(from.len() as u128);
         match self.log.add(at, from, &self.image[at..at + from.len()]) {
@@ -159,12 +145,4 @@ impl Eeprom for LogBench {
     ghost clocked = { clocked_of };
 
     ghost sized = { λ b. refl };
-}
-
-// The octets of the range are these, and all else stays.
-fn write_over(image: &mut [u8], at: usize, octets: &[u8])
-    requires { at + length octets.now ≤ length image.old }
-    ensures { image.new ≡ overwrite image.old at octets.now }
-{
-    image[at..at + octets.len()].copy_from_slice(octets);
 }

@@ -1,7 +1,10 @@
 -- What a migration makes of an image, and what a power loss may leave of it.
-use Rattle.std.specs.Prelude.{◌≡◌, ◌⊎◌, ℕ, ◌%◌, ◌==◌, Bool, true, List, length, take, drop, slice_index, slice_range, option_map}
-use Rattle.eeprom.specs.declared.layout.TheConstants.{MIGRATED_ROW_LIMIT}
-use Rattle.eeprom.specs.StoreOf.{Stored, store_of}
+use Rattle.std.specs.Prelude.{◌≡◌, ◌⊎◌, ℕ, ◌%◌, ◌==◌, Bool, true, if◌then◌else◌, List, length, take, drop, slice_index, slice_range, Option, Some, option_map, Result, IfSome, IfOk, OnOk, is_some}
+use Rattle.eeprom.specs.Calls.{ReadsOnly}
+use Rattle.eeprom.specs.Chip.{Chip, Becomes, LeavesOf, RisesBy}
+use Rattle.eeprom.specs.Fault.{Counts, each_error}
+use Rattle.eeprom.specs.declared.layout.TheConstants.{MIGRATED_ROW_LIMIT, ROW_LIMIT}
+use Rattle.eeprom.specs.StoreOf.{Stored, row_limit, store_of}
 
 -- an even version says that the card wasn't migrated
 abbrev pub has_even_version : List ℕ → Bool
@@ -34,3 +37,22 @@ pub record IsMigrated (was now : List ℕ) : Type 0 where
 pub record IsBetweenVersions (was left : List ℕ) : Type 0 where
   pub rest : KeepsAllElse was left
   pub one : (store_of left ≡ store_of was) ⊎ (store_of left ≡ option_map (with_rows_up_to MIGRATED_ROW_LIMIT) (store_of was))
+
+-- A card is migrated, once: it is answered whether it wasn't before.
+pub record Migrates {S E : Type 0} (chip : S → Chip) (faults : S → ℕ) (octets : S → Option ℕ) (old new : S) (result : Result Bool E) : Type 0 where
+  pub migrates : IfOk result (λ migrates. IfSome (chip old).image (λ image. migrates ≡ (row_limit image == ROW_LIMIT)))
+  pub done : OnOk result (Becomes IsMigrated (chip old).image (chip new).image)
+  pub told : OnOk result (is_some (chip new).image ≡ is_some (chip old).image)
+  -- A card that was migrated stays as it is.
+  pub already : (image : List ℕ) → (chip old).image ≡ Some image → row_limit image ≡ MIGRATED_ROW_LIMIT → chip new ≡ chip old
+  pub still : (chip new).still ≡ (chip old).still
+  -- At each moment it has one version or the other.
+  pub moments : LeavesOf IsBetweenVersions (chip old) (chip new)
+  pub octets_written : IfOk result (λ migrates. Becomes (RisesBy (if migrates then 3 else 0)) (chip old).written (chip new).written)
+  pub octets_read : Becomes (RisesBy 1) (octets old) (octets new)
+  pub cause : Counts (faults old) (faults new) result
+
+-- The version is read.
+pub record ReadsVersion {S E : Type 0} (chip : S → Chip) (faults : S → ℕ) (octets : S → Option ℕ) (old new : S) (result : Result Bool E) : Type 0 where
+  pub version : IfOk result (λ is_even. IfSome (chip old).image (λ image. is_even ≡ has_even_version image))
+  pub reads : ReadsOnly each_error chip faults octets (RisesBy 1) old new result

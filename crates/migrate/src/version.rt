@@ -1,11 +1,10 @@
 // The version octet of an image, and the two octets that repeat the row limit. Places are in octets.
-ghost use Rattle.std.specs.Prelude.{◌≡◌, ◌+◌, ◌%◌, ◌≤◌, ◌==◌, ℕ, List, Some, true, false, if◌then◌else◌, is_some, slice_index, IfSome, IfOk, OnOk};
-ghost use Rattle.eeprom.specs.Calls.{ReadsOnly, WritesOnly};
-ghost use Rattle.eeprom.specs.Chip.{Becomes, RisesBy, LeavesOf};
-ghost use Rattle.eeprom.specs.Fault.{Counts, each_error};
+ghost use Rattle.std.specs.Prelude.{◌≡◌, ◌≤◌, true, IfSome};
+ghost use Rattle.eeprom.specs.Calls.{WritesOnly};
+ghost use Rattle.eeprom.specs.Chip.{RisesBy};
 ghost use Rattle.eeprom.specs.Frame.{HasRoom};
-ghost use Rattle.eeprom.specs.StoreOf.{fewest_cells, row_limit};
-ghost use Rattle.migrate.specs.Migration.{IsMigrated, IsBetweenVersions, has_even_version};
+ghost use Rattle.eeprom.specs.StoreOf.{fewest_cells};
+ghost use Rattle.migrate.specs.Migration.{IsMigrated, IsBetweenVersions, Migrates, ReadsVersion, has_even_version};
 
 use eeprom::{Eeprom, EepromFault, GATE_PLACE, MIGRATED_ROW_LIMIT, ROW_LIMIT};
 
@@ -22,15 +21,7 @@ const LIMIT: usize = GATE_PLACE + 1;
 /// The image begins with at least 1,154 octets, the size of the smallest card.
 pub fn migrate<B: Eeprom>(bench: &mut B) -> Result<bool, EepromFault>
     requires room { HasRoom fewest_cells (B.chip bench.old) }
-    ensures migrates { IfOk result (λ migrates. IfSome (B.chip bench.old).image (λ image. migrates ≡ (row_limit image == ROW_LIMIT))) }
-    ensures done { OnOk result (Becomes IsMigrated (B.chip bench.old).image (B.chip bench.new).image) }
-    ensures told { OnOk result (is_some (B.chip bench.new).image ≡ is_some (B.chip bench.old).image) }
-    ensures already { (image : List ℕ) → (B.chip bench.old).image ≡ Some image → row_limit image ≡ MIGRATED_ROW_LIMIT → B.chip bench.new ≡ B.chip bench.old }
-    ensures still { (B.chip bench.new).still ≡ (B.chip bench.old).still }
-    ensures moments { LeavesOf IsBetweenVersions (B.chip bench.old) (B.chip bench.new) }
-    ensures octets_written { IfOk result (λ migrates. Becomes (RisesBy (if migrates then 3 else 0)) (B.chip bench.old).written (B.chip bench.new).written) }
-    ensures octets_read { Becomes (RisesBy 1) (B.octets_read bench.old) (B.octets_read bench.new) }
-    ensures cause { Counts (B.faults bench.old) (B.faults bench.new) result }
+    ensures { Migrates B.chip B.faults B.octets_read bench.old bench.new result }
 {
     let migrates = is_version_even(bench)?;
     if migrates {
@@ -42,8 +33,7 @@ pub fn migrate<B: Eeprom>(bench: &mut B) -> Result<bool, EepromFault>
 /// Whether the version is even, which says that the card wasn't migrated.
 fn is_version_even<B: Eeprom>(bench: &mut B) -> Result<bool, EepromFault>
     requires room { 6 ≤ (B.chip bench.old).still.size }
-    ensures version { IfOk result (λ is_even. IfSome (B.chip bench.old).image (λ image. is_even ≡ has_even_version image)) }
-    ensures reads { ReadsOnly each_error B.chip B.faults B.octets_read (RisesBy 1) bench.old bench.new result }
+    ensures { ReadsVersion B.chip B.faults B.octets_read bench.old bench.new result }
 {
     let mut version = [0; 1];
     bench.read(VERSION, &mut version)?;

@@ -1,6 +1,5 @@
 // Searches among the objects.
 ghost use Rattle.std.specs.Prelude.{Some};
-ghost use Rattle.record_store.specs.Held.{IsOver};
 ghost use Rattle.record_store.specs.Tags as tags;
 ghost use Rattle.record_store.specs.declared.tags.Tag.TheVariants as by;
 ghost use Rattle.catalog_codec.specs.Catalog.{object_kind};
@@ -8,7 +7,7 @@ ghost use Rattle.object_table.specs.Named.{has_name};
 ghost use Rattle.record_table.specs.Searching.{FindsInto, FindsStampInto};
 
 use eeprom::{Eeprom, EepromFault};
-use record_store::{Found, Side, Store, Tag, name_tag};
+use record_store::{SideReader, Tag, name_tag};
 use record_table::{Wanted, find_by, find_into};
 use scql_base::{Name, Object};
 
@@ -32,29 +31,23 @@ impl Wanted<Object> for Named {
 
 /// Finds the object of a stamp and reads it into a place, where there is one: its slot is answered. Where there is none the place is empty.
 pub fn find_stamp_into<B: Eeprom>(
-    store: &Store,
-    bench: &mut B,
-    side: Side,
+    reader: &mut SideReader<'_, '_, B>,
     stamp: u32,
     place: &mut Option<Object>,
 ) -> Result<Option<u16>, EepromFault>
-    requires over { IsOver store.now (B.chip bench.old) }
-    ensures { FindsStampInto B.chip B.faults B.octets_read store.now side object_kind stamp bench.old bench.new place.new result }
+    ensures { FindsStampInto object_kind stamp reader.old reader.new place.new result }
 {
-    record_table::find_stamp_into(store, bench, side, stamp, place)
+    record_table::find_stamp_into(reader, stamp, place)
 }
 
 /// Finds the object of a name and reads it into a place, where there is one: of several that of the lowest slot, which is answered.
 /// Where there is none the place is empty.
 pub fn find_name_into<B: Eeprom>(
-    store: &Store,
-    bench: &mut B,
-    side: Side,
+    reader: &mut SideReader<'_, '_, B>,
     name: Name,
     place: &mut Option<Object>,
 ) -> Result<Option<u16>, EepromFault>
-    requires over { IsOver store.now (B.chip bench.old) }
-    ensures { FindsInto B.chip B.faults B.octets_read store.now side object_kind (has_name name) (Some (by.Name (tags.name_tag name))) bench.old bench.new place.new result }
+    ensures { FindsInto object_kind (has_name name) (Some (by.Name (tags.name_tag name))) reader.old reader.new place.new result }
 {
-    find_into(store, bench, side, &Named(name), place)
+    find_into(reader, &Named(name), place)
 }

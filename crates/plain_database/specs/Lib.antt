@@ -1,6 +1,9 @@
+pub mod Changed
 pub mod Changes
+pub mod CursorFacts
 pub mod Effects
 pub mod Privileged
+pub mod Rising
 pub mod Roomy
 pub mod Sought
 pub mod Within

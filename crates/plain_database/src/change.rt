@@ -5,10 +5,9 @@ ghost use Rattle.scql_model.specs.Edits.{changing, of_row, with_edits};
 ghost use Rattle.plain_database.specs.Changes.{edits_for};
 ghost use Rattle.plain_database.specs.Effects.{Ends};
 
-use crate::PlainDatabase;
 use crate::record::Record;
 use crate::replacing::replace;
-use crate::stamped::place_of;
+use crate::{PlainDatabase, Rising};
 use scql_base::{Grant, Object, RowRecord, StatusWord, User};
 
 /// What a command makes of a database's records. A change names whole records, as the edits of the model do.
@@ -89,7 +88,10 @@ impl PlainDatabase {
         ensures { Ends self.old self.new result (with_edits self.old (changing (of_row row) ∷ [])) }
     {
         let weight = self.weight();
-        match place_of(&self.rows, row.stamp) {
+        let rows = Rising {
+            records: &self.rows,
+        };
+        match rows.place_of(row.stamp) {
             Some(at) => {
                 if weight - self.rows[at].cells() + row.cells() > u32::from(self.cells) {
                     return Err(StatusWord::NO_SPACE);

@@ -12,7 +12,7 @@ use crate::change::Change;
 use crate::columns::{are_named_among, columns_stored, wanted_of};
 use crate::rights::{actor_stamp, is_maker, is_owned_by};
 use crate::{PlainDatabase, ValidDatabase};
-use scql_base::{Actor, Conditions, Name, NameList, Object, ObjectKind, StatusWord};
+use scql_base::{Actor, Conditions, Copied, Name, NameList, Object, ObjectKind, StatusWord};
 
 /// How deep a view may stand over a table.
 const DEEPEST: u8 = 4;

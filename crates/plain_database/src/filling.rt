@@ -7,7 +7,7 @@ ghost use Rattle.plain_database.specs.Effects.{Puts};
 use crate::record::Record;
 use crate::{PlainDatabase, Stamped, ValidDatabase};
 use eeprom::Heap;
-use scql_base::{Grant, Object, RowRecord, User};
+use scql_base::{Copied, Grant, Object, RowRecord, User};
 use std::alloc::AllocError;
 
 impl PlainDatabase {
@@ -88,6 +88,6 @@ fn refill<R: Record>(list: &mut Vec<R, Heap>, from: &[R])
 {
     list.clear();
     for record in from {
-        list.push_reserved(record.again());
+        list.push_reserved(record.copy());
     }
 }

@@ -5,7 +5,7 @@ ghost use Rattle.plain_database.specs.Changes.{edits_decided};
 
 use crate::change::Change;
 use crate::{PlainDatabase, Privilege};
-use scql_base::{Actor, Name, ObjectKind, Row, RowRecord, StatusWord};
+use scql_base::{Actor, Copied, Name, ObjectKind, Row, RowRecord, StatusWord};
 
 impl PlainDatabase {
     /// What INSERT changes: a row is added behind all others of a table.

@@ -2,6 +2,7 @@
 #![tactic(auto)]
 
 mod assigning;
+mod at_cursor;
 mod change;
 mod changing;
 mod columns;
@@ -38,5 +39,5 @@ pub use reaching::is_opened;
 pub use resolved::Resolved;
 pub use seen::ShownRow;
 pub use sought::Sought;
-pub use stamped::Stamped;
+pub use stamped::{Rising, Stamped};
 pub use valid::ValidDatabase;

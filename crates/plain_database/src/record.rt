@@ -1,24 +1,19 @@
 // What the records of each kind have in common.
-ghost use Rattle.std.specs.Prelude.{◌≡◌};
 ghost use Rattle.scql_model.specs.Edits.{AnyRecord, cells_of_record, of_grant, of_object, of_row, of_user};
 ghost use Rattle.plain_database.specs.Within.{IsAtMost};
 
 use crate::Stamped;
 use crate::sizes::{cells_for, object_size};
-use scql_base::{Grant, Object, Row, RowRecord, User};
+use scql_base::{Copied, Grant, Object, Row, RowRecord, User};
 
 /// A record of one kind.
-pub(crate) trait Record: Stamped {
+pub(crate) trait Record: Stamped + Copied {
     /// The record among those of all kinds.
     ghost entry: { Self → AnyRecord };
 
     /// How many cells it takes.
     fn cells(&self) -> u32
         ensures { IsAtMost 65535 result (cells_of_record (entry self.now)) };
-
-    /// The same record once more.
-    fn again(&self) -> Self
-        ensures { result ≡ self.now };
 }
 
 impl Record for User {
@@ -26,10 +21,6 @@ impl Record for User {
 
     fn cells(&self) -> u32 {
         cells_for(13 + self.name.octets().len() + self.secret.as_slice().len())
-    }
-
-    fn again(&self) -> User {
-        self.copy()
     }
 }
 
@@ -39,10 +30,6 @@ impl Record for Object {
     fn cells(&self) -> u32 {
         cells_for(object_size(self))
     }
-
-    fn again(&self) -> Object {
-        self.copy()
-    }
 }
 
 impl Record for Grant {
@@ -50,10 +37,6 @@ impl Record for Grant {
 
     fn cells(&self) -> u32 {
         cells_for(14)
-    }
-
-    fn again(&self) -> Grant {
-        *self
     }
 }
 
@@ -63,9 +46,5 @@ impl Record for RowRecord {
     fn cells(&self) -> u32 {
         prove!(self.row.len() <= Row::MOST);
         cells_for(9 + self.row.size())
-    }
-
-    fn again(&self) -> RowRecord {
-        self.copy()
     }
 }

@@ -1,20 +1,19 @@
 // Records that take the place of those that have their stamps.
-ghost use Rattle.std.specs.Prelude.{◌≡◌, IfSome, vec_capacity};
+ghost use Rattle.std.specs.Prelude.{◌≡◌, vec_capacity};
 ghost use Rattle.eeprom.specs.Slots.{Rises, replaced};
-ghost use Rattle.scql_model.specs.Database.{IsValid, user_stamped};
-ghost use Rattle.scql_model.specs.Step.{with_tries};
+ghost use Rattle.scql_model.specs.Database.{IsValid};
+ghost use Rattle.plain_database.specs.Changed.{SetsTries};
 
-use crate::PlainDatabase;
 use crate::record::Record;
-use crate::stamped::place_of;
+use crate::{PlainDatabase, Rising};
 use eeprom::Heap;
+use scql_base::Copied;
 
 impl PlainDatabase {
     /// Gives the user of a stamp so many tries.
     pub fn set_tries(&mut self, stamp: u32, tries: u8)
         requires valid { IsValid self.old }
-        ensures tries { IfSome (user_stamped self.old.users stamp) (λ u. self.new ≡ with_tries self.old u tries) }
-        ensures cells { self.new.cells ≡ self.old.cells }
+        ensures { SetsTries self.old self.new stamp tries }
     {
         match self.as_valid().user_stamped(stamp) {
             Some(user) => {
@@ -33,7 +32,8 @@ pub(crate) fn replace<R: Record>(records: &mut Vec<R, Heap>, entry: R)
     ensures items { records.new.items ≡ replaced R.stamp_of entry records.old.items }
     ensures capacity { vec_capacity records.new ≡ vec_capacity records.old }
 {
-    match place_of(records, entry.stamp()) {
+    let rising = Rising { records };
+    match rising.place_of(entry.stamp()) {
         Some(at) => records[at] = entry,
         None => {}
     }

@@ -1,52 +1,51 @@
 // UPDATE and DELETE of the row at a cursor.
-ghost use Rattle.std.specs.Prelude.{◌≡◌, nat_le, Some, None, IfSome, if◌then◌else◌};
+ghost use Rattle.std.specs.Prelude.{◌≡◌, nat_le, Some, None, if◌then◌else◌};
 ghost use Rattle.scql_base.specs.Row.{row_size};
-ghost use Rattle.scql_model.specs.Cursors.{IsCursorOf};
 ghost use Rattle.scql_model.specs.Writing as writing;
 ghost use Rattle.plain_database.specs.Changes.{edits_decided};
 ghost use Rattle.plain_database.specs.Sought.{IsRowOf};
 
 use crate::assigning::{are_changed_among, row_after};
+use crate::at_cursor::AtCursor;
 use crate::change::Change;
 use crate::columns::{columns_stored, is_table_or_view};
 use crate::reaching::is_opened;
 use crate::{Privilege, ValidDatabase};
-use scql_base::{Actor, Cursor, PackedChanges, RowRecord, StatusWord};
+use scql_base::{Actor, Copied, PackedChanges, RowRecord, StatusWord};
 
-impl<'a> ValidDatabase<'a> {
+impl<'d, 'c> AtCursor<'d, 'c> {
     /// What UPDATE changes: columns of the row at which a cursor stands get new values.
     #[tactic(auto, unfolding(scql_model::specs::Writing::row_updated))]
     pub(crate) fn row_updated(
         &self,
         actor: Actor,
-        cursor: &Option<Cursor>,
         changes: &PackedChanges,
     ) -> Result<Change, StatusWord>
-        requires { IfSome cursor.now (IsCursorOf self.now) }
-        ensures { edits_decided self.now result ≡ writing.row_updated self.now actor cursor.now changes.now }
+        ensures { edits_decided self.now.database result ≡ writing.row_updated self.now.database actor self.now.cursor.now changes.now }
     {
-        let Some(cursor) = cursor else {
+        let database = &self.database;
+        let Some(cursor) = self.cursor else {
             return Err(StatusWord::CONDITIONS_NOT_SATISFIED);
         };
         if !is_opened(cursor.place) {
             return Err(StatusWord::CONDITIONS_NOT_SATISFIED);
         }
-        let Some(object) = self.seen_stamped(actor, cursor.object) else {
+        let Some(object) = database.seen_stamped(actor, cursor.object) else {
             return Err(StatusWord::NOT_FOUND);
         };
         let Some(columns) = columns_stored(&object.kind) else {
             return Err(StatusWord::CONDITIONS_NOT_SATISFIED);
         };
-        if !self.database().holds(actor, object, Privilege::Update) {
+        if !database.database().holds(actor, object, Privilege::Update) {
             return Err(StatusWord::SECURITY_NOT_SATISFIED);
         }
         if !are_changed_among(columns, changes) {
             return Err(StatusWord::NOT_FOUND);
         }
-        let Some(row) = self.record_at(cursor) else {
+        let Some(row) = database.record_at(cursor) else {
             return Err(StatusWord::RECORD_NOT_FOUND);
         };
-        let Some(changed) = self.changed(row, changes) else {
+        let Some(changed) = database.changed(row, changes) else {
             return Err(StatusWord::WRONG_DATA);
         };
         Ok(Change::ChangeRow { row: changed })
@@ -54,35 +53,33 @@ impl<'a> ValidDatabase<'a> {
 
     /// What DELETE changes: the row at which a cursor stands goes.
     #[tactic(auto, unfolding(scql_model::specs::Writing::row_deleted))]
-    pub(crate) fn row_deleted(
-        &self,
-        actor: Actor,
-        cursor: &Option<Cursor>,
-    ) -> Result<Change, StatusWord>
-        requires { IfSome cursor.now (IsCursorOf self.now) }
-        ensures { edits_decided self.now result ≡ writing.row_deleted self.now actor cursor.now }
+    pub(crate) fn row_deleted(&self, actor: Actor) -> Result<Change, StatusWord>
+        ensures { edits_decided self.now.database result ≡ writing.row_deleted self.now.database actor self.now.cursor.now }
     {
-        let Some(cursor) = cursor else {
+        let database = &self.database;
+        let Some(cursor) = self.cursor else {
             return Err(StatusWord::CONDITIONS_NOT_SATISFIED);
         };
         if !is_opened(cursor.place) {
             return Err(StatusWord::CONDITIONS_NOT_SATISFIED);
         }
-        let Some(object) = self.seen_stamped(actor, cursor.object) else {
+        let Some(object) = database.seen_stamped(actor, cursor.object) else {
             return Err(StatusWord::NOT_FOUND);
         };
         if !is_table_or_view(&object.kind) {
             return Err(StatusWord::CONDITIONS_NOT_SATISFIED);
         }
-        if !self.database().holds(actor, object, Privilege::Delete) {
+        if !database.database().holds(actor, object, Privilege::Delete) {
             return Err(StatusWord::SECURITY_NOT_SATISFIED);
         }
-        let Some(row) = self.record_at(cursor) else {
+        let Some(row) = database.record_at(cursor) else {
             return Err(StatusWord::RECORD_NOT_FOUND);
         };
         Ok(Change::RemoveRow { row: row.copy() })
     }
+}
 
+impl<'a> ValidDatabase<'a> {
     // A row after changes, where it is within the card's limit.
     fn changed(&self, row: &RowRecord, changes: &PackedChanges) -> Option<RowRecord>
         requires { IsRowOf self.now row.now }

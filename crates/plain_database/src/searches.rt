@@ -4,8 +4,7 @@ ghost use Rattle.scql_model.specs.Objects as objects;
 ghost use Rattle.scql_model.specs.Rights as rights;
 ghost use Rattle.scql_model.specs.Rules as rules;
 
-use crate::stamped::find_stamped;
-use crate::{PlainDatabase, ValidDatabase};
+use crate::{PlainDatabase, Rising, ValidDatabase};
 use scql_base::{Actor, Name, Object, User};
 
 impl PlainDatabase {
@@ -33,14 +32,20 @@ impl<'a> ValidDatabase<'a> {
     pub fn user_stamped(&self, stamp: u32) -> Option<&'a User>
         ensures { option_copied result ≡ rules.user_stamped self.now.users stamp }
     {
-        find_stamped(self.database().users(), stamp)
+        Rising {
+            records: self.database().users(),
+        }
+        .find(stamp)
     }
 
     /// The object of a stamp.
     pub fn object_stamped(&self, stamp: u32) -> Option<&'a Object>
         ensures { option_copied result ≡ objects.object_stamped self.now.objects stamp }
     {
-        find_stamped(self.database().objects(), stamp)
+        Rising {
+            records: self.database().objects(),
+        }
+        .find(stamp)
     }
 
     /// The object of a stamp, where it appears to an actor.

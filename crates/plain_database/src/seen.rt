@@ -4,7 +4,7 @@ ghost use Rattle.std.specs.List.{find};
 ghost use Rattle.plain_database.specs.Sought as model;
 
 use crate::matching::{cut_to, matches};
-use crate::{Resolved, Sought, ValidDatabase};
+use crate::{Resolved, Rising, Sought, ValidDatabase};
 use scql_base::{Condition, Cursor, Row, RowRecord};
 
 /// A row as a cursor shows it, with the stamp of its record.
@@ -26,8 +26,14 @@ impl<'a> ValidDatabase<'a> {
         ensures shown { option_map (model.row_through resolved.now cursor.now.columns) (option_copied result) ≡ model.sought_row self.now cursor.now sought }
         ensures row { IfSome (option_copied result) (model.IsShownRow self.now resolved.now cursor.now.columns) }
     {
-        let rows = sought.admitted(self.database().rows());
-        find_among(rows, resolved, cursor.conditions.as_slice())
+        let rows = Rising {
+            records: self.database().rows(),
+        };
+        find_among(
+            sought.admitted(&rows),
+            resolved,
+            cursor.conditions.as_slice(),
+        )
     }
 
     /// The row that is sought among those that a cursor shows.

@@ -1,10 +1,8 @@
 // Which of a cursor's rows is sought.
 ghost use Rattle.std.specs.Prelude.{◌≡◌, filter};
-ghost use Rattle.eeprom.specs.Slots.{Rises};
 ghost use Rattle.plain_database.specs.Sought as model;
 
-use crate::Stamped;
-use crate::stamped::place_of;
+use crate::{Rising, Stamped};
 
 /// Which of the rows that a cursor shows is sought.
 #[derive(Clone, Copy, PartialEq, Eq, Debug)]
@@ -18,17 +16,17 @@ pub enum Sought {
 
 impl Sought {
     /// Those of some records whose rows may be the one.
-    pub fn admitted<R: Stamped>(self, records: &[R]) -> &[R]
-        requires rises { Rises R.stamp_of records.now }
-        ensures { result.now ≡ filter (λ r. model.admits self (R.stamp_of r)) records.now }
+    pub fn admitted<'a, R: Stamped>(self, rising: &Rising<'a, R>) -> &'a [R]
+        ensures { result.now ≡ filter (λ r. model.admits self (R.stamp_of r)) rising.now.records.now }
     {
+        let records = rising.records;
         match self {
             Sought::First => records,
             Sought::Behind { stamp } => {
                 let from = records.partition_point(|record| record.stamp() <= stamp);
                 &records[from..]
             }
-            Sought::At { stamp } => match place_of(records, stamp) {
+            Sought::At { stamp } => match rising.place_of(stamp) {
                 Some(place) => &records[place..place + 1],
                 None => &[],
             },

@@ -2,6 +2,7 @@
 ghost use Rattle.std.specs.Prelude.{ℕ, ◌≡◌, ◌<◌, IfSome, length, option_copied};
 ghost use Rattle.std.specs.List.{find, position};
 ghost use Rattle.eeprom.specs.Slots.{Rises, has};
+ghost use Rattle.plain_database.specs.Rising.{Rises-prop};
 
 use scql_base::{Grant, Object, RowRecord, User};
 
@@ -47,22 +48,30 @@ impl Stamped for RowRecord {
     }
 }
 
-/// The place of the record of a stamp.
-pub(crate) fn place_of<R: Stamped>(records: &[R], stamp: u32) -> Option<usize>
-    requires rises { Rises R.stamp_of records.now }
-    ensures place { result ≡ position (has R.stamp_of stamp) records.now }
-    ensures within { IfSome result (λ at. at < length records.now) }
-{
-    records
-        .binary_search_by_key(&stamp, |record| record.stamp())
-        .ok()
+/// Records whose stamps rise.
+#[derive(Drop)]
+pub struct Rising<'a, R: Stamped> {
+    pub records: &'a [R],
+    pub ghost rises: { Rises R.stamp_of records.now } by { Rises-prop R.stamp_of records.now },
 }
 
-/// The record of a stamp.
-pub(crate) fn find_stamped<R: Stamped>(records: &[R], stamp: u32) -> Option<&R>
-    requires rises { Rises R.stamp_of records.now }
-    ensures { option_copied result ≡ find (has R.stamp_of stamp) records.now }
-{
-    let place = place_of(records, stamp)?;
-    Some(&records[place])
+impl<'a, R: Stamped> Rising<'a, R> {
+    /// The place of the record of a stamp.
+    pub(crate) fn place_of(&self, stamp: u32) -> Option<usize>
+        ensures place { result ≡ position (has R.stamp_of stamp) self.now.records.now }
+        ensures within { IfSome result (λ at. at < length self.now.records.now) }
+    {
+        self.records
+            .binary_search_by_key(&stamp, |record| record.stamp())
+            .ok()
+    }
+
+    /// The record of a stamp.
+    pub(crate) fn find(&self, stamp: u32) -> Option<&'a R>
+        ensures { option_copied result ≡ find (has R.stamp_of stamp) self.now.records.now }
+    {
+        let records = self.records;
+        let place = self.place_of(stamp)?;
+        Some(&records[place])
+    }
 }

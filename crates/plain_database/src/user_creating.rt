@@ -8,7 +8,7 @@ ghost use Rattle.plain_database.specs.Changes.{edits_decided};
 use crate::PlainDatabase;
 use crate::change::Change;
 use crate::rights::actor_stamp;
-use scql_base::{Actor, Name, Octets, Profile, StatusWord, User};
+use scql_base::{Actor, Copied, Name, Octets, Profile, StatusWord, User};
 
 impl PlainDatabase {
     /// What CREATE USER changes.

@@ -7,7 +7,7 @@ ghost use Rattle.plain_database.specs.Changes.{edits_decided};
 use crate::PlainDatabase;
 use crate::change::Change;
 use crate::rights::is_owned_by;
-use scql_base::{Actor, Name, Profile, StatusWord, User};
+use scql_base::{Actor, Copied, Name, Profile, StatusWord, User};
 
 impl PlainDatabase {
     /// What DELETE USER changes.

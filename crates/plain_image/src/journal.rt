@@ -2,6 +2,7 @@
 ghost use Rattle.std.specs.Prelude.{◌≡◌, ◌+◌, ◌<◌, true, IfOk, length, option_map};
 ghost use Rattle.std.specs.List.{list_all};
 ghost use Rattle.eeprom.specs.StoreOf as image;
+ghost use Rattle.eeprom.specs.declared.layout.TheConstants.{HEADER_SIZE};
 
 use crate::cells::Cells;
 use crate::octets::{number_at, octet_at};
@@ -17,7 +18,7 @@ pub(crate) fn directory(
     ensures { IfOk result (λ found. option_map (λ firsts. firsts.items) found ≡ image.directory octets.now cells) }
 {
     let number = cells.number();
-    let mut firsts = numbers_at(alloc, octets, HEADER_SIZE, number)?;
+    let mut firsts = written_firsts(alloc, octets, number)?;
     if is_gate_open(octets) {
         let place = journal_place(number);
         let count = number_at(octets, place);
@@ -40,21 +41,15 @@ fn is_gate_open(octets: &[u8]) -> bool
     octet_at(octets, GATE_PLACE) % 2 == 1
 }
 
-// So many numbers from a place on.
-fn numbers_at(
-    alloc: Heap,
-    octets: &[u8],
-    place: usize,
-    count: u16,
-) -> Result<Vec<u16, Heap>, AllocError>
-    requires near { place < 65536 }
-    ensures numbers { IfOk result (λ numbers. numbers.items ≡ image.numbers_at octets.now place count) }
+// The directory as it is written behind the header: so many numbers.
+fn written_firsts(alloc: Heap, octets: &[u8], count: u16) -> Result<Vec<u16, Heap>, AllocError>
+    ensures numbers { IfOk result (λ numbers. numbers.items ≡ image.numbers_at octets.now HEADER_SIZE count) }
     ensures count { IfOk result (λ numbers. length numbers.items ≡ count) }
 {
     let count = usize::from(count);
     let mut numbers = Vec::with_capacity(alloc, count)?;
     for index in 0..count {
-        numbers.push(number_at(octets, place + 2 * index))?;
+        numbers.push(number_at(octets, HEADER_SIZE + 2 * index))?;
     }
     Ok(numbers)
 }

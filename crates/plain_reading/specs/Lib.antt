@@ -1,5 +1,4 @@
 pub mod Commands
 pub mod Found
-pub mod Le
 pub mod Outcomes
 pub mod Put

@@ -1,10 +1,10 @@
 // The commands that read.
 ghost use Rattle.std.specs.Prelude.{◌≡◌, IfSome, option_map};
 ghost use Rattle.scql_model.specs.ReadingCommands.{reading_command};
+ghost use Rattle.apdu_chain.specs.Le.{IsLe};
 ghost use Rattle.plain_reading.specs.Commands.{command_seen};
-ghost use Rattle.plain_reading.specs.Le.{IsLe};
 
-use crate::Le;
+use apdu_chain::Le;
 use scql_base::{Conditions, Name, NameList, Operation};
 
 /// A reading command; those that give octets have an Le, the greatest number of octets wanted.

@@ -1,7 +1,6 @@
 // The rows that a cursor shows of a dictionary.
 ghost use Rattle.std.specs.Prelude.{◌≡◌, ◌&&◌, filter, length, map, option_copied, option_map};
 ghost use Rattle.std.specs.List.{find};
-ghost use Rattle.eeprom.specs.Slots.{Rises};
 ghost use Rattle.scql_model.specs.Dictionaries.{rows_told, tells_of};
 ghost use Rattle.scql_model.specs.Matching as matching;
 ghost use Rattle.scql_model.specs.Objects as objects;
@@ -10,7 +9,7 @@ ghost use Rattle.plain_reading.specs.Found.{AreColumnsOf, sought_among};
 
 use crate::texts::dictionary_columns;
 use crate::told::Told;
-use plain_database::{ShownRow, Sought, ValidDatabase, cut_to, matches};
+use plain_database::{Rising, ShownRow, Sought, ValidDatabase, cut_to, matches};
 use scql_base::{Cursor, NameList, Row, Subject};
 
 /// The stamp of OWNER.
@@ -35,9 +34,24 @@ pub(crate) fn find_told(
         columns: &columns,
     };
     match subject {
-        Subject::Objects => dictionary.find_shown(records.objects(), cursor, sought),
-        Subject::Users => dictionary.find_shown(records.users(), cursor, sought),
-        Subject::Grants => dictionary.find_shown(records.grants(), cursor, sought),
+        Subject::Objects => {
+            let objects = Rising {
+                records: records.objects(),
+            };
+            dictionary.find_shown(&objects, cursor, sought)
+        }
+        Subject::Users => {
+            let users = Rising {
+                records: records.users(),
+            };
+            dictionary.find_shown(&users, cursor, sought)
+        }
+        Subject::Grants => {
+            let grants = Rising {
+                records: records.grants(),
+            };
+            dictionary.find_shown(&grants, cursor, sought)
+        }
     }
 }
 
@@ -53,15 +67,14 @@ impl<'a> Dictionary<'a> {
     // The row that is sought, cut to a cursor's columns, of records of which the dictionary may tell.
     fn find_shown<R: Told>(
         &self,
-        records: &[R],
+        records: &Rising<'_, R>,
         cursor: &Cursor,
         sought: Sought,
     ) -> Option<ShownRow>
-        requires rises { Rises R.stamp_of records.now }
         requires wanted { AreColumnsOf self.now.columns.now cursor.now.columns }
         requires many { (entry : R) → length (R.told self.now.database.now entry).values ≡ length self.now.columns.now }
         ensures { option_map row_shown result ≡ sought_among cursor.now sought
-            (record { columns = self.now.columns.now; rows = map (R.told self.now.database.now) (filter (λ r. tells_of self.now.owner (R.owned_by self.now.database.now r)) records.now) }) }
+            (record { columns = self.now.columns.now; rows = map (R.told self.now.database.now) (filter (λ r. tells_of self.now.owner (R.owned_by self.now.database.now r)) records.now.records.now) }) }
     {
         let found = self.find_among(sought.admitted(records), cursor)?;
         let values = found.values(self.database);

@@ -4,7 +4,6 @@
 mod commands;
 mod dictionary;
 mod found;
-mod le;
 mod moving;
 mod names;
 mod readable;
@@ -13,6 +12,5 @@ mod texts;
 mod told;
 
 pub use commands::ReadingCommand;
-pub use le::Le;
 pub use moving::read;
 pub use reading::Reading;

@@ -13,10 +13,11 @@ ghost use Rattle.plain_reading.specs.Outcomes.{Answers, given};
 use crate::found::{find_row, row_behind};
 use crate::readable::{opened, readable};
 use crate::texts::columns_of;
-use crate::{Le, Reading, ReadingCommand};
+use crate::{Reading, ReadingCommand};
 use apdu::Reply;
+use apdu_chain::Le;
 use plain_database::{Privilege, ShownRow, Sought, ValidDatabase, are_named_among, wanted_of};
-use scql_base::{Actor, Conditions, Cursor, Name, NameList, Place, Row, StatusWord};
+use scql_base::{Actor, Conditions, Copied, Cursor, Name, NameList, Place, Row, StatusWord};
 
 /// Carries out a reading command for an actor, or refuses it.
 pub fn read(
@@ -182,7 +183,7 @@ fn get_response(
     if reading.pending.is_empty() {
         return Err(StatusWord::CONDITIONS_NOT_SATISFIED);
     }
-    reading.pending.more(le.octets(), reply);
+    reading.pending.more(le, reply);
     Ok(())
 }
 

@@ -5,9 +5,8 @@ ghost use Rattle.scql_base.specs.declared.row.TheConstants.Row.{LARGEST};
 ghost use Rattle.scql_model.specs.Machine.{no_reading};
 ghost use Rattle.scql_model.specs.Moves as moves;
 
-use crate::Le;
 use apdu::Reply;
-use apdu_chain::Pending;
+use apdu_chain::{Le, Pending};
 use scql_base::{Cursor, Place, StatusWord};
 use std::marker::Model;
 
@@ -60,7 +59,7 @@ impl Reading {
         ensures { (c : cursors.Cursor) → self.old.cursor ≡ Some c → record { reply = reply.new; after = self.new } ≡ moves.giving place c le octets.now }
     {
         self.set_place(place);
-        self.pending.start(octets, le.octets(), reply);
+        self.pending.start(octets, le, reply);
     }
 
     // The cursor, if there is one, stands at a place.

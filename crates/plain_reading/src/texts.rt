@@ -9,7 +9,7 @@ ghost use Rattle.scql_model.specs.Objects as objects;
 ghost use Rattle.plain_database.specs.Within.{IsWithin};
 
 use arrayvec::ArrayVec;
-use scql_base::{Name, NameList, ObjectKind, Row, Subject};
+use scql_base::{Copied, Name, NameList, ObjectKind, Row, Subject};
 
 /// The columns of an object.
 pub(crate) fn columns_of(kind: &ObjectKind) -> NameList

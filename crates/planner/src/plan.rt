@@ -8,7 +8,6 @@ ghost use Rattle.script.specs.Commands as commands;
 ghost use Rattle.script.specs.Commands.{CanAlwaysBeSent, CanBeSent, IsSendable};
 ghost use Rattle.script.specs.Line.{statement_of};
 ghost use Rattle.scql_base.specs.declared.operation.TheConstants.Command.{LAST_CHANNEL, LONGEST_IN_PARTS};
-ghost use Rattle.scql_model.specs.Lines.{longest_line};
 ghost use Rattle.planner.specs.declared.stage.Stage.TheVariants as Stage;
 ghost use Rattle.planner.specs.declared.step.Step.TheVariants as Step;
 ghost use Rattle.script.specs.declared.statement.Statement.TheVariants.{Blank, Reset};
@@ -21,11 +20,12 @@ use crate::words::{closing_of, has_more, is_end, is_refusal};
 use crate::{Closing, Step};
 use apdu::Reply;
 use scql_base::{
-    Changes, Command, Conditions, Name, NameList, Operation, PackedChanges, Row, StatusWord,
+    Changes, Command, Conditions, Copied, Name, NameList, Operation, PackedChanges, Row, StatusWord,
 };
 use script::{ScriptFault, Statement};
 use std::marker::Model;
 use std::mem;
+use taken_line::TakenLine;
 
 /// What is left of a statement on a channel.
 #[derive(Drop)]
@@ -81,13 +81,17 @@ impl Plan {
 
     /// Makes this the plan for the statement of a line, as `start` does of what `Statement::read` gives. Where there is none the plan has
     /// nothing to do.
-    pub fn read(&mut self, line: &[u8], channel: u8, inside: bool) -> Result<(), ScriptFault>
-        requires short { length line.now ≤ longest_line }
+    pub fn read(
+        &mut self,
+        line: TakenLine<'_>,
+        channel: u8,
+        inside: bool,
+    ) -> Result<(), ScriptFault>
         requires within { channel ≤ LAST_CHANNEL }
-        ensures statement { OnOk result (statement_of line.now ≡ Ok self.new.statement) }
+        ensures statement { OnOk result (statement_of line.entry.octets.now ≡ Ok self.new.statement) }
         ensures started { OnOk result (self.new ≡ planned.started self.new.statement channel inside) }
         ensures sendable { OnOk result (CanAlwaysBeSent self.new.statement) }
-        ensures fault { IfErr result (λ fault. statement_of line.now ≡ Err fault) }
+        ensures fault { IfErr result (λ fault. statement_of line.entry.octets.now ≡ Err fault) }
     {
         let read = Statement::read_into(line, &mut self.statement);
         self.kept = read.is_ok();

@@ -1,6 +1,5 @@
 // Searches among the grants.
 ghost use Rattle.std.specs.Prelude.{Some};
-ghost use Rattle.record_store.specs.Held.{IsOver};
 ghost use Rattle.record_store.specs.Tags as tags;
 ghost use Rattle.record_store.specs.declared.tags.Tag.TheVariants as by;
 ghost use Rattle.catalog_codec.specs.Catalog.{grant_kind};
@@ -8,7 +7,7 @@ ghost use Rattle.privilege_table.specs.Granted.{is_pair};
 ghost use Rattle.record_table.specs.Searching.{Finds};
 
 use eeprom::{Eeprom, EepromFault};
-use record_store::{Found, Side, Store, Tag, pair_tag};
+use record_store::{Found, SideReader, Tag, pair_tag};
 use record_table::{Wanted, find_by};
 use scql_base::Grant;
 
@@ -35,14 +34,11 @@ impl Wanted<Grant> for Pair {
 
 /// Finds the grant on an object to one user, or to PUBLIC where that is 0: of several that of the lowest slot.
 pub fn find_pair<B: Eeprom>(
-    store: &Store,
-    bench: &mut B,
-    side: Side,
+    reader: &mut SideReader<'_, '_, B>,
     object: u32,
     grantee: u32,
 ) -> Result<Option<Found<Grant>>, EepromFault>
-    requires over { IsOver store.now (B.chip bench.old) }
-    ensures { Finds B.chip B.faults B.octets_read store.now side grant_kind (is_pair object grantee) (Some (by.Name (tags.pair_tag object grantee))) bench.old bench.new result }
+    ensures { Finds grant_kind (is_pair object grantee) (Some (by.Name (tags.pair_tag object grantee))) reader.old reader.new result }
 {
-    find_by(store, bench, side, &Pair { object, grantee })
+    find_by(reader, &Pair { object, grantee })
 }

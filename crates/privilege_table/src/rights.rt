@@ -1,11 +1,10 @@
 // Who may do what with an object: its owner all, and others what grants give them.
 ghost use Rattle.std.specs.Prelude.{◌≡◌, IfOk};
 ghost use Rattle.std.specs.List.{list_any};
-ghost use Rattle.record_store.specs.Held.{IsOver};
 ghost use Rattle.scql_model.specs.Database.{Database};
 ghost use Rattle.scql_model.specs.Creating as creating;
 ghost use Rattle.scql_model.specs.Rights.{all_privileges, has_bit};
-ghost use Rattle.record_table.specs.Making.{IsHeld};
+ghost use Rattle.record_table.specs.Asking.{Holds};
 ghost use Rattle.record_table.specs.Reading.{ReadsSide};
 ghost use Rattle.privilege_table.specs.Granted.{cells_granted};
 ghost use Rattle.privilege_table.specs.Rights.{AreRights, privilege_bit};
@@ -14,7 +13,7 @@ ghost use Rattle.privilege_table.specs.Seen.{FindsSeen, FindsSeenInto};
 use crate::held;
 use eeprom::{Eeprom, EepromFault};
 use object_table::find_name_into;
-use record_store::{Found, Side, Store};
+use record_store::{Found, SideReader};
 use scql_base::{Actor, Name, Object, Privileges};
 
 /// One of the four privileges.
@@ -90,36 +89,30 @@ impl Rights {
 
 /// What an actor may do with an object: its owner all, and nothing is read, and anybody else what grants give. Each grant is read once.
 pub fn rights_on<B: Eeprom>(
-    store: &Store,
-    bench: &mut B,
-    side: Side,
+    reader: &mut SideReader<'_, '_, B>,
     actor: Actor,
     object: &Object,
 ) -> Result<Rights, EepromFault>
-    requires over { IsOver store.now (B.chip bench.old) }
-    ensures rights { (db : Database) → IsHeld store.now side (B.chip bench.old) db → IfOk result (AreRights db actor object.now) }
-    ensures reads { ReadsSide B.chip B.faults B.octets_read store.now side (cells_granted object.now.stamp (creating.actor_stamp actor)) bench.old bench.new result }
+    ensures rights { (db : Database) → Holds reader.old db → IfOk result (AreRights db actor object.now) }
+    ensures reads { ReadsSide (cells_granted object.now.stamp (creating.actor_stamp actor)) reader.old reader.new result }
 {
     if is_owned_by(actor, object.owner) {
         return Ok(Rights::ALL);
     }
-    let bits = held(store, bench, side, object.stamp, actor_stamp(actor))?;
+    let bits = held(reader, object.stamp, actor_stamp(actor))?;
     Ok(Rights { bits })
 }
 
 /// Finds the object of a name, where it appears to an actor.
 pub fn find_seen<B: Eeprom>(
-    store: &Store,
-    bench: &mut B,
-    side: Side,
+    reader: &mut SideReader<'_, '_, B>,
     actor: Actor,
     name: Name,
 ) -> Result<Option<Found<Object>>, EepromFault>
-    requires over { IsOver store.now (B.chip bench.old) }
-    ensures { FindsSeen B.chip B.faults B.octets_read store.now side actor name bench.old bench.new result }
+    ensures { FindsSeen actor name reader.old reader.new result }
 {
     let mut place = None;
-    let Some(slot) = find_seen_into(store, bench, side, actor, name, &mut place)? else {
+    let Some(slot) = find_seen_into(reader, actor, name, &mut place)? else {
         return Ok(None);
     };
     let Some(value) = place else {
@@ -131,21 +124,18 @@ pub fn find_seen<B: Eeprom>(
 /// Finds the object of a name and reads it into a place, where it appears to an actor: its slot is answered. Where none does the
 /// place is empty.
 pub fn find_seen_into<B: Eeprom>(
-    store: &Store,
-    bench: &mut B,
-    side: Side,
+    reader: &mut SideReader<'_, '_, B>,
     actor: Actor,
     name: Name,
     place: &mut Option<Object>,
 ) -> Result<Option<u16>, EepromFault>
-    requires over { IsOver store.now (B.chip bench.old) }
-    ensures { FindsSeenInto B.chip B.faults B.octets_read store.now side actor name bench.old bench.new place.new result }
+    ensures { FindsSeenInto actor name reader.old reader.new place.new result }
 {
-    let slot = find_name_into(store, bench, side, name, place)?;
+    let slot = find_name_into(reader, name, place)?;
     let Some(object) = place else {
         return Ok(None);
     };
-    if rights_on(store, bench, side, actor, object)?.see() {
+    if rights_on(reader, actor, object)?.see() {
         return Ok(slot);
     }
     *place = None;

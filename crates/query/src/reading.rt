@@ -1,7 +1,6 @@
 // Reads the query of a line.
-ghost use Rattle.std.specs.Prelude.{◌≡◌, ◌≤◌, IfOk, IfErr, IfSome, length};
+ghost use Rattle.std.specs.Prelude.{◌≡◌, IfOk, IfErr, IfSome};
 ghost use Rattle.std.specs.List.{AllByRecursion};
-ghost use Rattle.scql_model.specs.Lines.{longest_line};
 ghost use Rattle.query.specs.Facts.{AreFetched, AreTwoOrThree, CanBeAsked, HasDifferentColumns, HasPlace, IsFetched, StandsFor};
 ghost use Rattle.script.specs.Tokens.{tokens_of};
 ghost use Rattle.query.specs.Grammar.{whole};
@@ -11,17 +10,17 @@ use crate::Query;
 use crate::grammar::whole;
 use crate::resolving::resolve;
 use script::{ScriptFault, Tokens};
+use taken_line::TakenLine;
 
 impl Query {
-    /// The query that a line of at most 1,000 octets is. A line that asks for nothing is at fault too.
+    /// The query that a line is. A line that asks for nothing is at fault too.
     ///
     /// `At` comes exactly where the line isn't in the grammar of queries, and where its names stand for nothing: a name stands in
     /// FROM twice, a column's object doesn't stand there, or the line names a 16th column of one object. `TooLarge` never comes.
-    pub fn read(line: &[u8]) -> Result<Query, ScriptFault>
-        requires { length line.now ≤ longest_line }
-        ensures query { result ≡ lines.query_of line.now }
+    pub fn read(line: TakenLine<'_>) -> Result<Query, ScriptFault>
+        ensures query { result ≡ lines.query_of line.entry.octets.now }
         // The objects and the columns are those that the line names in their places.
-        ensures names { IfOk result (λ query. IfSome (whole (tokens_of line.now)).0 (λ written. StandsFor written query)) }
+        ensures names { IfOk result (λ query. IfSome (whole (tokens_of line.entry.octets.now)).0 (λ written. StandsFor written query)) }
         ensures place { IfErr result HasPlace }
         ensures objects { IfOk result (λ query. AreTwoOrThree query.objects) }
         ensures different { IfOk result (λ query. AllByRecursion HasDifferentColumns query.objects) }
@@ -35,11 +34,10 @@ impl Query {
     }
 }
 
-fn read_query(line: &[u8]) -> Result<Query, ScriptFault>
-    requires { length line.now ≤ longest_line }
-    ensures { result ≡ lines.query_of line.now }
+fn read_query(line: TakenLine<'_>) -> Result<Query, ScriptFault>
+    ensures { result ≡ lines.query_of line.entry.octets.now }
 {
-    let mut tokens = Tokens::new(line);
+    let mut tokens = Tokens::new(line.octets);
     let Some(written) = whole(&mut tokens) else {
         return Err(fault_at(line, tokens.left()));
     };
@@ -50,11 +48,10 @@ fn read_query(line: &[u8]) -> Result<Query, ScriptFault>
 }
 
 // The fault at the place that so many octets of the line are from on.
-fn fault_at(line: &[u8], left: usize) -> ScriptFault
-    requires { length line.now ≤ longest_line }
-    ensures { result ≡ lines.fault_at line.now left }
+fn fault_at(line: TakenLine<'_>, left: usize) -> ScriptFault
+    ensures { result ≡ lines.fault_at line.entry.octets.now left }
 {
     ScriptFault::At {
-        place: line.len().saturating_sub(left) as u16,
+        place: line.octets.len().saturating_sub(left) as u16,
     }
 }

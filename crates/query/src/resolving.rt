@@ -11,7 +11,7 @@ use crate::written::{NameFault, Named, Pair, Source, WrittenQuery};
 use crate::{AskedObject, Columns, Equalities, Query};
 use arrayvec::ArrayVec;
 use row_join::{Column, Equality};
-use scql_base::{Name, NameList};
+use scql_base::{Copied, Name, NameList};
 
 type Objects = ArrayVec<AskedObject, { Query::MOST_OBJECTS }, Blank>;
 

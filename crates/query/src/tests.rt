@@ -1,20 +1,16 @@
 // Lines that are queries, and lines that aren't, with the places of their faults as the grammar has them.
-ghost use Rattle.std.specs.Prelude.{◌≤◌, length};
-ghost use Rattle.scql_model.specs.Lines.{longest_line};
-
 use crate::Query;
 use row_join::Column;
 use script::ScriptFault;
+use taken_line::TakenLine;
 
 fn column(object: usize, place: usize) -> Column {
     Column { object, place }
 }
 
 // The place of a line's fault.
-fn fault_of(line: &[u8]) -> Option<u16>
-    requires { length line.now ≤ longest_line }
-{
-    match Query::read(line) {
+fn fault_of(line: &[u8]) -> Option<u16> {
+    match Query::read(TakenLine::of(line)?) {
         Err(ScriptFault::At { place }) => Some(place),
         _ => None,
     }
@@ -23,7 +19,7 @@ fn fault_of(line: &[u8]) -> Option<u16>
 #[test]
 fn names_stand_for_columns(rt: HostRuntime) {
     let line = b"SELECT T.A, U.C FROM T, U WHERE T.B = U.B ORDER BY U.C, T.A;";
-    let query = Query::read(line).expect(&rt, "a query");
+    let query = Query::read(TakenLine { octets: line }).expect(&rt, "a query");
     let objects = query.objects.as_slice();
     assert_eq!(rt; objects.len(), 2);
     assert_eq!(rt; objects[0].columns.len(), 2);

@@ -91,6 +91,13 @@ pub record AnsweringLeaves {L P : Type 0} (is_live : L → Bool) (faults sink_fa
   -- The person was shown how many rows were fetched.
   pub shows : ShowsCounts lost shown person after
 
+-- A line was answered, or it wasn't, on a desk and before a person who watches.
+pub record AnswersLine {L P : Type 0} (text : Shown → List ℕ) (refused : Shown → Bool) (is_at : L → Machine → Type 0) (given : L → Option (List ℕ)) (is_live : L → Bool) (faults sink_faults mark : L → ℕ) (chip : L → Chip) (goes : L → L → Type 0) (lost : P → Bool) (shown : P → Option (List ℕ)) (result : Result Bool LineStop) (old new : L) (person after : P) : Type 0 where
+  -- It ended so at each machine as which the desk read,
+  pub answers : AnswersAsShown is_at given mark chip text refused result old new
+  -- and left this of the desk and of the person.
+  pub leaves : AnsweringLeaves is_live faults sink_faults mark goes lost shown result old new person after
+
 -- a stop of the fetching as one of the line
 abbrev pub stop_of : Unfetched → LineStop
 stop_of unfetched.Mute = Eeprom

@@ -1,5 +1,5 @@
 -- A card whose rows are fetched: what is there of them, and what becomes of the card.
-use Rattle.std.specs.Prelude.{◌≡◌, ◌⊎◌, ℕ, suc, Bool, true, false, List, [], ◌∷◌, ◌++◌, length, Result, Ok, Err, IsTrue}
+use Rattle.std.specs.Prelude.{◌≡◌, ◌⊎◌, ℕ, suc, Bool, true, false, List, [], ◌∷◌, ◌++◌, length, Result, Ok, Err, IfErr, IsTrue, OnOk}
 use Rattle.std.specs.Option.{option_map_or}
 use Rattle.eeprom.specs.Chip.{Chip}
 use Rattle.scql_base.specs.Row.{row_from}
@@ -109,3 +109,24 @@ abbrev pub UnlessStopped : {A : Type 0} → Result A Unfetched → Type 0 → Ty
 UnlessStopped (Err unfetched.Mute) P = Unit {0}
 UnlessStopped (Err unfetched.NoMemory) P = Unit {0}
 UnlessStopped r P = P
+
+-- A step's row was to be taken, and the step to be followed.
+pub record TakesOver {L : Type 0} (before : List Values) (p : Planned) (step : Step) (after : List Values) (q : Planned) (next : Step) (is_at : L → Machine → Type 0) (is_live : L → Bool) (faults mark : L → ℕ) (chip : L → Chip) (keeps goes_on : L → L → Type 0) (result : Result (Unit {0}) Unfetched) (old new : L) : Type 0 where
+  -- Rows that are still fetched over a card are so after it.
+  pub over : (m last : Machine) (closing : Closing) (all : List Values) → IsFetching is_at m closing last all before p step old
+      → FetchesOver mark chip m (OnOk result (IsFetching is_at m closing last all after q next new)) old new
+  -- Where nothing failed the row was taken,
+  pub takes : OnOk result (TakesRow before p step after q next)
+  -- and otherwise it wasn't a refusal.
+  pub stops : IfErr result IsStopped
+  -- Whatever is told of the card, the link is left so.
+  pub leaves : FetchingLeaves is_live faults mark keeps goes_on result old new
+
+-- Rows were to be fetched before a person who watches.
+pub record Fetches {L A : Type 0} (came seen : Type 0) (is_live : L → Bool) (faults mark : L → ℕ) (keeps goes_on : L → L → Type 0) (result : Result A Unfetched) (old new : L) : Type 0 where
+  -- This came of it over a card whose machine is told.
+  pub over : came
+  -- Whatever is told of the card, the link is left so.
+  pub leaves : FetchingLeaves is_live faults mark keeps goes_on result old new
+  -- The person was shown how many rows were fetched.
+  pub shows : seen

@@ -14,7 +14,7 @@ use Rattle.query_run.specs.Answering.{ShowsCounts}
 use Rattle.query_run.specs.QueryLines.{asked_texts, query_lines, some_refused}
 use Rattle.query_run.specs.Statuses.{program_status}
 use Rattle.query_run.specs.declared.status.QueryStatus.{QueryStatus}
-use Rattle.query_run.specs.declared.status.QueryStatus.TheVariants.{TooLong}
+use Rattle.query_run.specs.declared.status.QueryStatus.TheVariants.{NotACard, TooLong}
 
 -- What lines of queries print: each its text, from what is shown to channel 0 of this machine. The status tells whether one was refused.
 pub record PrintsQueries (m : Machine) (input : List ℕ) (status : Status) (before now : Option (List ℕ)) : Type 0 where
@@ -38,3 +38,16 @@ pub record RunLeaves {X T P N : Type 0} (eeprom outlet : X → ℕ) (faults : T 
   pub shows : ShowsCounts lost shown person watched
   -- and the other one some text.
   pub told : ShowsSome missed heard notices later
+
+-- A run over queries came to its end on a desk.
+pub record EndsOnDesk {X T P N : Type 0} (ran read : Type 0) (goes : X → X → Type 0) (eeprom outlet : X → ℕ) (faults : T → ℕ) (left : T → Option (List ℕ)) (lost : P → Bool) (shown : P → Option (List ℕ)) (missed : N → Bool) (heard : N → Option (List ℕ)) (status : QueryStatus) (source after : T) (old new : X) (person watched : P) (notices later : N) : Type 0 where
+  -- This came of it over a card whose machine is told.
+  pub runs : ran
+  -- Where the status tells that all was read, it was read so.
+  pub whole : reads_all (program_status status) ≡ true → read
+  -- The card was opened,
+  pub opened : ¬ (status ≡ NotACard)
+  -- its desk went on,
+  pub goes_on : goes old new
+  -- and this is left of all devices and persons.
+  pub leaves : RunLeaves eeprom outlet faults left lost shown missed heard status source after old new person watched notices later

@@ -1,8 +1,7 @@
 // Lines of queries, answered on a desk.
-ghost use Rattle.std.specs.Prelude.{◌≡◌, ◌≤◌, IfSome, length, option_map};
-ghost use Rattle.scql_model.specs.Lines.{longest_line};
+ghost use Rattle.std.specs.Prelude.{◌≡◌, IsTrue, option_map};
 ghost use Rattle.query_run.specs.Answering as model;
-ghost use Rattle.query_run.specs.Answering.{AnsweringLeaves, AnswersAsShown, IsAnswerable};
+ghost use Rattle.query_run.specs.Answering.{AnswersLine, IsAnswerable};
 ghost use Rattle.query_run.specs.Fetching.{CanAsk};
 ghost use Rattle.query_run.specs.QueryLines.{asked_refused, asked_text, is_refused};
 ghost use Rattle.query_run.specs.QueryText.{query_text};
@@ -17,6 +16,7 @@ use line_run::LineStop;
 use person::Person;
 use query::Query;
 use script::is_nothing;
+use taken_line::TakenLine;
 use terminal::fault_text;
 
 // Why a line isn't answered whose rows aren't there.
@@ -48,8 +48,8 @@ fn answer_query<L: Desk, P: Person>(
     why: &mut Option<Why>,
 ) -> Result<bool, LineStop>
     requires { CanAsk L.is_live (IsAnswerable query.now) desk.old }
-    ensures answers { AnswersAsShown L.is_at L.given L.mark L.chip (λ s. query_text s query.now) (λ s. is_refused s query.now) result desk.old desk.new }
-    ensures leaves { AnsweringLeaves L.is_live L.faults L.sink_faults L.mark L.goes_on P.lost P.shown result desk.old desk.new person.old person.new }
+    ensures { AnswersLine (λ s. query_text s query.now) (λ s. is_refused s query.now)
+        L.is_at L.given L.is_live L.faults L.sink_faults L.mark L.chip L.goes_on P.lost P.shown result desk.old desk.new person.old person.new }
 {
     match find_answer(alloc, desk, query, person) {
         Ok(answer) => {
@@ -64,20 +64,20 @@ fn answer_query<L: Desk, P: Person>(
 pub(crate) fn answer_line<L: Desk, P: Person>(
     alloc: Heap,
     desk: &mut L,
-    line: Option<&[u8]>,
+    line: Option<TakenLine<'_>>,
     person: &mut P,
     why: &mut Option<Why>,
 ) -> Result<bool, LineStop>
-    requires { CanAsk L.is_live (IfSome line (λ octets. length octets.now ≤ longest_line)) desk.old }
-    ensures answers { let octets = option_map (λ octets. octets.now) line.entry in
-        AnswersAsShown L.is_at L.given L.mark L.chip (λ s. asked_text s octets) (λ s. asked_refused s octets) result desk.old desk.new }
-    ensures leaves { AnsweringLeaves L.is_live L.faults L.sink_faults L.mark L.goes_on P.lost P.shown result desk.old desk.new person.old person.new }
+    requires { IsTrue (L.is_live desk.old) }
+    ensures { let octets = option_map (λ line. line.octets.now) line.entry in
+        AnswersLine (λ s. asked_text s octets) (λ s. asked_refused s octets)
+        L.is_at L.given L.is_live L.faults L.sink_faults L.mark L.chip L.goes_on P.lost P.shown result desk.old desk.new person.old person.new }
 {
     let Some(line) = line else {
         *why = Some(Why::TooLong);
         return told(say(desk, b"error line too long\n"), true);
     };
-    if is_nothing(line) {
+    if is_nothing(line.octets) {
         return Ok(false);
     }
     match Query::read(line) {

@@ -1,5 +1,5 @@
 // The rows of a query's objects, fetched from a card.
-ghost use Rattle.std.specs.Prelude.{◌≡◌, ◌∷◌, ◌++◌, List, [], OnOk, OnErr, IfOk, IfErr, length};
+ghost use Rattle.std.specs.Prelude.{◌≡◌, ◌∷◌, ◌++◌, List, [], OnOk, OnErr, IfOk, length};
 ghost use Rattle.std.specs.List.{AllByRecursion};
 ghost use Rattle.scql_model.specs.Machine.{Machine};
 ghost use Rattle.scql_model.specs.Matching.{Values};
@@ -10,7 +10,7 @@ ghost use Rattle.planner.specs.declared.closing.Closing.{Closing as ModelClosing
 ghost use Rattle.planner.specs.Planned.{IfSent};
 ghost use Rattle.card_asking.specs.Giving.{GivesRows};
 ghost use Rattle.query_run.specs.Fetching as model;
-ghost use Rattle.query_run.specs.Fetching.{CanAsk, CanBeAsked, FetchesOver, FetchesSo, FetchingLeaves, IsFetched, IsFetching, IsStopped, TakesRow, UnlessStopped};
+ghost use Rattle.query_run.specs.Fetching.{CanAsk, CanBeAsked, Fetches, FetchesOver, FetchesSo, IsFetched, TakesOver, UnlessStopped};
 ghost use Rattle.query_run.specs.Progress.{ShowsAllFetched, ShowsFetched};
 ghost use Rattle.query_run.specs.QueryText.{rows_shown, tables_shown};
 
@@ -25,7 +25,7 @@ use person::Person;
 use planner::{Closing, Plan, Step};
 use query::AskedObject;
 use row_join::Fetched;
-use scql_base::{Conditions, Row, StatusWord};
+use scql_base::{Conditions, Copied, Row, StatusWord};
 use script::Statement;
 use std::alloc::AllocError;
 
@@ -80,11 +80,7 @@ fn take_row<L: CardLink>(
     rows: &mut Vec<Row, Heap>,
 ) -> Result<(), Unfetched>
     requires { CanAsk L.is_live (IfSent step.old IsSendable) link.old }
-    ensures over { (m last : Machine) (closing : ModelClosing) (all : List Values) → IsFetching L.is_at m closing last all rows.old.items plan.old step.old link.old
-        → FetchesOver L.mark L.chip m (OnOk result (IsFetching L.is_at m closing last all rows.new.items plan.new step.new link.new)) link.old link.new }
-    ensures takes { OnOk result (TakesRow rows.old.items plan.old step.old rows.new.items plan.new step.new) }
-    ensures stops { IfErr result IsStopped }
-    ensures leaves { FetchingLeaves L.is_live L.faults L.mark L.keeps L.goes_on result link.old link.new }
+    ensures { TakesOver rows.old.items plan.old step.old rows.new.items plan.new step.new L.is_at L.is_live L.faults L.mark L.chip L.keeps L.goes_on result link.old link.new }
 {
     match add_row(plan, step, rows) {
         Ok(()) => {}
@@ -106,10 +102,9 @@ fn fetch_rows<L: CardLink, P: Person>(
 ) -> Result<(), Unfetched>
     requires can_ask { CanAsk L.is_live (IfSent step.old IsSendable) link.old }
     requires none { rows.old.items ≡ [] }
-    ensures over { (m last : Machine) (closing : ModelClosing) (all : List Values) → GivesRows L.is_at m closing last all plan.old step.old link.old
-        → FetchesOver L.mark L.chip m (UnlessStopped result (IsFetched L.is_at closing last all rows.new.items result link.new)) link.old link.new }
-    ensures leaves { FetchingLeaves L.is_live L.faults L.mark L.keeps L.goes_on result link.old link.new }
-    ensures shows { ShowsFetched P.lost P.shown (λ _. rows.new.items) result person.old person.new }
+    ensures { Fetches ((m last : Machine) (closing : ModelClosing) (all : List Values) → GivesRows L.is_at m closing last all plan.old step.old link.old
+        → FetchesOver L.mark L.chip m (UnlessStopped result (IsFetched L.is_at closing last all rows.new.items result link.new)) link.old link.new)
+        (ShowsFetched P.lost P.shown (λ _. rows.new.items) result person.old person.new) L.is_live L.faults L.mark L.keeps L.goes_on result link.old link.new }
 {
     let mut reply = Reply {
         body: ArrayVec::new(),
@@ -137,10 +132,8 @@ pub(crate) fn fetch_object<L: CardLink, P: Person>(
     person: &mut P,
 ) -> Result<Fetched, Unfetched>
     requires { CanAsk L.is_live (CanBeAsked asked.now) link.old }
-    ensures over { (m : Machine) → L.is_at link.old m
-        → FetchesOver L.mark L.chip m (FetchesSo L.is_at m (λ fetched. fetched) (rows_shown (shown_on m 0) asked.now) result link.new) link.old link.new }
-    ensures leaves { FetchingLeaves L.is_live L.faults L.mark L.keeps L.goes_on result link.old link.new }
-    ensures shows { ShowsFetched P.lost P.shown (λ fetched. fetched) result person.old person.new }
+    ensures { Fetches ((m : Machine) → L.is_at link.old m → FetchesOver L.mark L.chip m (FetchesSo L.is_at m (λ fetched. fetched) (rows_shown (shown_on m 0) asked.now) result link.new) link.old link.new)
+        (ShowsFetched P.lost P.shown (λ fetched. fetched) result person.old person.new) L.is_live L.faults L.mark L.keeps L.goes_on result link.old link.new }
 {
     let mut plan = Plan::start(selection(asked), 0, false);
     let mut step = Step::ResetCard;
@@ -168,11 +161,9 @@ pub(crate) fn fetch_all<L: CardLink, P: Person>(
     person: &mut P,
 ) -> Result<Vec<Fetched, Heap>, Unfetched>
     requires { CanAsk L.is_live (AllByRecursion CanBeAsked objects.now) link.old }
-    ensures over { (m : Machine) → L.is_at link.old m
-        → FetchesOver L.mark L.chip m (FetchesSo L.is_at m (λ tables. tables.items) (tables_shown (shown_on m 0) objects.now) result link.new) link.old link.new }
+    ensures fetches { Fetches ((m : Machine) → L.is_at link.old m → FetchesOver L.mark L.chip m (FetchesSo L.is_at m (λ tables. tables.items) (tables_shown (shown_on m 0) objects.now) result link.new) link.old link.new)
+        (ShowsAllFetched P.lost P.shown (λ tables. tables.items) result person.old person.new) L.is_live L.faults L.mark L.keeps L.goes_on result link.old link.new }
     ensures count { IfOk result (λ tables. length tables.items ≡ length objects.now) }
-    ensures leaves { FetchingLeaves L.is_live L.faults L.mark L.keeps L.goes_on result link.old link.new }
-    ensures shows { ShowsAllFetched P.lost P.shown (λ tables. tables.items) result person.old person.new }
 {
     let mut tables = Vec::new(alloc);
     for asked in objects {

@@ -4,7 +4,7 @@ ghost use Rattle.scql_model.specs.Machine.{Machine};
 ghost use Rattle.row_join.specs.Links.{AreWithin};
 ghost use Rattle.query_run.specs.Answering.{FindsSo, IsAnswerable, JoinsSo, ShowsCounts};
 ghost use Rattle.query_run.specs.Answers.{IsPrintable, refused_by};
-ghost use Rattle.query_run.specs.Fetching.{CanAsk, FetchesOver, FetchingLeaves, IsStopped, ReadsAs};
+ghost use Rattle.query_run.specs.Fetching.{CanAsk, Fetches, FetchesOver, IsStopped, ReadsAs};
 
 use crate::Unfetched;
 use crate::answer::Answer;
@@ -53,10 +53,9 @@ pub(crate) fn find_answer<L: CardLink, P: Person>(
     person: &mut P,
 ) -> Result<Answer, Unfetched>
     requires { CanAsk L.is_live (IsAnswerable query.now) link.old }
-    ensures over { (m : Machine) → ReadsAs L.is_at m link.old → FetchesOver L.mark L.chip m (IfOk result (λ answer. FindsSo L.is_at m query.now answer link.new)) link.old link.new }
+    ensures finds { Fetches ((m : Machine) → ReadsAs L.is_at m link.old → FetchesOver L.mark L.chip m (IfOk result (λ answer. FindsSo L.is_at m query.now answer link.new)) link.old link.new)
+        (ShowsCounts P.lost P.shown person.old person.new) L.is_live L.faults L.mark L.keeps L.goes_on result link.old link.new }
     ensures ends { MatchResult result IsPrintable IsStopped }
-    ensures leaves { FetchingLeaves L.is_live L.faults L.mark L.keeps L.goes_on result link.old link.new }
-    ensures shows { ShowsCounts P.lost P.shown person.old person.new }
 {
     match fetch_all(alloc, link, &query.objects, person) {
         Err(end) => refusal_of(end),

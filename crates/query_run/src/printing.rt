@@ -48,7 +48,6 @@ fn print_values<L: Desk>(
     selected: &[Column],
     combination: &Combination,
 ) -> Result<(), SinkFault>
-    requires { length tables.now ≤ 3 }
     ensures { EndsSaying L.is_at L.is_live L.faults L.mark L.chip L.goes_on L.given L.sink_faults (texts.values_text (values_at selected.now (rows_of tables.now combination.now.places))) result desk.old desk.new }
 {
     for place in 0..selected.len() {
@@ -65,7 +64,6 @@ fn print_row<L: Desk>(
     selected: &[Column],
     combination: &Combination,
 ) -> Result<(), SinkFault>
-    requires { length tables.now ≤ 3 }
     ensures { EndsSaying L.is_at L.is_live L.faults L.mark L.chip L.goes_on L.given L.sink_faults (texts.row_text (values_at selected.now (rows_of tables.now combination.now.places))) result desk.old desk.new }
 {
     print_values(desk, tables, selected, combination)?;
@@ -80,7 +78,6 @@ fn print_rows<L: Desk>(
     query: &Query,
     combinations: &[Combination],
 ) -> Result<(), SinkFault>
-    requires { length tables.now ≤ 3 }
     ensures { EndsSaying L.is_at L.is_live L.faults L.mark L.chip L.goes_on L.given L.sink_faults (model.row_texts query.now (all_rows tables.now combinations.now)) result desk.old desk.new }
 {
     let selected = query.selected.as_slice();

@@ -1,11 +1,9 @@
 // What a session over queries tells a person beside its output.
 use guide::{Cells, Dialect, Grammar, Message, note_of, put_word};
 use query::Query;
-use scql_base::{Name, StatusWord};
+use scql_base::{Copied, Name, StatusWord};
 use script::{ScriptFault, Tokens};
-
-/// The octets of the longest line.
-const LONGEST_LINE: usize = 1000;
+use taken_line::TakenLine;
 
 /// The queries of a session, and for whom they are.
 #[derive(Drop)]
@@ -25,7 +23,7 @@ impl Grammar for Queries {
 
     ghost fault_of = { λ _ line. place_of (query_of line) };
 
-    fn fault_place(&self, line: &[u8]) -> Option<usize> {
+    fn fault_place(&self, line: TakenLine<'_>) -> Option<usize> {
         match Query::read(line) {
             Err(ScriptFault::At { place }) => Some(usize::from(place)),
             Ok(_) | Err(ScriptFault::TooLarge) => None,
@@ -43,14 +41,14 @@ impl Dialect for Queries {
     }
 
     #[inline(never)]
-    fn before(&self, line: &[u8], message: &mut Message) {
-        if line.len() <= LONGEST_LINE && Query::read(line).is_ok() {
-            put_columns(line, message);
+    fn before(&self, line: TakenLine<'_>, message: &mut Message) {
+        if Query::read(line).is_ok() {
+            put_columns(line.octets, message);
         }
     }
 
-    fn done(&mut self, line: &[u8], message: &mut Message) {
-        if let Some((word, _)) = note_of(line) {
+    fn done(&mut self, line: TakenLine<'_>, message: &mut Message) {
+        if let Some((word, _)) = note_of(line.octets) {
             match word.as_slice() {
                 b"HELP" => message.put(HELP),
                 b"WORDS" => message.put(WORDS),
@@ -60,7 +58,13 @@ impl Dialect for Queries {
     }
 
     #[inline(never)]
-    fn refused(&self, line: &[u8], word: StatusWord, cells: Option<Cells>, message: &mut Message) {
+    fn refused(
+        &self,
+        line: TakenLine<'_>,
+        word: StatusWord,
+        cells: Option<Cells>,
+        message: &mut Message,
+    ) {
         let _ = cells;
         match word {
             StatusWord::NOT_FOUND => self.put_not_found(line, message),
@@ -75,7 +79,7 @@ impl Dialect for Queries {
 }
 
 impl Queries {
-    fn put_not_found(&self, line: &[u8], message: &mut Message) {
+    fn put_not_found(&self, line: TakenLine<'_>, message: &mut Message) {
         message.put(b"not found: ");
         message.put(self.user.octets());
         message.put(b" sees no object ");
@@ -101,10 +105,7 @@ fn put_columns(line: &[u8], message: &mut Message) {
 }
 
 // The objects of a query, `A, B or C`.
-fn put_objects(line: &[u8], message: &mut Message) {
-    if line.len() > LONGEST_LINE {
-        return;
-    }
+fn put_objects(line: TakenLine<'_>, message: &mut Message) {
     let Ok(query) = Query::read(line) else {
         return;
     };

@@ -1,18 +1,18 @@
 // A desk that answers the lines of a run.
-ghost use Rattle.std.specs.Prelude.{◌≤◌, IfSome, length, option_map};
-ghost use Rattle.scql_model.specs.Lines.{longest_line};
+ghost use Rattle.std.specs.Prelude.{IsTrue, option_map};
 ghost use Rattle.person.specs.Showing.{ShowsSome};
 ghost use Rattle.query_run.specs.Answering.{AnsweringLeaves};
-ghost use Rattle.query_run.specs.Fetching.{CanAsk, ReadsAs};
+ghost use Rattle.query_run.specs.Fetching.{ReadsAs};
 ghost use Rattle.query_run.specs.QueryLines.{Asking};
 ghost use Rattle.query_run.specs.Responding.{HearsLine};
 
 use crate::answering::answer_line;
 use crate::{Queries, ToldDesk};
 use eeprom::Heap;
-use guide::{Guide, Why};
+use guide::{Guide, Occasion};
 use line_run::{LineStop, Responder};
 use person::Person;
+use taken_line::TakenLine;
 
 /// A desk, a person who watches how rows are fetched and one who is told of lines, and whether a line was refused so far.
 pub(crate) struct QueryDesk<D: ToldDesk, P: Person, N: Person> {
@@ -46,7 +46,7 @@ impl<D: ToldDesk, P: Person, N: Person> Responder for QueryDesk<D, P, N> {
 
     ghost goes_on = { λ old new. LeadsOn D.goes_on P.lost P.shown N.lost N.shown old.desk new.desk old.person new.person old.notices new.notices };
 
-    fn answer_line(&mut self, line: Option<&[u8]>) -> Result<(), LineStop> {
+    fn answer_line(&mut self, line: Option<TakenLine<'_>>) -> Result<(), LineStop> {
         let refused = respond(
             self.alloc,
             &mut self.desk,
@@ -72,20 +72,25 @@ impl<D: ToldDesk, P: Person, N: Person> Responder for QueryDesk<D, P, N> {
 fn respond<D: ToldDesk, P: Person, N: Person>(
     alloc: Heap,
     desk: &mut D,
-    line: Option<&[u8]>,
+    line: Option<TakenLine<'_>>,
     person: &mut P,
     guide: &mut Guide<Queries>,
     notices: &mut N,
 ) -> Result<bool, LineStop>
-    requires { CanAsk D.is_live (IfSome line (λ octets. length octets.now ≤ longest_line)) desk.old }
+    requires { IsTrue (D.is_live desk.old) }
     ensures hears { (asking : Asking) → ReadsAs D.is_at asking.machine desk.old
-        → HearsLine D.is_at D.chip asking (option_map (λ octets. octets.now) line.entry) result desk.old desk.new }
+        → HearsLine D.is_at D.chip asking (option_map (λ line. line.octets.now) line.entry) result desk.old desk.new }
     ensures leaves { AnsweringLeaves D.is_live D.faults D.sink_faults D.mark D.goes_on P.lost P.shown result desk.old desk.new person.old person.new }
     ensures told { ShowsSome N.lost N.shown notices.old notices.new }
 {
     let mut why = None;
-    guide.before(line, notices);
+    guide.tell(Occasion::Line { line }, notices);
     let result = answer_line(alloc, desk, line, person, &mut why);
-    guide.behind(line, why, None, notices);
+    let outcome = Occasion::Outcome {
+        line,
+        why,
+        cells: None,
+    };
+    guide.tell(outcome, notices);
     result
 }

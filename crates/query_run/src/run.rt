@@ -1,31 +1,19 @@
 // A run over lines of queries.
-ghost use Rattle.std.specs.Prelude.{◌≡◌, ◌≤◌, [], true, IsTrue, length};
+ghost use Rattle.std.specs.Prelude.{◌≡◌, ◌≤◌, [], IsTrue, length};
 ghost use Rattle.eeprom.specs.Chip.{Becomes};
 ghost use Rattle.line_input.specs.Reading.{longest_input};
 ghost use Rattle.scql_model.specs.Machine.{Machine};
-ghost use Rattle.person.specs.Showing.{ShowsSome};
-ghost use Rattle.program.specs.Ends.{reads_all};
 ghost use Rattle.query_run.specs.Fetching.{ReadsAs};
-ghost use Rattle.query_run.specs.Running.{RunLeaves, RunsQueries};
+ghost use Rattle.query_run.specs.Running.{EndsOnDesk, RunsQueries};
 ghost use Rattle.query_run.specs.Statuses.{program_status};
 
 use crate::responding::QueryDesk;
 use crate::{Queries, QueryStatus, ToldDesk};
 use eeprom::{Heap, Source};
-use guide::{Guide, Message};
+use guide::{Guide, Occasion};
 use line_input::InputEnd;
-use line_run::{LineStop, run_lines};
+use line_run::run_lines;
 use person::Person;
-
-// Says how many lines were refused, where the input was read to its end.
-fn take_leave<N: Person>(end: &InputEnd<LineStop>, guide: &mut Guide<Queries>, notices: &mut N)
-    ensures { ShowsSome N.lost N.shown notices.old notices.new }
-{
-    match end {
-        InputEnd::Ended => guide.leave(notices),
-        _ => guide.tell(&Message::new(), notices),
-    }
-}
 
 /// Answers the lines of the input as queries on channel 0 of a card, and gives back its desk, the person who watched how rows are fetched,
 /// and the one who was told of the lines.
@@ -38,13 +26,11 @@ pub fn answer_queries<S: Source, D: ToldDesk, P: Person, N: Person>(
     mut notices: N,
 ) -> (QueryStatus, D, P, N)
     requires { IsTrue (D.is_live desk) }
-    ensures runs { (m : Machine) → ReadsAs D.is_at m desk → RunsQueries D.chip D.faults m (program_status result.0) (S.left source.old) (S.left source.new) desk result.1 }
-    ensures whole { reads_all (program_status result.0) ≡ true → Becomes (λ input left. (left ≡ []) × (length input ≤ longest_input)) (S.left source.old) (S.left source.new) }
-    ensures opened { ¬ (result.0 ≡ QueryStatus.NotACard) }
-    ensures goes_on { D.goes_on desk result.1 }
-    ensures leaves { RunLeaves D.faults D.sink_faults S.source_faults S.left P.lost P.shown N.lost N.shown result.0 source.old source.new desk result.1 person result.2 notices result.3 }
+    ensures { EndsOnDesk ((m : Machine) → ReadsAs D.is_at m desk → RunsQueries D.chip D.faults m (program_status result.0) (S.left source.old) (S.left source.new) desk result.1)
+        (Becomes (λ input left. (left ≡ []) × (length input ≤ longest_input)) (S.left source.old) (S.left source.new))
+        D.goes_on D.faults D.sink_faults S.source_faults S.left P.lost P.shown N.lost N.shown result.0 source.old source.new desk result.1 person result.2 notices result.3 }
 {
-    guide.greet(None, &mut notices);
+    guide.tell(Occasion::Start { cells: None }, &mut notices);
     let queries = QueryDesk {
         alloc,
         desk,
@@ -62,7 +48,8 @@ pub fn answer_queries<S: Source, D: ToldDesk, P: Person, N: Person>(
         mut notices,
         refused,
     } = queries;
-    take_leave(&end, &mut guide, &mut notices);
+    let whole = matches!(end, InputEnd::Ended);
+    guide.tell(Occasion::End { whole }, &mut notices);
     let status = QueryStatus::of_input(end, refused);
     (status, desk, person, notices)
 }

@@ -18,7 +18,7 @@ use card::{Card, LiveCard, OpenRefusal};
 use card_asking::{Unpresented, present};
 use card_link::Desk;
 use eeprom::{Bench, Heap, Source};
-use guide::Guide;
+use guide::{Guide, Occasion};
 use person::Person;
 use planner::Closing;
 use scql_base::{Name, StatusWord};
@@ -55,12 +55,13 @@ fn answer_for<S: Source, D: ToldDesk, P: Person, N: Person>(
     ensures goes_on { D.goes_on desk result.1 }
     ensures leaves { RunLeaves D.faults D.sink_faults S.source_faults S.left P.lost P.shown N.lost N.shown result.0 source.old source.new desk result.1 person result.2 notices result.3 }
 {
-    let guide = Guide::new(Queries::new(user), notices.presence());
+    let mut guide = Guide::new(Queries::new(user), notices.presence());
     match present(&mut desk, user) {
         Ok(()) => answer_queries(alloc, source, desk, person, guide, notices),
         Err(Unpresented::Refused { word }) => {
             let status = refuse(&mut desk, word);
-            guide.tell(&user_refused(user, word), &mut notices);
+            let message = user_refused(user, word);
+            guide.tell(Occasion::Message { message: &message }, &mut notices);
             (status, desk, person, notices)
         }
         Err(Unpresented::Mute) => (QueryStatus::Eeprom, desk, person, notices),

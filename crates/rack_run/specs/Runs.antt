@@ -8,7 +8,7 @@ use Rattle.scql_model.specs.Lines.{taken_line}
 use Rattle.scql_model.specs.Machine.{Machine}
 use Rattle.line_input.specs.Cutting.{open_end, taken_lines}
 use Rattle.line_input.specs.Reading.{IsCutShort, longest_input}
-use Rattle.person.specs.Showing.{Shows}
+use Rattle.person.specs.Showing.{Shows, ShowsSome}
 use Rattle.planner.specs.StatementLines.{TerminalState}
 use Rattle.reader_rack.specs.declared.reader.Reader.{Reader}
 use Rattle.reader_rack.specs.OwnLines.{OwnTurn, own_turns, statements_text}
@@ -77,6 +77,14 @@ pub record Runs {L : Type 0} (is_at : L → Machine → Type 0) (is_live : L →
   pub are_taken : Becomes (AreTaken status octets) start left
   pub from : (state : RackState) → IsRack is_at is_live old current state → RunsFrom is_at is_live faults state status octets old new current' given now
 
+-- A run, and how it left its input.
+pub record RunsToEnd {L : Type 0} (is_at : L → Machine → Type 0) (is_live : L → Bool) (faults : L → ℕ) (status : RackStatus) (start left : Option (List ℕ)) (old : List (Reader L)) (current : ℕ) (new : List (Reader L)) (current' : ℕ) (given now : Option (List ℕ)) : Type 0 where
+  -- From a state on, where the rack is at it: what was printed, where the rack is then, and which card did what it was asked for.
+  pub runs : Runs is_at is_live faults status start left old current new current' given now
+  -- The input was read to its end, or it is longer than an input may be.
+  pub whole : IsEnded status → Becomes (λ input left. (left ≡ []) × (length input ≤ longest_input)) start left
+  pub too_long : status ≡ TooLong → Becomes (λ input left. longest_input < length input) start left
+
 -- A run in which no card went mute leaves all cards' counts; it says so of one that failed; and no count ever falls.
 abbrev pub CountsRun : {L : Type 0} → (L → ℕ) → RackStatus → List (Reader L) → List (Reader L) → Type 0
 CountsRun faults Done old new = AllCountsStay faults old new
@@ -95,3 +103,10 @@ pub record ShowsPrompts {P : Type 0} (lost : P → Bool) (shown : P → Option (
   pub octets : List ℕ
   pub are_taken : Becomes (AreTaken status octets) start left
   pub shows : Shows lost shown (prompts current (carried_out status octets)) person after
+
+-- What two people are shown, who may sit at the same screen.
+pub record ShowsBoth {P N : Type 0} (lost : P → Bool) (shown : P → Option (List ℕ)) (lost' : N → Bool) (shown' : N → Option (List ℕ)) (status : RackStatus) (start left : Option (List ℕ)) (current : ℕ) (person after : P) (notices notices' : N) : Type 0 where
+  -- The one is shown which reader is current, before the first line and behind each line that was carried out.
+  pub prompts : ShowsPrompts lost shown status start left current person after
+  -- The other one is shown some text.
+  pub told : ShowsSome lost' shown' notices notices'

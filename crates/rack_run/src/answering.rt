@@ -7,9 +7,10 @@ use crate::rack_lines::RackLines;
 use crate::tally::Tally;
 use crate::why::why_of;
 use eeprom::SinkFault;
-use guide::Guide;
+use guide::{Guide, Occasion};
 use line_input::LineAnswerer;
 use person::Person;
+use taken_line::TakenLine;
 
 /// A rack that carries out the lines of a run, a person who is shown which reader is current, another one who is told of each line, and how the lines ended so far.
 #[derive(Drop)]
@@ -51,11 +52,16 @@ impl<'a, 'b, R: LineRack, P: Person, N: Person> LineAnswerer for RackRun<'a, 'b,
         × (new.person ≡ old.person) × (new.rack.ghost_name ≡ old.rack.ghost_name))
         × (ShowsSome N.lost N.shown old.notices.now new.notices.now × (new.notices.ghost_name ≡ old.notices.ghost_name)) };
 
-    fn answer(&mut self, line: Option<&[u8]>) -> Result<(), SinkFault> {
-        self.guide.before(line, self.notices);
+    fn answer(&mut self, line: Option<TakenLine<'_>>) -> Result<(), SinkFault> {
+        self.guide.tell(Occasion::Line { line }, self.notices);
         let end = self.rack.carry_out(line);
         self.tally.add(end)?;
-        self.guide.behind(line, why_of(end), None, self.notices);
+        let outcome = Occasion::Outcome {
+            line,
+            why: why_of(end),
+            cells: None,
+        };
+        self.guide.tell(outcome, self.notices);
         show_prompt(self.rack.current_reader(), self.person);
         Ok(())
     }

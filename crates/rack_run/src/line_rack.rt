@@ -1,6 +1,5 @@
 // A rack that lines are handed to.
-ghost use Rattle.std.specs.Prelude.{◌≡◌, ℕ, ◌≤◌, Bool, List, Option, length, option_map, IfSome};
-ghost use Rattle.scql_model.specs.Lines.{longest_line};
+ghost use Rattle.std.specs.Prelude.{◌≡◌, ℕ, Bool, List, Option, option_map};
 ghost use Rattle.scql_model.specs.Machine.{Machine};
 ghost use Rattle.reader_rack.specs.declared.reader.Reader.{Reader};
 ghost use Rattle.reader_rack.specs.RackText.{RackState, rack_effect};
@@ -12,6 +11,7 @@ ghost use Rattle.rack_run.specs.Carrying.{Does};
 use card_link::CardLink;
 use eeprom::Outlet;
 use reader_rack::{Rack, RackEnd};
+use taken_line::TakenLine;
 
 /// A rack, whatever links it has.
 pub(crate) trait LineRack {
@@ -40,11 +40,10 @@ pub(crate) trait LineRack {
     ghost sink_faults: { Self → ℕ };
 
     /// Carries out a line, or says of one that is too long that it is refused.
-    fn carry_out(&mut self, line: Option<&[u8]>) -> RackEnd
-        requires short { IfSome line (λ octets. length octets.now ≤ longest_line) }
+    fn carry_out(&mut self, line: Option<TakenLine<'_>>) -> RackEnd
         ensures ends { (state : RackState) → IsRack is_at is_live (readers self.old) (current self.old) state
-            → EndsEffect (IsRack is_at is_live (readers self.new) (current self.new)) (rack_effect state (option_map (λ octets. octets.now) line.entry)) result (given self.old) (given self.new) }
-        ensures does { Does is_live faults (option_map (λ octets. octets.now) line.entry) result (readers self.old) (current self.old) (readers self.new) (current self.new) (sink_faults self.old) (sink_faults self.new) };
+            → EndsEffect (IsRack is_at is_live (readers self.new) (current self.new)) (rack_effect state (option_map (λ line. line.octets.now) line.entry)) result (given self.old) (given self.new) }
+        ensures does { Does is_live faults (option_map (λ line. line.octets.now) line.entry) result (readers self.old) (current self.old) (readers self.new) (current self.new) (sink_faults self.old) (sink_faults self.new) };
 
     /// The number of the current reader.
     fn current_reader(&self) -> u8
@@ -72,9 +71,9 @@ impl<O: Outlet, L: CardLink> LineRack for Rack<O, L> {
 
     ghost sink_faults = { λ rack. O.sink_faults rack.outlet };
 
-    fn carry_out(&mut self, line: Option<&[u8]>) -> RackEnd {
+    fn carry_out(&mut self, line: Option<TakenLine<'_>>) -> RackEnd {
         match line {
-            Some(octets) => self.line(octets),
+            Some(line) => self.line(line),
             None => self.refuse_long_line(),
         }
     }

@@ -6,6 +6,7 @@ use guide::{Cells, Dialect, Grammar, Message, Statements, note_of};
 use reader_rack::{RackStatement, rack_statement};
 use scql_base::StatusWord;
 use script::Tokens;
+use taken_line::TakenLine;
 
 /// How many readers a rack has.
 const READERS: usize = 4;
@@ -41,11 +42,11 @@ impl Grammar for RackLines {
 
     ghost fault_of = { λ _ line. rack_fault line };
 
-    fn fault_place(&self, line: &[u8]) -> Option<usize> {
-        if is_begun(line) {
-            return Some(line.len());
+    fn fault_place(&self, line: TakenLine<'_>) -> Option<usize> {
+        if is_begun(line.octets) {
+            return Some(line.octets.len());
         }
-        if rack_statement(line).is_some() {
+        if rack_statement(line.octets).is_some() {
             return None;
         }
         self.statements().fault_place(line)
@@ -61,25 +62,31 @@ impl Dialect for RackLines {
         self.statements().help()
     }
 
-    fn before(&self, line: &[u8], message: &mut Message) {
+    fn before(&self, line: TakenLine<'_>, message: &mut Message) {
         self.statements().before(line, message);
     }
 
-    fn done(&mut self, line: &[u8], message: &mut Message) {
-        match rack_statement(line) {
+    fn done(&mut self, line: TakenLine<'_>, message: &mut Message) {
+        match rack_statement(line.octets) {
             Some(RackStatement::Select { reader }) => self.current = usize::from(reader),
             Some(RackStatement::Eject { .. }) => {}
-            None => match help_on_own(line) {
+            None => match help_on_own(line.octets) {
                 Some(text) => message.put(text),
                 None => {
                     self.readers[self.current % READERS].done(line, message);
-                    put_own(line, message);
+                    put_own(line.octets, message);
                 }
             },
         }
     }
 
-    fn refused(&self, line: &[u8], word: StatusWord, cells: Option<Cells>, message: &mut Message) {
+    fn refused(
+        &self,
+        line: TakenLine<'_>,
+        word: StatusWord,
+        cells: Option<Cells>,
+        message: &mut Message,
+    ) {
         self.statements().refused(line, word, cells, message);
     }
 }

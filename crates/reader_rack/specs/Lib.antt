@@ -1,4 +1,5 @@
 pub mod Boxes
+pub mod Calls
 pub mod DeskLaws
 pub mod Desks
 pub mod OwnLines
@@ -6,3 +7,4 @@ pub mod RackText
 pub mod Racks
 pub mod Readers
 pub mod Statements
+pub mod Steps

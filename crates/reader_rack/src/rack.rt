@@ -1,17 +1,12 @@
 // A rack: its readers, and what it does with a line.
-ghost use Rattle.std.specs.Prelude.{◌≡◌, ◌≤◌, ◌∷◌, ℕ, [], length, option_map, None, Some, IfSome, IfErr, OnOk, OnErr, IsTrue, is_err, true, false};
+ghost use Rattle.std.specs.Prelude.{◌≡◌, ◌∷◌, ℕ, [], length, None, Some, IfSome, IfErr, OnOk, OnErr, IsTrue, is_err, true};
 ghost use Rattle.eeprom.specs.Fault.{Counts};
 ghost use Rattle.eeprom.specs.Output.{Follows};
-ghost use Rattle.scql_model.specs.Lines.{longest_line};
-ghost use Rattle.scql_model.specs.Machine as machine;
 ghost use Rattle.scql_model.specs.Machine.{Machine};
-ghost use Rattle.scql_model.specs.Step.{step};
-ghost use Rattle.card_link.specs.Link.{Holds, IsOneOf, LeavesOpen};
-ghost use Rattle.planner.specs.StatementLines.{TerminalState};
-ghost use Rattle.terminal.specs.Holding.{terminal_at};
-ghost use Rattle.reader_rack.specs.RackText.{RackState, mute, sits, asked, ejected, rack_effect, stated, to_reader, with_reader};
-ghost use Rattle.reader_rack.specs.Racks.{Asks, EndsInAnyState, HoldsCard, IsPrintedBy, IsRack, IsSetAside, LeavesRest, RepliesAt, States, TakesIn, answers_at, count_at, holds_at, is_held, link_at, reader_at};
-ghost use Rattle.reader_rack.specs.Readers.{AnswersStill, GoesMute, empty, lending, with_link};
+ghost use Rattle.reader_rack.specs.Calls.{Exchanges, IsEjected, IsLent, IsPutBack, MayLend, MayPutBack, OnlyPrints, Resets};
+ghost use Rattle.reader_rack.specs.RackText.{asked, rack_effect, stated, to_reader};
+ghost use Rattle.reader_rack.specs.Racks.{Asks, EndsInAnyState, HoldsCard, LeavesRest, States, TakesIn, answers_at, holds_at};
+ghost use Rattle.reader_rack.specs.Readers.{empty};
 ghost use Rattle.reader_rack.specs.Statements as statements;
 ghost use Rattle.reader_rack.specs.Statements.{IsReader, names_reader, selected};
 
@@ -23,6 +18,7 @@ use crate::{RackEnd, RackRefusal};
 use apdu::Reply;
 use card_link::{CardLink, Outcome};
 use eeprom::{Outlet, SinkFault};
+use taken_line::TakenLine;
 use terminal::Refusal;
 
 /// How many readers a rack has.
@@ -56,8 +52,7 @@ impl<O: Outlet> Rack<O> {
         requires live { IsTrue (is_live link) }
         requires closed { (m : Machine) → is_at link m → m.transaction ≡ None }
         ensures held { is_err result ≡ holds_at self.old.readers reader }
-        ensures back { IfErr result (λ back. back ≡ link) }
-        ensures stays { OnErr result (self.new ≡ self.old) }
+        ensures back { IfErr result (λ back. (back ≡ link) × (self.new ≡ self.old)) }
         ensures inserts { OnOk result (TakesIn ⟦<BoxedLink as CardLink>⟧.is_at ⟦<BoxedLink as CardLink>⟧.is_live ⟦<BoxedLink as CardLink>⟧.faults ⟦<BoxedLink as CardLink>⟧.chip
             reader (is_at link) (faults link) (chip link) self.old.readers self.new.readers self.old.current.number self.new.current.number) }
         ensures live { OnOk result (answers_at ⟦<BoxedLink as CardLink>⟧.is_live self.new.readers reader ≡ true) }
@@ -96,9 +91,8 @@ impl<O: Outlet, L: CardLink> Rack<O, L> {
     }
 
     // Asks the current reader for what a line means.
-    fn ask(&mut self, line: &[u8]) -> RackEnd
-        requires short { length line.now ≤ longest_line }
-        ensures ends { EndsInAnyState L.is_at L.is_live O.given (λ state fails. to_reader state state.current (asked (state.reader state.current) line.now fails)) result self.old self.new }
+    fn ask(&mut self, line: TakenLine<'_>) -> RackEnd
+        ensures ends { EndsInAnyState L.is_at L.is_live O.given (λ state fails. to_reader state state.current (asked (state.reader state.current) line.entry.octets.now fails)) result self.old self.new }
         ensures asks { Asks L.is_live L.faults self.old.current.number result self.old.readers self.new.readers (O.sink_faults self.old.outlet) (O.sink_faults self.new.outlet) }
         ensures current { self.new.current ≡ self.old.current }
     {
@@ -106,16 +100,15 @@ impl<O: Outlet, L: CardLink> Rack<O, L> {
     }
 
     /// Reads a line of at most 1,000 octets, carries it out and prints what comes of it: the rack's own statement, or what it means to the current reader.
-    pub fn line(&mut self, line: &[u8]) -> RackEnd
-        requires short { length line.now ≤ longest_line }
-        ensures ends { EndsInAnyState L.is_at L.is_live O.given (λ state. rack_effect state (Some line.now)) result self.old self.new }
-        ensures asks { statements.rack_statement line.now ≡ None
+    pub fn line(&mut self, line: TakenLine<'_>) -> RackEnd
+        ensures ends { EndsInAnyState L.is_at L.is_live O.given (λ state. rack_effect state (Some line.entry.octets.now)) result self.old self.new }
+        ensures asks { statements.rack_statement line.entry.octets.now ≡ None
             → Asks L.is_live L.faults self.old.current.number result self.old.readers self.new.readers (O.sink_faults self.old.outlet) (O.sink_faults self.new.outlet) × (self.new.current ≡ self.old.current) }
-        ensures states { IfSome (statements.rack_statement line.now) (λ statement.
+        ensures states { IfSome (statements.rack_statement line.entry.octets.now) (λ statement.
             States L.faults statement result self.old.readers self.new.readers (O.sink_faults self.old.outlet) (O.sink_faults self.new.outlet)) }
-        ensures selects { IfSome (statements.rack_statement line.now) (λ statement. self.new.current.number ≡ selected statement self.old.current.number) }
+        ensures selects { IfSome (statements.rack_statement line.entry.octets.now) (λ statement. self.new.current.number ≡ selected statement self.old.current.number) }
     {
-        match rack_statement(line) {
+        match rack_statement(line.octets) {
             Some(statement) => self.state(statement),
             None => self.ask(line),
         }
@@ -124,8 +117,7 @@ impl<O: Outlet, L: CardLink> Rack<O, L> {
     /// Says of a line that is longer than a line may be that it is refused.
     pub fn refuse_long_line(&mut self) -> RackEnd
         ensures ends { EndsInAnyState L.is_at L.is_live O.given (λ state. rack_effect state None) result self.old self.new }
-        ensures printed { IsPrintedBy result (O.sink_faults self.old.outlet) (O.sink_faults self.new.outlet) }
-        ensures readers { (self.new.readers ≡ self.old.readers) × (self.new.current ≡ self.old.current) }
+        ensures prints { OnlyPrints O.sink_faults result self.old self.new }
     {
         say(
             &mut self.outlet,
@@ -141,32 +133,23 @@ impl<O: Outlet, L: CardLink> Rack<O, L> {
     /// Sets a reader's link aside without a command, and tells whether the reader held one.
     pub fn eject(&mut self, reader: u8) -> bool
         requires reader { IsReader reader }
-        ensures held { result ≡ holds_at self.old.readers reader }
-        ensures aside { IsSetAside reader self.old.readers self.new.readers }
-        ensures ejects { (state : RackState) → IsRack L.is_at L.is_live self.old.readers self.old.current.number state
-            → (result ≡ is_held (state.reader reader)) × IsRack L.is_at L.is_live self.new.readers self.new.current.number (with_reader state reader (ejected (state.reader reader)).next) }
-        ensures counts { (number : ℕ) → count_at L.faults self.new.readers number ≡ count_at L.faults self.old.readers number }
-        ensures leaves { LeavesRest reader self.old self.new }
+        ensures { IsEjected L.is_at L.is_live L.faults reader result self.old self.new }
     {
         self.readers[usize::from(reader) - 1].eject()
     }
 
     /// Lends a reader's link, to be put back. Until then the reader holds none, and its terminal stays.
     pub fn take(&mut self, reader: u8) -> L
-        requires { HoldsCard L.is_live self.old.readers reader }
-        ensures link { link_at self.old.readers reader ≡ Some result }
-        ensures lent { reader_at self.new.readers reader ≡ option_map lending (reader_at self.old.readers reader) }
-        ensures leaves { LeavesRest reader self.old self.new }
+        requires { MayLend self.old.readers reader }
+        ensures { IsLent reader result self.old self.new }
     {
         self.readers[usize::from(reader) - 1].take()
     }
 
     /// Puts a link that was lent back into its reader, as it has become.
     pub fn put_back(&mut self, reader: u8, link: L)
-        requires reader { IsReader reader }
-        requires lent { holds_at self.old.readers reader ≡ false }
-        ensures holds { reader_at self.new.readers reader ≡ option_map (with_link link) (reader_at self.old.readers reader) }
-        ensures leaves { LeavesRest reader self.old self.new }
+        requires { MayPutBack self.old.readers reader }
+        ensures { IsPutBack reader link self.old self.new }
     {
         self.readers[usize::from(reader) - 1].put_back(link);
     }
@@ -174,16 +157,7 @@ impl<O: Outlet, L: CardLink> Rack<O, L> {
     /// Sends a command to a reader's card. The reader's terminal is told how it was answered.
     pub fn exchange(&mut self, reader: u8, command: &[u8], reply: &mut Reply) -> Outcome
         requires { HoldsCard L.is_live self.old.readers reader }
-        ensures replies { (state : RackState) (at : TerminalState) → IsRack L.is_at L.is_live self.old.readers self.old.current.number state → state.reader reader ≡ sits at → result ≡ Outcome.Replied
-            → RepliesAt L.is_at L.is_live state reader at command.now reply.new self.new.readers self.new.current.number }
-        ensures replied { result ≡ Outcome.Replied → AnswersStill (answers_at L.is_live self.new.readers reader) (count_at L.faults self.old.readers reader) (count_at L.faults self.new.readers reader) }
-        ensures mute { result ≡ Outcome.Mute → GoesMute reply.new (answers_at L.is_live self.new.readers reader) (count_at L.faults self.old.readers reader) (count_at L.faults self.new.readers reader) }
-        ensures mutes { (state : RackState) → IsRack L.is_at L.is_live self.old.readers self.old.current.number state → result ≡ Outcome.Mute
-            → IsRack L.is_at L.is_live self.new.readers self.new.current.number (with_reader state reader mute) }
-        ensures never_falls { count_at L.faults self.old.readers reader ≤ count_at L.faults self.new.readers reader }
-        ensures moments { IfSome (link_at self.old.readers reader) (λ link. IfSome (link_at self.new.readers reader) (λ later. (m : Machine) → L.is_at link m
-            → LeavesOpen (IsOneOf (L.mark link) (m.committed ∷ (step m command.now).commits)) (L.chip link) (L.chip later))) }
-        ensures leaves { LeavesRest reader self.old self.new }
+        ensures { Exchanges L.is_at L.is_live L.faults L.mark L.chip reader command.now reply.new result self.old self.new }
     {
         self.readers[usize::from(reader) - 1].exchange(command, reply)
     }
@@ -191,12 +165,7 @@ impl<O: Outlet, L: CardLink> Rack<O, L> {
     /// Resets a reader's card, and the reader's terminal with it.
     pub fn reset(&mut self, reader: u8)
         requires { HoldsCard L.is_live self.old.readers reader }
-        ensures step { (state : RackState) (at : TerminalState) → IsRack L.is_at L.is_live self.old.readers self.old.current.number state → state.reader reader ≡ sits at
-            → IsRack L.is_at L.is_live self.new.readers self.new.current.number (with_reader state reader (sits (terminal_at (machine.reset at.machine) 0))) }
-        ensures live { AnswersStill (answers_at L.is_live self.new.readers reader) (count_at L.faults self.old.readers reader) (count_at L.faults self.new.readers reader) }
-        ensures moments { IfSome (link_at self.old.readers reader) (λ link. IfSome (link_at self.new.readers reader) (λ later. (m : Machine) → L.is_at link m
-            → LeavesOpen (Holds (L.mark link) m.committed) (L.chip link) (L.chip later))) }
-        ensures leaves { LeavesRest reader self.old self.new }
+        ensures { Resets L.is_at L.is_live L.faults L.mark L.chip reader self.old self.new }
     {
         self.readers[usize::from(reader) - 1].reset();
     }

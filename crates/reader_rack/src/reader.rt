@@ -1,18 +1,15 @@
 // A reader of a rack.
-ghost use Rattle.std.specs.Prelude.{◌≡◌, ◌≤◌, ◌∷◌, ℕ, Bool, true, false, IfSome, length, IsTrue, None, Some, is_some, if◌then◌else◌, codes};
-ghost use Rattle.scql_model.specs.Lines.{line_effect, longest_line};
-ghost use Rattle.scql_model.specs.Machine as machine;
+ghost use Rattle.std.specs.Prelude.{◌≡◌, ℕ, Bool, true, false, IsTrue, None, Some, is_some, if◌then◌else◌, codes};
+ghost use Rattle.scql_model.specs.Lines.{line_effect};
 ghost use Rattle.scql_model.specs.Machine.{Machine};
-ghost use Rattle.scql_model.specs.Step.{step};
-ghost use Rattle.card_link.specs.Link as links;
-ghost use Rattle.card_link.specs.Link.{IsOneOf, LeavesOpen};
 ghost use Rattle.script.specs.Line.{statement_of};
 ghost use Rattle.planner.specs.StatementLines.{TerminalState, statement_lines};
 ghost use Rattle.terminal.specs.Holding.{Knows, Sits, terminal_at};
 ghost use Rattle.terminal.specs.Line as lines;
 ghost use Rattle.terminal.specs.Line.{EndsSo, refusal_in, rows_in};
-ghost use Rattle.reader_rack.specs.RackText.{Held, mute, sits, asked, heard, unheard};
-ghost use Rattle.reader_rack.specs.Readers.{AnswersStill, EndsBy, EndsEffect, GoesMute, Holds, IsHeld, IsSaidOrCut, answers, count, lending, with_link};
+ghost use Rattle.reader_rack.specs.RackText.{Held, asked, heard, unheard};
+ghost use Rattle.reader_rack.specs.Steps.{IsExchanged, IsReset};
+ghost use Rattle.reader_rack.specs.Readers.{EndsBy, EndsEffect, Holds, IsHeld, IsSaidOrCut, answers, count, lending, with_link};
 
 use crate::desk::RackDesk;
 use crate::{RackEnd, RackRefusal};
@@ -20,6 +17,7 @@ use apdu::Reply;
 use card_link::{CardLink, Outcome};
 use eeprom::Outlet;
 use script::is_nothing;
+use taken_line::TakenLine;
 use terminal::{LineEnd, Terminal};
 
 /// A reader: the link that it holds, the one that was set aside, and a terminal.
@@ -82,7 +80,7 @@ impl<L: CardLink> Reader<L> {
 
     /// Lends its link. The terminal stays.
     pub(crate) fn take(&mut self) -> L
-        requires live { IsTrue (answers L.is_live self.old) }
+        requires { IsTrue (is_some self.old.link) }
         ensures link { self.old.link ≡ Some result }
         ensures lent { self.new ≡ lending self.old }
     {
@@ -102,14 +100,7 @@ impl<L: CardLink> Reader<L> {
     /// Sends a command to its link, and tells its terminal how it was answered.
     pub(crate) fn exchange(&mut self, command: &[u8], reply: &mut Reply) -> Outcome
         requires live { IsTrue (answers L.is_live self.old) }
-        ensures step { (state : TerminalState) → Holds L.is_at L.is_live self.old (sits state) → result ≡ Outcome.Replied
-            → (reply.new ≡ (step state.machine command.now).reply) × Holds L.is_at L.is_live self.new (sits (terminal_at (step state.machine command.now).machine state.channel)) }
-        ensures replied { result ≡ Outcome.Replied → AnswersStill (answers L.is_live self.new) (count L.faults self.old) (count L.faults self.new) }
-        ensures mute { result ≡ Outcome.Mute → GoesMute reply.new (answers L.is_live self.new) (count L.faults self.old) (count L.faults self.new) × Holds L.is_at L.is_live self.new mute }
-        ensures never_falls { count L.faults self.old ≤ count L.faults self.new }
-        ensures moments { (link : L) → self.old.link ≡ Some link → IfSome self.new.link (λ later. (m : Machine) → L.is_at link m
-            → LeavesOpen (IsOneOf (L.mark link) (m.committed ∷ (step m command.now).commits)) (L.chip link) (L.chip later)) }
-        ensures aside { self.new.aside ≡ self.old.aside }
+        ensures { IsExchanged L.is_at L.is_live L.faults L.mark L.chip command.now reply.new result self.old self.new }
     {
         match &mut self.link {
             Some(link) => match link.exchange(command, reply) {
@@ -126,10 +117,7 @@ impl<L: CardLink> Reader<L> {
     /// Resets its link, and its terminal with it.
     pub(crate) fn reset(&mut self)
         requires live { IsTrue (answers L.is_live self.old) }
-        ensures step { (state : TerminalState) → Holds L.is_at L.is_live self.old (sits state) → Holds L.is_at L.is_live self.new (sits (terminal_at (machine.reset state.machine) 0)) }
-        ensures live { AnswersStill (answers L.is_live self.new) (count L.faults self.old) (count L.faults self.new) }
-        ensures moments { (link : L) → self.old.link ≡ Some link → IfSome self.new.link (λ later. (m : Machine) → L.is_at link m → LeavesOpen (links.Holds (L.mark link) m.committed) (L.chip link) (L.chip later)) }
-        ensures aside { self.new.aside ≡ self.old.aside }
+        ensures { IsReset L.is_at L.is_live L.faults L.mark L.chip self.old self.new }
     {
         match &mut self.link {
             Some(link) => {
@@ -141,16 +129,15 @@ impl<L: CardLink> Reader<L> {
     }
 
     /// Reads a line as a statement, carries it out where a link answers, and prints what comes of it.
-    pub(crate) fn answer<O: Outlet>(&mut self, outlet: &mut O, line: &[u8]) -> RackEnd
-        requires short { length line.now ≤ longest_line }
+    pub(crate) fn answer<O: Outlet>(&mut self, outlet: &mut O, line: TakenLine<'_>) -> RackEnd
         ensures ends { (held : Held) → Holds L.is_at L.is_live self.old held
-            → EndsEffect (Holds L.is_at L.is_live self.new) (asked held line.now) result (O.given outlet.old) (O.given outlet.new) }
+            → EndsEffect (Holds L.is_at L.is_live self.new) (asked held line.entry.octets.now) result (O.given outlet.old) (O.given outlet.new) }
         ensures ends_by { EndsBy result (answers L.is_live self.old) (answers L.is_live self.new) (count L.faults self.old) (count L.faults self.new) (O.sink_faults outlet.old) (O.sink_faults outlet.new) }
         ensures aside { self.new.aside ≡ self.old.aside }
     {
         match &mut self.link {
             Some(link) if link.live() => answer_at(&mut self.terminal, link, outlet, line),
-            _ => answer_unheard(outlet, line),
+            _ => answer_unheard(outlet, line.octets),
         }
     }
 }
@@ -160,12 +147,11 @@ fn answer_at<L: CardLink, O: Outlet>(
     terminal: &mut Terminal,
     link: &mut L,
     outlet: &mut O,
-    line: &[u8],
+    line: TakenLine<'_>,
 ) -> RackEnd
     requires live { IsTrue (L.is_live link.old) }
-    requires short { length line.now ≤ longest_line }
     ensures ends { (state : TerminalState) → Sits L.is_at state terminal.old link.old
-        → EndsEffect (IsHeld L.is_at L.is_live (Some link.new) terminal.new) (heard state (statement_of line.now)) result (O.given outlet.old) (O.given outlet.new) }
+        → EndsEffect (IsHeld L.is_at L.is_live (Some link.new) terminal.new) (heard state (statement_of line.entry.octets.now)) result (O.given outlet.old) (O.given outlet.new) }
     ensures ends_by { EndsBy result (L.is_live link.old) (L.is_live link.new) (L.faults link.old) (L.faults link.new) (O.sink_faults outlet.old) (O.sink_faults outlet.new) }
 {
     match line_at(terminal, link, outlet, line) {
@@ -217,13 +203,12 @@ fn line_at<L: CardLink, O: Outlet>(
     terminal: &mut Terminal,
     link: &mut L,
     outlet: &mut O,
-    line: &[u8],
+    line: TakenLine<'_>,
 ) -> LineEnd
     requires live { IsTrue (L.is_live link.old) }
-    requires short { length line.now ≤ longest_line }
     ensures ends { (m : Machine) → L.is_at link.old m → Knows terminal.old.transaction m
-        → EndsSo (λ (p : L × O) m. L.is_at p.0 m) (λ (p : L × O). O.given p.1) m (line_effect statement_lines (terminal_at m terminal.old.channel) line.now) (rows_in (terminal_at m terminal.old.channel) (statement_of line.now))
-        (refusal_in (terminal_at m terminal.old.channel) (statement_of line.now)) terminal.new result (link.old, outlet.old) (link.new, outlet.new) }
+        → EndsSo (λ (p : L × O) m. L.is_at p.0 m) (λ (p : L × O). O.given p.1) m (line_effect statement_lines (terminal_at m terminal.old.channel) line.entry.octets.now) (rows_in (terminal_at m terminal.old.channel) (statement_of line.entry.octets.now))
+        (refusal_in (terminal_at m terminal.old.channel) (statement_of line.entry.octets.now)) terminal.new result (link.old, outlet.old) (link.new, outlet.new) }
     ensures ends_by { lines.EndsBy (λ (p : L × O). L.is_live p.0) (λ (p : L × O). L.faults p.0) (λ (p : L × O). O.sink_faults p.1) result (link.old, outlet.old) (link.new, outlet.new) }
 {
     let mut desk = RackDesk { link, outlet };

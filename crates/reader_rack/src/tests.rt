@@ -7,6 +7,7 @@ use eeprom::{Outlet, SinkFault};
 use scql_base::StatusWord;
 use script::ScriptFault;
 use std::alloc::AllocError;
+use taken_line::TakenLine;
 use terminal::Refusal;
 
 fn refused(why: RackRefusal) -> RackEnd {
@@ -97,19 +98,41 @@ fn each_reader_answers_for_itself(rt: HostRuntime) -> Result<(), AllocError> {
     });
     assert_eq!(rt; rack.insert(3, Box::new(alloc, Fine {})?).is_ok(), true);
 
-    assert_eq!(rt; rack.line(b"BEGIN"), refused(RackRefusal::NoCard));
-    assert_eq!(rt; rack.line(b"# BEGIN"), RackEnd::Answered);
-    assert_eq!(rt; rack.line(b"READER 3;"), RackEnd::Answered);
     assert_eq!(rt;
-        rack.line(b"READER 0"),
+        rack.line(TakenLine { octets: b"BEGIN" }),
+        refused(RackRefusal::NoCard)
+    );
+    assert_eq!(rt;
+        rack.line(TakenLine { octets: b"# BEGIN" }),
+        RackEnd::Answered
+    );
+    assert_eq!(rt;
+        rack.line(TakenLine {
+            octets: b"READER 3;"
+        }),
+        RackEnd::Answered
+    );
+    assert_eq!(rt;
+        rack.line(TakenLine {
+            octets: b"READER 0"
+        }),
         refused_line(Refusal::Fault {
             fault: ScriptFault::At { place: 0 }
         })
     );
-    assert_eq!(rt; rack.line(b"BEGIN"), RackEnd::Answered);
-    assert_eq!(rt; rack.line(b"EJECT 3"), RackEnd::Answered);
+    assert_eq!(rt;
+        rack.line(TakenLine { octets: b"BEGIN" }),
+        RackEnd::Answered
+    );
+    assert_eq!(rt;
+        rack.line(TakenLine { octets: b"EJECT 3" }),
+        RackEnd::Answered
+    );
     assert_eq!(rt; rack.eject(3), false);
-    assert_eq!(rt; rack.line(b"EJECT 4"), refused(RackRefusal::NoCard));
+    assert_eq!(rt;
+        rack.line(TakenLine { octets: b"EJECT 4" }),
+        refused(RackRefusal::NoCard)
+    );
     assert_eq!(rt; rack.refuse_long_line(), refused_line(Refusal::TooLong));
     assert_eq!(rt;
         rack.outlet().text.as_slice(),

@@ -1,5 +1,5 @@
 -- What a writer makes of an image, some of its octets pending.
-use Rattle.std.specs.Prelude.{◌≡◌, ℕ, ◌+◌, ◌≤◌, List, length, take, drop, Option, option_map, Result, OnOk}
+use Rattle.std.specs.Prelude.{◌≡◌, ℕ, ◌+◌, ◌≤◌, List, [], length, take, drop, Option, option_map, Result, OnOk}
 use Rattle.eeprom.specs.Chip.{Chip, Keeps}
 use Rattle.eeprom.specs.Fault.{Counts}
 use Rattle.eeprom.specs.Image.{overwrite}
@@ -31,4 +31,15 @@ pub record AppendsUpTo {S T E : Type 0} (chip : S → Chip) (faults : S → ℕ)
   pub front : Keeps (take 4) (chip was) (chip now)
   pub after : (limit : ℕ) → end ≤ limit → Keeps (drop limit) (chip was) (chip now)
   -- A fault was counted.
+  pub cause : Counts (faults was) (faults now) result
+
+-- What is pending is written.
+pub record Flushes {S T E : Type 0} (chip : S → Chip) (faults : S → ℕ) (old new : Writer) (was now : S) (result : Result T E) : Type 0 where
+  pub written : OnOk result ((chip now).image ≡ promised old (chip was))
+  pub place : OnOk result (new.at ≡ end_of old)
+  pub empty : OnOk result (new.pending.items ≡ [])
+  pub behind : OnOk result (4 ≤ new.at)
+  -- What comes before the octets stays, and what comes behind them.
+  pub front : Keeps (take 4) (chip was) (chip now)
+  pub after : (limit : ℕ) → end_of old ≤ limit → Keeps (drop limit) (chip was) (chip now)
   pub cause : Counts (faults was) (faults now) result

@@ -36,3 +36,10 @@ pub record ArePassed (held : Held) (ends : List ℕ) : Type 0 where
   pub size : length ends ≡ held.chains.cells
   pub committed : PassesCommon held.first_octets ends held.committed
   pub working : PassesCommon held.first_octets ends held.working
+
+-- Where the runs end that a slot begins, or passes none.
+pub record EndsRun (ends : List ℕ) (slot result : ℕ) : Type 0 where
+  pub inside : slot < length ends → result ≡ slice_index ends slot
+  pub past : length ends ≤ slot → result ≡ slot
+  pub onward : slot ≤ result
+  pub most : slot ≤ length ends → result ≤ length ends

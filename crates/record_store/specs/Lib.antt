@@ -1,12 +1,15 @@
 pub mod CommonRuns
 pub mod Appends
 pub mod Faults
+pub mod Format
 pub mod FreshImage
+pub mod Get
 pub mod Header
 pub mod Held
 pub mod HeldLaws
 pub mod Kept
 pub mod Opening
+pub mod Opens
 pub mod Put
 pub mod Recovery
 pub mod Slots

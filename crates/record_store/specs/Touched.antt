@@ -1,6 +1,6 @@
 -- The slots that a transaction touched, among all slots of a store.
-use Rattle.std.specs.Prelude.{◌≡◌, ℕ, ◌<◌, ◌≤◌, Bool, true, false, if◌then◌else◌, List, [], ◌∷◌, ◌++◌, length, slice_index}
-use Rattle.std.specs.List.Sorted.{IsNonDecreasingBy}
+use Rattle.std.specs.Prelude.{◌≡◌, ℕ, ◌<◌, ◌≤◌, Bool, true, false, if◌then◌else◌, List, [], ◌∷◌, ◌++◌, length, slice_index, IsPermutation}
+use Rattle.std.specs.List.Sorted.{IsNonDecreasing, IsNonDecreasingBy}
 use Rattle.eeprom.specs.StoreOf.{most_cells, is_distinct}
 use Rattle.eeprom.specs.declared.entry.Entry.{Entry}
 use Rattle.cell_store.specs.Chains.{is_among}
@@ -40,3 +40,19 @@ AreInOrder entries = IsNonDecreasingBy (λ entry. entry.slot) entries
 -- in all other slots two lists have the same numbers
 abbrev pub SameOutside : List ℕ → List ℕ → List ℕ → Type 0
 SameOutside slots left was = (slot : ℕ) → is_among slot slots ≡ false → slice_index left slot ≡ slice_index was slot
+
+-- A slot is touched.
+pub record Touches (slot : ℕ) (old new : TouchedSlots) : Type 0 where
+  pub slots : new.slots ≡ with_touched old.slots slot
+  pub size : new.size ≡ old.size
+
+-- The slots that were touched are put in rising order.
+pub record Sorts (old new : TouchedSlots) : Type 0 where
+  pub slots : IsPermutation old.slots new.slots
+  pub rising : IsNonDecreasing new.slots
+  pub size : new.size ≡ old.size
+
+-- No slot is touched.
+pub record Clears (old new : TouchedSlots) : Type 0 where
+  pub slots : new.slots ≡ []
+  pub size : new.size ≡ old.size

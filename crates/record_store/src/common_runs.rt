@@ -1,7 +1,7 @@
 // Runs of slots with common records, which all begin with one octet. A store has many of them and few others, so a search for these passes over such runs.
 ghost use Rattle.std.specs.Prelude.{◌≡◌, ◌<◌, ◌≤◌, ◌⊎◌, ℕ, length, slice_index, IfOk};
 ghost use Rattle.eeprom.specs.StoreOf.{most_cells, no_cell};
-ghost use Rattle.record_store.specs.CommonRuns.{AreEnds, Passes, PassesCommon, common_octet};
+ghost use Rattle.record_store.specs.CommonRuns.{AreEnds, EndsRun, Passes, PassesCommon, common_octet};
 
 use eeprom::{Heap, NO_CELL};
 use std::alloc::AllocError;
@@ -40,10 +40,7 @@ impl CommonRuns {
 
     /// Where the run from this slot on ends: a search passes over the slots before.
     pub fn end(&self, slot: u16) -> u16
-        ensures inside { slot < length self.now → result ≡ slice_index self.now slot }
-        ensures past { length self.now ≤ slot → result ≡ slot }
-        ensures onward { slot ≤ result }
-        ensures most { slot ≤ length self.now → result ≤ length self.now }
+        ensures { EndsRun self.now slot result }
     {
         match self.ends.get(usize::from(slot)) {
             Some(end) => *end,

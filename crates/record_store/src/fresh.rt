@@ -1,13 +1,9 @@
 // Formatting: a new store of two records.
-ghost use Rattle.std.specs.Prelude.{◌≡◌, ℕ, ◌+◌, ◌*◌, ◌-◌, ◌≤◌, ◌<◌, ◌↔◌, length, take, drop, false, Some, option_map, OnOk, IsErrOf, IfSome};
-ghost use Rattle.eeprom.specs.Chip.{Keeps};
-ghost use Rattle.eeprom.specs.Fault.{Counts, CountsFaults};
-ghost use Rattle.eeprom.specs.Frame.{HasRoom};
-ghost use Rattle.eeprom.specs.Image.{overwrite};
-ghost use Rattle.eeprom.specs.StoreOf.{fewest_cells, cell_size, most_cells, starts_with_magic, store_of, fresh_store, image_size};
+ghost use Rattle.std.specs.Prelude.{◌+◌, ◌*◌, ◌≤◌, length};
+ghost use Rattle.eeprom.specs.StoreOf.{cell_size};
 ghost use Rattle.record_store.specs.Appends.{AppendsUpTo, MayWrite, end_of};
-ghost use Rattle.record_store.specs.Faults.{is_format_fault};
-ghost use Rattle.record_store.specs.FreshImage.{one_cell_record, LeavesFormatted, LeavesCleared, fresh_image, fresh_body, fresh_header, fresh_directory, fresh_cell};
+ghost use Rattle.record_store.specs.Format.{ClearsFront, Formats, MayFormat, MayWriteBody, WritesBody};
+ghost use Rattle.record_store.specs.FreshImage.{one_cell_record, fresh_header, fresh_directory, fresh_cell};
 
 use crate::layout::{FORMAT, MAGIC};
 use crate::writer::Writer;
@@ -27,19 +23,8 @@ impl Store {
         first: &[u8],
         second: &[u8],
     ) -> Result<(), FormatRefusal>
-        requires few { fewest_cells ≤ cells }
-        requires many { cells ≤ most_cells }
-        requires first { (1 ≤ length first.now) × (length first.now ≤ one_cell_record) }
-        requires second { (1 ≤ length second.now) × (length second.now ≤ one_cell_record) }
-        ensures image { OnOk result
-            ((B.chip bench.new).image ≡ option_map (λ image. overwrite image 0 (fresh_image cells first.now second.now)) (B.chip bench.old).image) }
-        ensures formatted { OnOk result (IfSome (B.chip bench.new).image (λ image. store_of image ≡ Some (fresh_store cells first.now second.now))) }
-        ensures still { (B.chip bench.new).still ≡ (B.chip bench.old).still }
-        ensures moments { LeavesFormatted cells first.now second.now (B.chip bench.old) (B.chip bench.new) }
-        ensures behind { Keeps (drop (image_size cells)) (B.chip bench.old) (B.chip bench.new) }
-        ensures too_small { IsErrOf result FormatRefusal.TooSmall ↔ ((B.chip bench.old).still.size < image_size cells) }
-        ensures unchanged { IsErrOf result FormatRefusal.TooSmall → bench.new ≡ bench.old }
-        ensures cause { CountsFaults is_format_fault (B.faults bench.old) (B.faults bench.new) result }
+        requires { MayFormat cells first.now second.now }
+        ensures { Formats B.chip B.faults cells first.now second.now bench.old bench.new result }
     {
         if bench.size() < image_size(cells) {
             return Err(FormatRefusal::TooSmall);
@@ -54,12 +39,7 @@ impl Store {
 /// Takes away what an image with a store begins with, where it is there.
 fn clear_front<B: Eeprom>(bench: &mut B) -> Result<(), EepromFault>
     requires room { 4 ≤ (B.chip bench.old).still.size }
-    ensures cleared { OnOk result (IfSome (B.chip bench.new).image (λ image. starts_with_magic image ≡ false)) }
-    ensures rest { OnOk result (option_map (λ image. drop 4 image) (B.chip bench.new).image ≡ option_map (λ image. drop 4 image) (B.chip bench.old).image) }
-    ensures still { (B.chip bench.new).still ≡ (B.chip bench.old).still }
-    ensures moments { LeavesCleared (B.chip bench.old) (B.chip bench.new) }
-    ensures behind { (limit : ℕ) → 4 ≤ limit → Keeps (drop limit) (B.chip bench.old) (B.chip bench.new) }
-    ensures cause { Counts (B.faults bench.old) (B.faults bench.new) result }
+    ensures { ClearsFront B.chip B.faults bench.old bench.new result }
 {
     let mut front = [0; 4];
     bench.read(0, &mut front)?;
@@ -76,16 +56,8 @@ fn write_body<B: Eeprom>(
     first: &[u8],
     second: &[u8],
 ) -> Result<(), EepromFault>
-    requires few { fewest_cells ≤ cells }
-    requires many { cells ≤ most_cells }
-    requires first { length first.now ≤ one_cell_record }
-    requires second { length second.now ≤ one_cell_record }
-    requires room { HasRoom cells (B.chip bench.old) }
-    ensures image { OnOk result
-        ((B.chip bench.new).image ≡ option_map (λ image. overwrite image 4 (fresh_body cells first.now second.now)) (B.chip bench.old).image) }
-    ensures front { Keeps (take 4) (B.chip bench.old) (B.chip bench.new) }
-    ensures behind { Keeps (drop (image_size cells)) (B.chip bench.old) (B.chip bench.new) }
-    ensures cause { Counts (B.faults bench.old) (B.faults bench.new) result }
+    requires { MayWriteBody cells first.now second.now (B.chip bench.old) }
+    ensures { WritesBody B.chip B.faults cells first.now second.now bench.old bench.new result }
 {
     let mut writer = Writer::new(4);
     write_header(&mut writer, bench, cells)?;

@@ -1,9 +1,10 @@
 // What an image says of its store: its header and its directory.
-ghost use Rattle.std.specs.Prelude.{◌≡◌, ◌+◌, ◌*◌, ◌%◌, ◌<◌, ◌==◌, ◌&&◌, if◌then◌else◌, Some, None, length, is_some, slice_index, IfSome, IfOk, OnOk, IsErrOf};
+ghost use Rattle.std.specs.Prelude.{◌≡◌, ◌*◌, ◌%◌, ◌==◌, ◌&&◌, if◌then◌else◌, Some, None, length, is_some, slice_index, IfSome, IfOk, OnOk, IsErrOf};
 ghost use Rattle.eeprom.specs.Calls.{ReadsOnly};
 ghost use Rattle.eeprom.specs.Chip.{Becomes, RisesBy, RisesAtMost};
-ghost use Rattle.eeprom.specs.StoreOf.{fresh_row_limit, migrated_row_limit, store_of, number_at, numbers_at, row_limit, is_gate_open, written_directory};
-ghost use Rattle.record_store.specs.Header.{begins_store, IsHeader, IsHeaderOf};
+ghost use Rattle.eeprom.specs.StoreOf.{fresh_row_limit, migrated_row_limit, number_at, numbers_at, row_limit, is_gate_open, written_directory};
+ghost use Rattle.record_store.specs.Header.{begins_store, IsHeader};
+ghost use Rattle.record_store.specs.Opens.{ReadsHeader};
 ghost use Rattle.record_store.specs.Faults.{is_open_fault};
 
 use crate::OpenRefusal;
@@ -30,12 +31,7 @@ pub struct Header {
 
 /// Reads what an image begins with, where it begins as a store does.
 pub fn read_header<B: Eeprom>(bench: &mut B) -> Result<Header, OpenRefusal>
-    ensures range { IfOk result (λ header. IsHeader (B.chip bench.old).still.size header) }
-    ensures header { IfOk result (λ header. IfSome (B.chip bench.old).image (λ image. IsHeaderOf image header)) }
-    ensures not_a_card { IsErrOf result OpenRefusal.NotACard → IfSome (B.chip bench.old).image (λ image. store_of image ≡ None) }
-    ensures octets_read { OnOk result (Becomes (RisesBy FRONT) (B.octets_read bench.old) (B.octets_read bench.new)) }
-    ensures no_memory_taken { ¬ (IsErrOf result OpenRefusal.NoMemory) }
-    ensures reads { ReadsOnly is_open_fault B.chip B.faults B.octets_read (RisesAtMost FRONT) bench.old bench.new result }
+    ensures { ReadsHeader B.chip B.faults B.octets_read bench.old bench.new result }
 {
     let size = bench.size();
     if size < FRONT {

@@ -1,18 +1,17 @@
 // A store that is being opened: its slots are claimed one after another, so that it is opened only where each has the chain of a
 // record or none, and no cell is in two chains.
-ghost use Rattle.std.specs.Prelude.{◌≡◌, ◌≢◌, ◌+◌, ◌*◌, ◌≤◌, ◌<◌, ◌++◌, false, [], ◌∷◌, ℕ, None, length, is_some, option_map, IfSome, IfOk, IsErrOf, OnOk};
+ghost use Rattle.std.specs.Prelude.{◌≡◌, ◌≢◌, ◌*◌, ◌<◌, IfSome, IfOk, IsErrOf, OnOk};
 ghost use Rattle.eeprom.specs.Calls.{ReadsOnly};
-ghost use Rattle.eeprom.specs.Chip.{Becomes, RisesBy, RisesAtMost};
-ghost use Rattle.eeprom.specs.Frame.{HasRoom, Reads};
-ghost use Rattle.eeprom.specs.StoreOf.{fewest_cells, no_cell, store_of, is_gate_open, cells_of, cell_size, longest_chain, most_cells};
+ghost use Rattle.eeprom.specs.Chip.{Becomes, RisesAtMost};
+ghost use Rattle.eeprom.specs.Frame.{HasRoom};
+ghost use Rattle.eeprom.specs.StoreOf.{no_cell, cells_of, cell_size, longest_chain};
 ghost use Rattle.cell_store.specs.Reading.{ReadsCells};
 ghost use Rattle.cell_store.specs.Claims.{HasNoRecord};
-ghost use Rattle.cell_store.specs.Cells.{AreLinkedIn};
+ghost use Rattle.cell_store.specs.Cells.{AreLinkedIn, CountsCells};
 ghost use Rattle.cell_store.specs.Faults.{is_claim_fault};
-ghost use Rattle.record_store.specs.Opening.{IsOverSoFar, ReadsFront, TakesSlot, front_octets, journal_octets, slots_so_far, slot_with};
-ghost use Rattle.record_store.specs.Faults.{is_open_fault};
+ghost use Rattle.record_store.specs.Opening.{IsOverSoFar, TakesSlot, slot_with};
 ghost use Rattle.record_store.specs.Header.{IsHeader, IsHeaderOf};
-ghost use Rattle.record_store.specs.Recovery.{Recovers};
+ghost use Rattle.record_store.specs.Opens.{BeginsOpening, ClaimsNext, ClosesGate};
 
 use crate::OpenRefusal;
 use crate::common_runs::CommonRuns;
@@ -21,7 +20,7 @@ use crate::header::{Header, read_directory, read_header};
 use crate::slot_tags::SlotTags;
 use crate::touched::Touched;
 use cell_store::{CellStore, ClaimRefusal, RecordOctets};
-use eeprom::{Eeprom, Heap, NO_CELL};
+use eeprom::{Eeprom, Heap, ImageBench, NO_CELL};
 use journal::{Entry, Journal};
 use std::marker::Model;
 
@@ -64,17 +63,7 @@ impl Opening {
     /// What only the beginning needs of the stack doesn't stand there while the slots are claimed.
     #[inline(never)]
     pub fn new<B: Eeprom>(alloc: Heap, bench: &mut B) -> Result<Opening, OpenRefusal>
-        ensures begins { IfOk result (λ opening. opening.claimed ≡ 0) }
-        ensures weight { IfOk result (λ opening. opening.weight ≡ 0) }
-        ensures over { IfOk result (λ opening. IsOverSoFar opening (B.chip bench.new)) }
-        ensures told { OnOk result (is_some (B.chip bench.new).image ≡ is_some (B.chip bench.old).image) }
-        ensures octets_read { IfOk result (λ opening. IfSome (B.chip bench.old).image (λ image. is_gate_open image ≡ false
-            → Becomes (RisesBy (front_octets opening.chains.cells)) (B.octets_read bench.old) (B.octets_read bench.new))) }
-        ensures reads_front { IfOk result (λ opening. ReadsFront opening.chains.cells (B.chip bench.old).image (B.octets_read bench.old) (B.octets_read bench.new)) }
-        ensures most_read { Becomes (RisesAtMost (front_octets most_cells + journal_octets most_cells)) (B.octets_read bench.old) (B.octets_read bench.new) }
-        ensures no_memory { IsErrOf result OpenRefusal.NoMemory → (n : ℕ) × ReadsFront n (B.chip bench.old).image (B.octets_read bench.old) (B.octets_read bench.new) }
-        ensures not_a_card { IsErrOf result OpenRefusal.NotACard → IfSome (B.chip bench.old).image (λ image. store_of image ≡ None) }
-        ensures frame { Recovers is_open_fault B.chip B.faults bench.old bench.new result }
+        ensures { BeginsOpening B.chip B.faults B.octets_read bench.old bench.new result }
     {
         let header = read_header(bench)?;
         close_gate(bench, header)?;
@@ -103,9 +92,7 @@ impl Opening {
 
     /// The number of slots, and of cells that the records can have.
     pub fn cells(&self) -> u16
-        ensures number { result ≡ self.now.chains.cells }
-        ensures few { fewest_cells ≤ result }
-        ensures many { result ≤ most_cells }
+        ensures { CountsCells self.now.chains.cells result }
     {
         self.chains.cells()
     }
@@ -133,19 +120,7 @@ impl Opening {
     ) -> Result<Opening, OpenRefusal>
         requires left { self.claimed < self.chains.cells }
         requires over { IsOverSoFar self (B.chip bench.old) }
-        ensures slots { IfOk result (λ next. IfSome (B.chip bench.old).image (λ image.
-            slots_so_far next image ≡ option_map (λ slots. slots ++ slot_with out.new.items ∷ []) (slots_so_far self image))) }
-        ensures over { IfOk result (λ next. IsOverSoFar next (B.chip bench.old)) }
-        ensures claimed { IfOk result (λ next. next.claimed ≡ self.claimed + 1) }
-        ensures weight { IfOk result (λ next. next.weight ≡ self.weight + cells_of (slot_with out.new.items)) }
-        ensures few { IfOk result (λ next. next.weight ≤ next.chains.cells) }
-        ensures cells { IfOk result (λ next. next.chains.cells ≡ self.chains.cells) }
-        ensures rows { IfOk result (λ next. next.row_limit ≡ self.row_limit) }
-        ensures octets_read { OnOk result (Becomes (ReadsCells (cells_of (slot_with out.new.items))) (B.octets_read bench.old) (B.octets_read bench.new)) }
-        ensures most_read { Becomes (RisesAtMost (cell_size * longest_chain)) (B.octets_read bench.old) (B.octets_read bench.new) }
-        ensures no_memory_taken { ¬ (IsErrOf result OpenRefusal.NoMemory) }
-        ensures not_a_card { IsErrOf result OpenRefusal.NotACard → IfSome (B.chip bench.old).image (λ image. store_of image ≡ None) }
-        ensures frame { Reads is_open_fault B.chip B.faults bench.old bench.new result }
+        ensures { ClaimsNext B.chip B.faults B.octets_read self out.new.items bench.old bench.new result }
     {
         let Opening {
             mut chains,
@@ -188,15 +163,11 @@ impl Opening {
 fn close_gate<B: Eeprom>(bench: &mut B, header: Header) -> Result<(), OpenRefusal>
     requires range { IsHeader (B.chip bench.old).still.size header }
     requires header { IfSome (B.chip bench.old).image (λ image. IsHeaderOf image header) }
-    ensures header { OnOk result (IfSome (B.chip bench.new).image (λ image. IsHeaderOf image (record header { is_open = false }))) }
-    ensures told { OnOk result (is_some (B.chip bench.new).image ≡ is_some (B.chip bench.old).image) }
-    ensures octets_read { header.is_open ≡ false → B.octets_read bench.new ≡ B.octets_read bench.old }
-    ensures most_read { Becomes (RisesAtMost (journal_octets header.cells)) (B.octets_read bench.old) (B.octets_read bench.new) }
-    ensures not_a_card { IsErrOf result OpenRefusal.NotACard → IfSome (B.chip bench.old).image (λ image. store_of image ≡ None) }
-    ensures frame { Recovers is_open_fault B.chip B.faults bench.old bench.new result }
+    ensures { ClosesGate B.chip B.faults B.octets_read header bench.old bench.new result }
 {
     if header.is_open {
-        Journal::replay(bench, header.cells)?;
+        let cells = header.cells;
+        Journal::replay(&mut ImageBench { bench, cells })?;
     }
     Ok(())
 }

@@ -1,23 +1,15 @@
 // A store of records, of which a directory in memory knows where each begins.
-ghost use Rattle.std.specs.Prelude.{◌≡◌, ◌↔◌, ◌+◌, ◌*◌, ◌≤◌, ◌<◌, ℕ, List, Some, None, false, true, IsTrue, IsSome, if◌then◌else◌, length, drop, slice_index, is_some, IfSome, IfOk, IsErrOf, OnOk, OnErr};
-ghost use Rattle.eeprom.specs.Chip.{Becomes, RisesBy, RisesAtMost, Keeps};
-ghost use Rattle.eeprom.specs.Fault.{Counts, CountsFaults, each_error};
-ghost use Rattle.eeprom.specs.Frame.{Reads};
-ghost use Rattle.eeprom.specs.StoreOf.{fewest_cells, migrated_row_limit, most_cells, no_cell, Slots, Stored, store_of, is_gate_open, cell_size, longest_record};
+ghost use Rattle.std.specs.Prelude.{◌≡◌, ◌↔◌, ◌≤◌, ◌<◌, ℕ, List, Some, None, false, IsTrue, length, slice_index};
+ghost use Rattle.eeprom.specs.StoreOf.{migrated_row_limit, most_cells, no_cell};
 ghost use Rattle.eeprom.specs.StoreOf as image;
-ghost use Rattle.record_store.specs.Tags.{HasTags, has_tag, is_tagged, stamp_of};
-ghost use Rattle.record_store.specs.Held.{firsts, tags_of, contents, stored, record_at, first_octet, StandsFor, IsOver, IsRowLimit};
-ghost use Rattle.record_store.specs.Opening.{ReadsFront, ReadsStore, StandsSoFar, most_octets, slots_so_far};
-ghost use Rattle.record_store.specs.Faults.{is_open_fault, is_put_fault};
-ghost use Rattle.record_store.specs.Recovery.{Recovers};
-ghost use Rattle.eeprom.specs.StoreOf.{weight_of};
-ghost use Rattle.record_store.specs.CommonRuns.{is_common_or_none};
-ghost use Rattle.record_store.specs.Put.{IsPut, IsFull, IsWithin, Removes};
+ghost use Rattle.record_store.specs.Tags.{HasTags, stamp_of};
+ghost use Rattle.record_store.specs.Held.{firsts, tags_of, record_at, first_octet, StandsFor, IsOver, IsRowLimit};
+ghost use Rattle.record_store.specs.Put.{MayPut, MayRemove, MayTakeOut, Puts, Removes};
+ghost use Rattle.record_store.specs.Get.{EndsUse, FindsTagged, Gets, PassesOver, TellsWeight};
+ghost use Rattle.cell_store.specs.Cells.{CountsCells};
+ghost use Rattle.record_store.specs.Opens.{FinishesOpening, Opens};
 ghost use Rattle.record_store.specs.Slots.{steps_without};
-ghost use Rattle.cell_store.specs.Reading.{ReadsRecord};
-ghost use Rattle.record_store.specs.Transaction.{begun_from, entries, ChangesOnly, IsCommitted, Commits};
-ghost use Rattle.record_store.specs.declared.side.Side.{Side};
-ghost use Rattle.record_store.specs.declared.side.Side.TheVariants.{Committed, Working};
+ghost use Rattle.record_store.specs.Transaction.{BeginsTransaction, CommitsTransaction, MayCommit, RollsBackTransaction};
 
 use crate::common_runs::{CommonRuns, take_in_all};
 use crate::entries::take_entries;
@@ -28,7 +20,7 @@ use crate::tags::{Tag, next_with};
 use crate::touched::Touched;
 use crate::{OpenRefusal, Side, StoreRefusal};
 use cell_store::{CellRefusal, CellStore, RecordOctets, cells_for};
-use eeprom::{Eeprom, EepromFault, Heap, NO_CELL};
+use eeprom::{Eeprom, EepromFault, Heap, ImageBench, NO_CELL};
 use journal::{Entry, Journal};
 use std::marker::Model;
 
@@ -75,12 +67,7 @@ impl Opening {
     /// The store, once all slots were claimed.
     pub fn finish(mut self) -> Store
         requires all { self.claimed ≡ self.chains.cells }
-        ensures stands { (image : List ℕ) → StandsSoFar self image → StandsFor result image }
-        ensures opened { (image : List ℕ) → StandsSoFar self image → store_of image ≡ stored result Committed image }
-        ensures slots { (image : List ℕ) → StandsSoFar self image → contents result Committed image ≡ slots_so_far self image }
-        ensures weight { (image : List ℕ) (slots : Slots) → StandsSoFar self image → contents result Committed image ≡ Some slots → self.weight ≡ weight_of slots }
-        ensures idle { result.begun ≡ false }
-        ensures cells { result.chains.cells ≡ self.chains.cells }
+        ensures { FinishesOpening self result }
     {
         let firsts = self.committed.as_slice();
         take_in_all(&mut self.common_runs, firsts, self.first_octets.as_slice());
@@ -108,16 +95,7 @@ impl Store {
     /// Opens the store of an image, where it has one. A journal behind an open gate is replayed first. As many octets are read as
     /// begin the image, and as the cells of the records have.
     pub fn open<B: Eeprom>(alloc: Heap, bench: &mut B) -> Result<Store, OpenRefusal>
-        ensures over { IfOk result (λ store. IsOver store (B.chip bench.new)) }
-        ensures opened { IfOk result (λ store. IfSome (B.chip bench.new).image (λ image. store_of image ≡ stored store Committed image)) }
-        ensures told { OnOk result (is_some (B.chip bench.new).image ≡ is_some (B.chip bench.old).image) }
-        ensures idle { IfOk result (λ store. store.begun ≡ false) }
-        ensures octets_read { IfOk result (λ store. IfSome (B.chip bench.old).image (λ image. (was : Stored) → store_of image ≡ Some was → is_gate_open image ≡ false
-            → Becomes (ReadsStore store.chains.cells was.slots) (B.octets_read bench.old) (B.octets_read bench.new))) }
-        ensures most_read { Becomes (RisesAtMost most_octets) (B.octets_read bench.old) (B.octets_read bench.new) }
-        ensures no_memory { IsErrOf result OpenRefusal.NoMemory → (n : ℕ) × ReadsFront n (B.chip bench.old).image (B.octets_read bench.old) (B.octets_read bench.new) }
-        ensures not_a_card { IsErrOf result OpenRefusal.NotACard → IfSome (B.chip bench.old).image (λ image. store_of image ≡ None) }
-        ensures frame { Recovers is_open_fault B.chip B.faults bench.old bench.new result }
+        ensures { Opens B.chip B.faults B.octets_read bench.old bench.new result }
     {
         let mut opening = Opening::new(alloc, bench)?;
         let mut octets = RecordOctets::new();
@@ -129,9 +107,7 @@ impl Store {
 
     /// The number of slots, and of cells that the records can have.
     pub fn cells(&self) -> u16
-        ensures number { result ≡ self.now.chains.cells }
-        ensures few { fewest_cells ≤ result }
-        ensures many { result ≤ most_cells }
+        ensures { CountsCells self.now.chains.cells result }
     {
         self.chains.cells()
     }
@@ -154,8 +130,7 @@ impl Store {
 
     /// How many cells the records of a side have.
     pub fn weight(&self, side: Side) -> u16
-        ensures weight { (image : List ℕ) → (slots : Slots) → StandsFor self.now image → contents self.now side image ≡ Some slots → result ≡ weight_of slots }
-        ensures most { result ≤ self.now.chains.cells }
+        ensures { TellsWeight self.now side result }
     {
         match side {
             Side::Committed => self.committed_weight,
@@ -165,17 +140,14 @@ impl Store {
 
     /// How many slots at the front may have a record: all behind these are empty on both sides.
     pub fn slots_in_use(&self) -> u16
-        ensures most { result ≤ self.now.chains.cells }
-        ensures empty { (image : List ℕ) (side : Side) (slot : ℕ) → StandsFor self.now image → result ≤ slot → record_at self.now side slot image ≡ None }
+        ensures { EndsUse self.now result }
     {
         self.slots_in_use
     }
 
     /// The next slot from this one on that may have another record than a common one: the slots before it have common ones on both sides, or none.
     pub fn end_of_common(&self, slot: u16) -> u16
-        ensures onward { slot ≤ result }
-        ensures most { slot ≤ self.now.chains.cells → result ≤ self.now.chains.cells }
-        ensures common { (image : List ℕ) (side : Side) (passed : ℕ) → StandsFor self.now image → slot ≤ passed → passed < result → is_common_or_none (record_at self.now side passed image) ≡ true }
+        ensures { PassesOver self.now slot result }
     {
         self.common_runs.end(slot)
     }
@@ -196,10 +168,7 @@ impl Store {
     /// The next slot from this one on that has a record of this tag or stamp, or none: the records of the slots before it have other
     /// ones. Nothing is read.
     pub fn next_tagged(&self, side: Side, tag: Tag, slot: u16) -> u16
-        ensures onward { slot ≤ result }
-        ensures most { slot ≤ self.now.chains.cells → result ≤ self.now.chains.cells }
-        ensures others { (image : List ℕ) (passed : ℕ) → StandsFor self.now image → slot ≤ passed → passed < result → has_tag tag (record_at self.now side passed image) ≡ false }
-        ensures here { (image : List ℕ) (octets : List ℕ) → StandsFor self.now image → record_at self.now side result image ≡ Some octets → is_tagged tag octets ≡ true }
+        ensures { FindsTagged self.now side tag slot result }
     {
         let tags = self.side_tags(side);
         match tag {
@@ -225,11 +194,7 @@ impl Store {
     ) -> Result<bool, EepromFault>
         requires over { IsOver self.now (B.chip bench.old) }
         requires slot { slot < self.now.chains.cells }
-        ensures found { IfOk result (λ found. IfSome (B.chip bench.old).image
-            (λ image. record_at self.now side slot image ≡ (if found then Some out.new.items else None))) }
-        ensures octets_read { IfOk result (λ found. IfSome (B.chip bench.old).image
-            (λ _. Becomes (ReadsRecord (if found then Some out.new.items else None)) (B.octets_read bench.old) (B.octets_read bench.new))) }
-        ensures frame { Reads each_error B.chip B.faults bench.old bench.new result }
+        ensures { Gets B.chip B.faults B.octets_read self.now side slot out.new.items bench.old bench.new result }
     {
         let first = self.first_cell(side, slot);
         if first == NO_CELL {
@@ -243,11 +208,7 @@ impl Store {
     /// Begins a transaction, whose records are those that were committed.
     pub fn begin(&mut self)
         requires idle { self.old.begun ≡ false }
-        ensures begun { self.new ≡ begun_from self.old }
-        ensures stands { (image : List ℕ) → StandsFor self.old image → StandsFor self.new image }
-        ensures starts { (image : List ℕ) → contents self.new Working image ≡ contents self.old Committed image }
-        ensures committed { (image : List ℕ) → contents self.new Committed image ≡ contents self.old Committed image }
-        ensures no_entries { entries self.new ≡ 0 }
+        ensures { BeginsTransaction self.old self.new }
     {
         self.begun = true;
     }
@@ -260,28 +221,8 @@ impl Store {
         slot: Option<u16>,
         octets: &[u8],
     ) -> Result<u16, StoreRefusal>
-        requires begun { IsTrue self.old.begun }
-        requires slot { IfSome slot (λ slot. slot < self.old.chains.cells) }
-        requires some { 1 ≤ length octets.now }
-        requires most { length octets.now ≤ longest_record }
-        requires over { IsOver self.old (B.chip bench.old) }
-        ensures named { IfOk result (λ found. IfSome slot (λ slot. found ≡ slot)) }
-        ensures empty { IfOk result (λ found. slot ≡ None → IfSome (B.chip bench.old).image (λ image. record_at self.old Working found image ≡ None)) }
-        ensures there { IfOk result (λ found. found < self.old.chains.cells) }
-        ensures put { IfOk result (λ found. Becomes (IsPut self.old self.new found octets.now) (B.chip bench.old).image (B.chip bench.new).image) }
-        ensures within { IfOk result (λ found. IfSome (B.chip bench.old).image (IsWithin self.old found octets.now)) }
-        ensures full { IsErrOf result StoreRefusal.Full → IfSome (B.chip bench.old).image (IsFull self.old slot octets.now) }
-        ensures unchanged { IsErrOf result StoreRefusal.Full → (self.new ≡ self.old) × (bench.new ≡ bench.old) }
-        ensures told { OnOk result (is_some (B.chip bench.new).image ≡ is_some (B.chip bench.old).image) }
-        ensures begun { OnOk result (self.new.begun ≡ self.old.begun) }
-        ensures cells { OnOk result (self.new.chains.cells ≡ self.old.chains.cells) }
-        ensures rows { OnOk result (self.new.row_limit ≡ self.old.row_limit) }
-        ensures octets_written { OnOk result (Becomes (RisesBy (cell_size * image.cells_for (length octets.now))) (B.chip bench.old).written (B.chip bench.new).written) }
-        ensures only { IfOk result (λ found. ChangesOnly found self.old self.new) }
-        ensures entries { OnOk result (entries self.new ≤ entries self.old + 1) }
-        ensures moments { Keeps store_of (B.chip bench.old) (B.chip bench.new) }
-        ensures behind { Keeps (drop (image.image_size self.old.chains.cells)) (B.chip bench.old) (B.chip bench.new) }
-        ensures cause { CountsFaults is_put_fault (B.faults bench.old) (B.faults bench.new) result }
+        requires { MayPut slot octets.now self.old (B.chip bench.old) }
+        ensures { Puts B.chip B.faults slot octets.now self.old self.new bench.old bench.new result }
     {
         let next = self.next_slot;
         let named = slot;
@@ -314,8 +255,7 @@ impl Store {
     /// Takes the record out of a slot of the working side, where there is one. Its chain is freed, unless it is the one that was
     /// committed. What is committed stays.
     pub fn remove(&mut self, slot: u16)
-        requires begun { IsTrue self.old.begun }
-        requires slot { slot < self.old.chains.cells }
+        requires { MayRemove slot self.old }
         ensures { Removes slot self.old self.new }
     {
         let weight = self.weight_without(slot);
@@ -324,9 +264,7 @@ impl Store {
 
     /// The same, where it is known how many cells the working records have without that of the slot.
     fn take_out(&mut self, slot: u16, weight: u16)
-        requires begun { IsTrue self.old.begun }
-        requires slot { slot < self.old.chains.cells }
-        requires weight { weight ≡ steps_without self.old.chains.links self.old.working slot }
+        requires { MayTakeOut slot weight self.old }
         ensures { Removes slot self.old self.new }
     {
         self.touched.touch(slot);
@@ -340,8 +278,7 @@ impl Store {
 
     /// How many cells the working records have without that of a slot.
     fn weight_without(&self, slot: u16) -> u16
-        requires begun { IsTrue self.now.begun }
-        requires slot { slot < self.now.chains.cells }
+        requires { MayRemove slot self.now }
         ensures weight { result ≡ steps_without self.now.chains.links self.now.working slot }
         ensures few { result ≤ self.now.chains.cells }
         ensures many { self.now.chains.cells ≤ most_cells }
@@ -353,24 +290,18 @@ impl Store {
     /// that has another chain now; as many octets are written as 4, and 6 for each of these.
     /// After a fault the store in memory is unchanged, and the image has its committed or its working records.
     pub fn commit<B: Eeprom>(&mut self, bench: &mut B) -> Result<(), EepromFault>
-        requires begun { IsTrue self.old.begun }
-        requires over { IsOver self.old (B.chip bench.old) }
-        ensures ended { OnOk result (self.new.begun ≡ false) }
-        ensures cells { OnOk result (self.new.chains.cells ≡ self.old.chains.cells) }
-        ensures rows { OnOk result (self.new.row_limit ≡ self.old.row_limit) }
-        ensures told { OnOk result (is_some (B.chip bench.new).image ≡ is_some (B.chip bench.old).image) }
-        ensures done { OnOk result (Becomes (IsCommitted self.old self.new) (B.chip bench.old).image (B.chip bench.new).image) }
-        ensures moments { Commits self.old (B.chip bench.old) (B.chip bench.new) }
-        ensures behind { Keeps (drop (image.image_size self.old.chains.cells)) (B.chip bench.old) (B.chip bench.new) }
-        ensures octets_written { OnOk result (Becomes (RisesBy (4 + 6 * entries self.old)) (B.chip bench.old).written (B.chip bench.new).written) }
-        ensures unchanged { OnErr result (self.new ≡ self.old) }
-        ensures cause { Counts (B.faults bench.old) (B.faults bench.new) result }
+        requires { MayCommit self.old (B.chip bench.old) }
+        ensures { CommitsTransaction B.chip B.faults self.old self.new bench.old bench.new result }
     {
         self.touched.sort();
         let slots = self.touched.slots();
         let working = self.working.as_slice();
         take_entries(&mut self.entries, slots, self.committed.as_slice(), working);
-        Journal::commit(bench, self.chains.cells(), self.entries.as_slice())?;
+        let mut journal = ImageBench {
+            bench,
+            cells: self.chains.cells(),
+        };
+        Journal::commit(&mut journal, self.entries.as_slice())?;
         free_replaced(&mut self.chains, slots, self.committed.as_slice(), working);
         copy_slots(slots, working, &mut self.committed);
         self.tags.commit(slots);
@@ -383,11 +314,7 @@ impl Store {
     /// Ends the transaction, and what was committed stays.
     pub fn rollback(&mut self)
         requires begun { IsTrue self.old.begun }
-        ensures ended { self.new.begun ≡ false }
-        ensures cells { self.new.chains.cells ≡ self.old.chains.cells }
-        ensures rows { self.new.row_limit ≡ self.old.row_limit }
-        ensures stands { (image : List ℕ) → StandsFor self.old image → StandsFor self.new image }
-        ensures committed { (image : List ℕ) → contents self.new Committed image ≡ contents self.old Committed image }
+        ensures { RollsBackTransaction self.old self.new }
     {
         let slots = self.touched.slots();
         let committed = self.committed.as_slice();

@@ -1,10 +1,9 @@
 // The slots that a transaction touched: each once, without a look at all slots of the store.
-ghost use Rattle.std.specs.Prelude.{◌≡◌, ◌≤◌, ◌<◌, ℕ, [], true, false, length, IfOk, IsPermutation};
-ghost use Rattle.std.specs.List.Sorted.{IsNonDecreasing};
+ghost use Rattle.std.specs.Prelude.{◌≡◌, ◌≤◌, ◌<◌, ℕ, false, length, IfOk};
 ghost use Rattle.eeprom.specs.StoreOf.{most_cells};
 ghost use Rattle.cell_store.specs.Chains.{is_among};
 ghost use Rattle.cell_store.specs.Marks.{is_marked};
-ghost use Rattle.record_store.specs.Touched.{none_touched, with_touched, AreSlots};
+ghost use Rattle.record_store.specs.Touched.{Clears, Sorts, Touches, none_touched, AreSlots};
 
 use eeprom::Heap;
 use std::alloc::AllocError;
@@ -52,8 +51,7 @@ impl Touched {
     /// Touches a slot.
     pub fn touch(&mut self, slot: u16)
         requires inside { slot < self.old.size }
-        ensures slots { self.new.slots ≡ with_touched self.old.slots slot }
-        ensures size { self.new.size ≡ self.old.size }
+        ensures { Touches slot self.old self.new }
     {
         let marked = self.marks[slot as usize];
         if marked {
@@ -65,17 +63,14 @@ impl Touched {
 
     /// Puts the slots into rising order.
     pub fn sort(&mut self)
-        ensures slots { IsPermutation self.old.slots self.new.slots }
-        ensures rising { IsNonDecreasing self.new.slots }
-        ensures size { self.new.size ≡ self.old.size }
+        ensures { Sorts self.old self.new }
     {
         self.slots.sort_unstable();
     }
 
     /// Forgets all slots.
     pub fn clear(&mut self)
-        ensures slots { self.new.slots ≡ [] }
-        ensures size { self.new.size ≡ self.old.size }
+        ensures { Clears self.old self.new }
     {
         unmark(self.slots.as_slice(), &mut self.marks);
         self.slots.clear();

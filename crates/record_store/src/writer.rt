@@ -1,8 +1,6 @@
 // Octets that are written one behind another, in few and large writes, behind the first four of an image.
-ghost use Rattle.std.specs.Prelude.{◌≡◌, ◌+◌, ◌≤◌, ◌<◌, ℕ, [], ◌∷◌, length, take, drop, replicate, OnOk};
-ghost use Rattle.eeprom.specs.Chip.{Keeps};
-ghost use Rattle.eeprom.specs.Fault.{Counts};
-ghost use Rattle.record_store.specs.Appends.{AppendsUpTo, MayWrite, end_of, promised};
+ghost use Rattle.std.specs.Prelude.{◌≡◌, ◌+◌, ◌<◌, [], ◌∷◌, length, replicate, OnOk};
+ghost use Rattle.record_store.specs.Appends.{AppendsUpTo, Flushes, MayWrite, end_of};
 
 use arrayvec::ArrayVec;
 use eeprom::{Eeprom, EepromFault};
@@ -31,13 +29,7 @@ impl Writer {
     /// Writes what is pending.
     pub fn flush<B: Eeprom>(&mut self, bench: &mut B) -> Result<(), EepromFault>
         requires ready { MayWrite self.old (end_of self.old) (B.chip bench.old) }
-        ensures written { OnOk result ((B.chip bench.new).image ≡ promised self.old (B.chip bench.old)) }
-        ensures place { OnOk result (self.new.at ≡ end_of self.old) }
-        ensures empty { OnOk result (self.new.pending.items ≡ []) }
-        ensures behind { OnOk result (4 ≤ self.new.at) }
-        ensures front { Keeps (take 4) (B.chip bench.old) (B.chip bench.new) }
-        ensures after { (limit : ℕ) → end_of self.old ≤ limit → Keeps (drop limit) (B.chip bench.old) (B.chip bench.new) }
-        ensures cause { Counts (B.faults bench.old) (B.faults bench.new) result }
+        ensures { Flushes B.chip B.faults self.old self.new bench.old bench.new result }
     {
         bench.write(self.at, self.pending.as_slice())?;
         self.at += self.pending.len();

@@ -1,18 +1,19 @@
 -- How many octets of a side's slots are read by no search, by one, and by two.
 use Rattle.std.proofs.Common.{ℕ, ◌+◌, ◌≤◌, List, Option, Some, None, Result, Ok, Err, refl, ◌∙◌, arith}
 use Rattle.std.specs.Prelude.{IfOk}
-use Rattle.eeprom.specs.Chip.{Chip}
 use Rattle.eeprom.specs.StoreOf.{Slots}
 use Rattle.scql_model.specs.Database.{Database}
-use Rattle.record_store.specs.Held.{Held}
+use Rattle.eeprom.specs.declared.device.Eeprom.{Ghosts}
 use Rattle.record_store.specs.declared.found.Found.{Found}
-use Rattle.record_store.specs.declared.side.Side.{Side}
+use Rattle.record_store.specs.declared.side_reader.SideReader.{SideReader}
 use Rattle.record_store.specs.declared.tags.Tag.TheVariants.{Stamp}
 use Rattle.catalog_codec.specs.Kinds.{Kind}
-use Rattle.record_table.specs.Listed.{cells_marked, slots_of}
+use Rattle.record_table.specs.Asking.{octets_so_far, slots_asked}
+use Rattle.record_table.specs.Listed.{cells_marked}
 use Rattle.record_table.specs.Reading.{NeverFalls, ReadsCells, ReadsDatabase, ReadsSide}
 use Rattle.record_table.specs.Searching.{FindsNext, FindsStamp, FindsStampInto}
 use Rattle.record_table.specs.Tagged.{cells_tagged}
+use Rattle.record_table.proofs.Asking.{SameSide-refl, SameSide-then, same-slots}
 
 pub reads-none : (cells : Slots → ℕ) (slots : Option Slots) (a : Option ℕ) → ReadsCells cells slots a a
 reads-none cells None a = tt
@@ -54,65 +55,68 @@ ok_falls : {U E : Type 0} (slots : Option Slots) (a b c : Option ℕ) (result : 
 ok_falls slots a b c (Ok y) one two = falls-both slots a b c one two
 ok_falls slots a b c (Err e) one two = tt
 
-module _ {S T E : Type 0} {chip : S → Chip} {faults : S → ℕ} {octets : S → Option ℕ} {store : Held} {side : Side} where
+module _ {B T E : Type 0} {g : Ghosts B} where
   -- Nothing is read.
-  pub ReadsSide-none : {cells : Slots → ℕ} {here : S} {x : T} → ReadsSide {E = E} chip faults octets store side cells here here (Ok x)
+  pub ReadsSide-none : {cells : Slots → ℕ} {here : SideReader B g} {x : T} → ReadsSide {E = E} cells here here (Ok x)
   ReadsSide-none {cells} {here} = record {
-    octets_read = reads-none cells (slots_of store side (chip here)) (octets here);
-    rises = falls-none (slots_of store side (chip here)) (octets here);
+    octets_read = reads-none cells (slots_asked here) (octets_so_far here);
+    rises = falls-none (slots_asked here) (octets_so_far here);
+    goes_on = SameSide-refl;
     frame = record { same = refl; counts = (omega arith, refl) };
   }
 
   -- What was read and then answered otherwise reads no more.
-  pub ReadsSide-told : {U : Type 0} {cells all : Slots → ℕ} {before after : S} {x : T} {y : U} → ReadsSide {E = E} chip faults octets store side cells before after (Ok x) → ((slots : Slots) → cells slots ≤ all slots)
-      → ReadsSide {E = E} chip faults octets store side all before after (Ok y)
+  pub ReadsSide-told : {U : Type 0} {cells all : Slots → ℕ} {before after : SideReader B g} {x : T} {y : U} → ReadsSide {E = E} cells before after (Ok x) → ((slots : Slots) → cells slots ≤ all slots)
+      → ReadsSide {E = E} all before after (Ok y)
   ReadsSide-told {cells} {all} {before} {after} reads fits = record {
-    octets_read = fewer cells all (slots_of store side (chip before)) (octets before) (octets after) fits reads.octets_read;
+    octets_read = fewer cells all (slots_asked before) (octets_so_far before) (octets_so_far after) fits reads.octets_read;
     rises = reads.rises;
+    goes_on = reads.goes_on;
     frame = record { same = reads.frame.same; counts = reads.frame.counts };
   }
 
   -- One call reads, and then another.
-  pub ReadsSide-then : {U : Type 0} {cells more all : Slots → ℕ} {before mid after : S} {x : T} {result : Result U E} → ReadsSide {E = E} chip faults octets store side cells before mid (Ok x) → ReadsSide chip faults octets store side more mid after result
-      → ((slots : Slots) → cells slots + more slots ≤ all slots) → ReadsSide chip faults octets store side all before after result
+  pub ReadsSide-then : {U : Type 0} {cells more all : Slots → ℕ} {before mid after : SideReader B g} {x : T} {result : Result U E} → ReadsSide {E = E} cells before mid (Ok x) → ReadsSide more mid after result
+      → ((slots : Slots) → cells slots + more slots ≤ all slots) → ReadsSide all before after result
   ReadsSide-then {cells} {more} {all} {before} {mid} {after} {x} {result} one two fits = record {
-    octets_read = ok_both cells more all (slots_of store side (chip before)) (octets before) (octets mid) (octets after) result fits one.octets_read (rw one.frame.same at two.octets_read);
-    rises = ok_falls (slots_of store side (chip before)) (octets before) (octets mid) (octets after) result one.rises (rw one.frame.same at two.rises);
+    octets_read = ok_both cells more all (slots_asked before) (octets_so_far before) (octets_so_far mid) (octets_so_far after) result fits one.octets_read (rw (same-slots one.goes_on one.frame.same) at two.octets_read);
+    rises = ok_falls (slots_asked before) (octets_so_far before) (octets_so_far mid) (octets_so_far after) result one.rises (rw (same-slots one.goes_on one.frame.same) at two.rises);
+    goes_on = SameSide-then one.goes_on two.goes_on;
     frame = record { same = two.frame.same ∙ one.frame.same; counts = rw one.frame.counts.1 at two.frame.counts };
   }
 
   -- and what both give is answered otherwise.
-  pub ReadsSide-both : {U V : Type 0} {cells more all : Slots → ℕ} {before mid after : S} {x : T} {y : U} {z : V} → ReadsSide {E = E} chip faults octets store side cells before mid (Ok x) → ReadsSide {E = E} chip faults octets store side more mid after (Ok y)
-      → ((slots : Slots) → cells slots + more slots ≤ all slots) → ReadsSide {E = E} chip faults octets store side all before after (Ok z)
+  pub ReadsSide-both : {U V : Type 0} {cells more all : Slots → ℕ} {before mid after : SideReader B g} {x : T} {y : U} {z : V} → ReadsSide {E = E} cells before mid (Ok x) → ReadsSide {E = E} more mid after (Ok y)
+      → ((slots : Slots) → cells slots + more slots ≤ all slots) → ReadsSide {E = E} all before after (Ok z)
   ReadsSide-both {cells} {more} {all} {before} {mid} {after} one two fits = record {
-    octets_read = fewer (λ slots. cells slots + more slots) all (slots_of store side (chip before)) (octets before) (octets after) fits
-        (reads-both cells more (slots_of store side (chip before)) (octets before) (octets mid) (octets after) one.octets_read (rw one.frame.same at two.octets_read));
-    rises = falls-both (slots_of store side (chip before)) (octets before) (octets mid) (octets after) one.rises (rw one.frame.same at two.rises);
+    octets_read = fewer (λ slots. cells slots + more slots) all (slots_asked before) (octets_so_far before) (octets_so_far after) fits
+        (reads-both cells more (slots_asked before) (octets_so_far before) (octets_so_far mid) (octets_so_far after) one.octets_read (rw (same-slots one.goes_on one.frame.same) at two.octets_read));
+    rises = falls-both (slots_asked before) (octets_so_far before) (octets_so_far mid) (octets_so_far after) one.rises (rw (same-slots one.goes_on one.frame.same) at two.rises);
+    goes_on = SameSide-then one.goes_on two.goes_on;
     frame = record { same = two.frame.same ∙ one.frame.same; counts = rw one.frame.counts.1 at two.frame.counts };
   }
 
-module _ {S X E : Type 0} {chip : S → Chip} {faults : S → ℕ} {octets : S → Option ℕ} {store : Held} {side : Side} {kind : Kind X} where
+module _ {B X E : Type 0} {g : Ghosts B} {kind : Kind X} where
   -- What a search reads.
-  pub FindsStamp-reads : {stamp : ℕ} {before after : S} {result : Result (Option (Found X)) E} → FindsStamp chip faults octets store side kind stamp before after result
-      → ReadsSide chip faults octets store side (cells_tagged kind (Some (Stamp stamp))) before after result
-  FindsStamp-reads finds = record { octets_read = finds.octets_read; rises = finds.rises; frame = finds.frame }
+  pub FindsStamp-reads : {stamp : ℕ} {before after : SideReader B g} {result : Result (Option (Found X)) E} → FindsStamp kind stamp before after result → ReadsSide (cells_tagged kind (Some (Stamp stamp))) before after result
+  FindsStamp-reads finds = record { octets_read = finds.octets_read; rises = finds.rises; goes_on = finds.goes_on; frame = finds.frame }
 
-  pub FindsStampInto-reads : {stamp : ℕ} {before after : S} {place : Option X} {result : Result (Option ℕ) E} → FindsStampInto chip faults octets store side kind stamp before after place result
-      → ReadsSide chip faults octets store side (cells_tagged kind (Some (Stamp stamp))) before after result
-  FindsStampInto-reads finds = record { octets_read = finds.octets_read; rises = finds.rises; frame = finds.frame }
+  pub FindsStampInto-reads : {stamp : ℕ} {before after : SideReader B g} {place : Option X} {result : Result (Option ℕ) E} → FindsStampInto kind stamp before after place result
+      → ReadsSide (cells_tagged kind (Some (Stamp stamp))) before after result
+  FindsStampInto-reads finds = record { octets_read = finds.octets_read; rises = finds.rises; goes_on = finds.goes_on; frame = finds.frame }
 
-  pub FindsNext-reads : {stamp : ℕ} {among : List X → List X} {before after : S} {result : Result (Option (Found X)) E} → FindsNext chip faults octets store side kind stamp among before after result
-      → ReadsSide chip faults octets store side (cells_marked kind) before after result
-  FindsNext-reads finds = record { octets_read = finds.octets_read; rises = finds.rises; frame = finds.frame }
+  pub FindsNext-reads : {stamp : ℕ} {among : List X → List X} {before after : SideReader B g} {result : Result (Option (Found X)) E} → FindsNext kind stamp among before after result → ReadsSide (cells_marked kind) before after result
+  FindsNext-reads finds = record { octets_read = finds.octets_read; rises = finds.rises; goes_on = finds.goes_on; frame = finds.frame }
 
-module _ {S T E : Type 0} {chip : S → Chip} {faults : S → ℕ} {octets : S → Option ℕ} {store : Held} {side : Side} {cells : Database → ℕ} where
+module _ {B T E : Type 0} {g : Ghosts B} {cells : Database → ℕ} where
   -- Nothing is read of a database, or what was read is answered otherwise.
-  pub ReadsDatabase-none : {here : S} {x : T} → ReadsDatabase {E = E} chip faults octets store side cells here here (Ok x)
+  pub ReadsDatabase-none : {here : SideReader B g} {x : T} → ReadsDatabase {E = E} cells here here (Ok x)
   ReadsDatabase-none {here} = record {
     octets_read = λ db held after told. (after, told, omega arith);
-    rises = falls-none (slots_of store side (chip here)) (octets here);
+    rises = falls-none (slots_asked here) (octets_so_far here);
+    goes_on = SameSide-refl;
     frame = record { same = refl; counts = (omega arith, refl) };
   }
 
-  pub ReadsDatabase-told : {U : Type 0} {before after : S} {x : T} {y : U} → ReadsDatabase {E = E} chip faults octets store side cells before after (Ok x) → ReadsDatabase {E = E} chip faults octets store side cells before after (Ok y)
-  ReadsDatabase-told reads = record { octets_read = reads.octets_read; rises = reads.rises; frame = record { same = reads.frame.same; counts = reads.frame.counts } }
+  pub ReadsDatabase-told : {U : Type 0} {before after : SideReader B g} {x : T} {y : U} → ReadsDatabase {E = E} cells before after (Ok x) → ReadsDatabase {E = E} cells before after (Ok y)
+  ReadsDatabase-told reads = record { octets_read = reads.octets_read; rises = reads.rises; goes_on = reads.goes_on; frame = record { same = reads.frame.same; counts = reads.frame.counts } }

@@ -99,6 +99,12 @@ removed-passing kind p old new chip slot x at passes emptied = go (slots_of old 
         gone : (entry : Option (List ℕ)) → Some x ≡ in_slot (read_as kind) entry → None ≡ without_passing kind p entry
         gone entry is = rw (sym is, passes) refl
 
+-- so where the EEPROM goes by another name
+pub removed-still : {X : Type 0} (kind : Kind X) (p : X → Bool) (old new : Held) (chip later : Chip) (slot : ℕ)
+    → IfSome (slots_of old Working chip) (λ slots. slots_of new Working chip ≡ Some (set slots slot (without_passing kind p (get_or slots slot None)))) → later ≡ chip
+    → IfSome (slots_of old Working chip) (λ slots. slots_of new Working later ≡ Some (set slots slot (without_passing kind p (get_or slots slot None))))
+removed-still kind p old new chip later slot removed same = subst (λ c. IfSome (slots_of old Working chip) (λ slots. slots_of new Working c ≡ Some (set slots slot (without_passing kind p (get_or slots slot None))))) (sym same) removed
+
 -- none is done
 pub swept-none : (slots : Option Slots) → IfSome slots (λ here. slots ≡ Some here)
 swept-none None = tt
@@ -133,6 +139,25 @@ entries-more kind p old mid new chip n (Some slots) so_far here few =
     subst (λ o. IfSome o (λ slots. entries new ≤ entries mid + cond (has_passing kind p (get_or slots n None)) 1 0)) so_far here in
     let same = ap (λ entry. cond {A = ℕ} (has_passing kind p entry) 1 0) (front-next f n slots None) in
     rw add-one (omega (arith, one, few, same, passing-from kind p slots n))
+
+-- one more entry at most where the slot's record passes, and none where nothing was done
+pub entries-passing : {X : Type 0} (kind : Kind X) (p : X → Bool) (old new : Held) (chip : Chip) (slot : ℕ) (x : X) → IfSome (slots_of old Working chip) (λ slots. Some x ≡ at_slot kind slot slots) → p x ≡ true → entries new ≤ entries old + 1
+    → IfSome (slots_of old Working chip) (λ slots. entries new ≤ entries old + cond (has_passing kind p (get_or slots slot None)) 1 0)
+entries-passing kind p old new chip slot x at passes few = go (slots_of old Working chip) at
+  where
+    passing : (entry : Option (List ℕ)) → Some x ≡ in_slot (read_as kind) entry → has_passing kind p entry ≡ true
+    passing entry is = rw (sym is) passes
+
+    go : (o : Option Slots) → IfSome o (λ slots. Some x ≡ at_slot kind slot slots) → IfSome o (λ slots. entries new ≤ entries old + cond (has_passing kind p (get_or slots slot None)) 1 0)
+    go None at = tt
+    go (Some slots) at = rw (passing (get_or slots slot None) at) few
+
+pub entries-unchanged : {X : Type 0} (kind : Kind X) (p : X → Bool) (held : Held) (chip : Chip) (slot : ℕ) → IfSome (slots_of held Working chip) (λ slots. entries held ≤ entries held + cond (has_passing kind p (get_or slots slot None)) 1 0)
+entries-unchanged kind p held chip slot = go (slots_of held Working chip)
+  where
+    go : (o : Option Slots) → IfSome o (λ slots. entries held ≤ entries held + cond (has_passing kind p (get_or slots slot None)) 1 0)
+    go None = tt
+    go (Some slots) = omega arith
 
 -- when all are done
 pub swept-all : {X : Type 0} (kind : Kind X) (p : X → Bool) (new : Held) (chip : Chip) (end n : ℕ) (slots : Option Slots) → end ≤ n → IfSome slots (AreEmptyFrom end)

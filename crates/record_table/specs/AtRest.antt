@@ -1,7 +1,7 @@
 -- A store outside of a transaction: the database that it holds, and another one that is committed in its place.
-use Rattle.std.specs.Prelude.{◌≡◌, ℕ, List, [], ◌∷◌, Result, Err, OnOk}
+use Rattle.std.specs.Prelude.{◌≡◌, ℕ, false, List, [], ◌∷◌, Result, Err, OnOk}
 use Rattle.eeprom.specs.Chip.{Chip, Becomes, Leaves, MayBeLeftSince, RisesAtMost}
-use Rattle.record_store.specs.Held.{Held}
+use Rattle.record_store.specs.Held.{Held, IsOver}
 use Rattle.record_store.specs.declared.side.Side.TheVariants.{Committed}
 use Rattle.scql_base.specs.declared.words.StatusWord.{StatusWord}
 use Rattle.scql_model.specs.Database.{Database}
@@ -9,6 +9,11 @@ use Rattle.scql_model.specs.Opens.{Opens, OpensToOneOf}
 use Rattle.record_table.specs.Making.{IsHeld}
 use Rattle.record_table.specs.declared.stop.Stop.{Stop}
 use Rattle.record_table.specs.declared.stop.Stop.TheVariants.{Refused}
+
+-- a store is in no transaction, over its EEPROM
+pub record IsIdleOver (store : Held) (chip : Chip) : Type 0 where
+  pub idle : store.begun ≡ false
+  pub over : IsOver store chip
 
 -- what is committed is the database
 abbrev pub IsAtRest : Held → Chip → Database → Type 0

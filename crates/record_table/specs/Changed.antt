@@ -1,5 +1,5 @@
 -- One slot is changed: a record is added, another takes its place, or it is removed.
-use Rattle.std.specs.Prelude.{◌≡◌, ℕ, ◌+◌, ◌*◌, ◌<◌, ◌≤◌, List, Option, Some, None, Result, IfOk, IfSome, IsErrOf, OnOk, is_some, length, drop, slice_index_or, slice_set}
+use Rattle.std.specs.Prelude.{IsTrue, ◌≡◌, ℕ, ◌+◌, ◌*◌, ◌<◌, ◌≤◌, List, Option, Some, None, Result, IfOk, IfSome, IsErrOf, OnOk, is_some, length, drop, slice_index_or, slice_set}
 use Rattle.eeprom.specs.Chip.{Chip, Becomes, Keeps, RisesBy}
 use Rattle.eeprom.specs.Fault.{CountsFaults}
 use Rattle.eeprom.specs.StoreOf.{Slots, cell_size, cells_for, image_size, store_of}
@@ -11,6 +11,11 @@ use Rattle.record_store.specs.declared.refusal.StoreRefusal.{StoreRefusal}
 use Rattle.record_store.specs.declared.refusal.StoreRefusal.TheVariants.{Full}
 use Rattle.record_store.specs.declared.side.Side.TheVariants.{Committed, Working}
 use Rattle.catalog_codec.specs.Kinds.{Kind}
+
+-- a store is in a transaction, over its EEPROM
+pub record IsBegunOver (store : Held) (chip : Chip) : Type 0 where
+  pub begun : IsTrue store.begun
+  pub over : IsOver store chip
 
 -- a slot that was empty has the record, and all others are as they were
 pub record IsAdded {X : Type 0} (kind : Kind X) (x : X) (slot : ℕ) (old new : Slots) : Type 0 where

@@ -5,6 +5,7 @@ pub mod Editable
 pub mod EditableLaws
 pub mod Listed
 pub mod Making
+pub mod OneRecord
 pub mod Reading
 pub mod Searching
 pub mod Swept

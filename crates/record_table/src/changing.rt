@@ -3,7 +3,7 @@ ghost use Rattle.std.specs.Prelude.{◌≡◌, ◌<◌, ◌≤◌, ◌+◌, ℕ,
 ghost use Rattle.eeprom.specs.Chip.{Chip};
 ghost use Rattle.record_store.specs.Held.{IsOver, StandsFor};
 ghost use Rattle.record_store.specs.Transaction.{ChangesOnly, entries};
-ghost use Rattle.record_table.specs.Changed.{IsAdded, IsChanged, IsEmptied, Rewrites, Puts};
+ghost use Rattle.record_table.specs.Changed.{IsAdded, IsBegunOver, IsChanged, IsEmptied, Puts, Rewrites};
 
 use catalog_codec::Record;
 use eeprom::Eeprom;
@@ -15,8 +15,7 @@ pub fn add<R: Record, B: Eeprom>(
     bench: &mut B,
     value: &R,
 ) -> Result<u16, StoreRefusal>
-    requires begun { IsTrue store.old.begun }
-    requires over { IsOver store.old (B.chip bench.old) }
+    requires open { IsBegunOver store.old (B.chip bench.old) }
     requires spelled { R.can_encode value.now }
     ensures { Puts B.chip B.faults (IsAdded R.kind value.now) None (λ slot. slot) (R.kind.form.spell value.now) bench.old bench.new store.old store.new result }
 {
@@ -32,9 +31,8 @@ pub fn change<R: Record, B: Eeprom>(
     slot: u16,
     value: &R,
 ) -> Result<(), StoreRefusal>
-    requires begun { IsTrue store.old.begun }
+    requires open { IsBegunOver store.old (B.chip bench.old) }
     requires slot { slot < store.old.chains.cells }
-    requires over { IsOver store.old (B.chip bench.old) }
     requires spelled { R.can_encode value.now }
     ensures { Puts B.chip B.faults (λ _. IsChanged R.kind value.now slot) (Some slot) (λ _. slot) (R.kind.form.spell value.now) bench.old bench.new store.old store.new result }
 {

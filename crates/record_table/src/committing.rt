@@ -1,14 +1,13 @@
 // A record of a database changed in its place, in a transaction of its own.
-ghost use Rattle.std.specs.Prelude.{◌≡◌, ◌<◌, [], ◌∷◌, Some, false, true, IfSome, IsErrOf, OnOk, drop};
+ghost use Rattle.std.specs.Prelude.{◌≡◌, ◌<◌, [], ◌∷◌, Some, false, IfSome, IsErrOf, OnOk, drop};
 ghost use Rattle.eeprom.specs.Chip.{Becomes, Keeps};
 ghost use Rattle.eeprom.specs.Fault.{CountsFaults};
 ghost use Rattle.eeprom.specs.StoreOf.{image_size};
-ghost use Rattle.record_store.specs.Held.{IsOver};
 ghost use Rattle.record_store.specs.declared.side.Side.TheVariants.{Committed};
 ghost use Rattle.scql_base.specs.declared.words.StatusWord.{StatusWord};
 ghost use Rattle.scql_model.specs.Database.{Database, IsValid};
 ghost use Rattle.scql_model.specs.Edits.{applied, changing, lacks_room, octets_for};
-ghost use Rattle.record_table.specs.AtRest.{IsAtRest, Replaces};
+ghost use Rattle.record_table.specs.AtRest.{IsAtRest, IsIdleOver, Replaces};
 ghost use Rattle.record_table.specs.Changed.{IsChanged};
 ghost use Rattle.record_table.specs.Listed.{at_slot, slots_of};
 ghost use Rattle.record_table.specs.Making.{GoesOn, is_stop_fault};
@@ -24,8 +23,7 @@ pub fn commit_in_place<R: Editable, B: Eeprom>(
     slot: u16,
     value: &R,
 ) -> Result<(), Stop>
-    requires idle { store.old.begun ≡ false }
-    requires over { IsOver store.old (B.chip bench.old) }
+    requires rests { IsIdleOver store.old (B.chip bench.old) }
     requires spelled { R.can_encode value.now }
     requires there { slot < store.old.chains.cells }
     ensures replaces { (db : Database) (was : R) → IsAtRest store.old (B.chip bench.old) db → IfSome (slots_of store.old Committed (B.chip bench.old)) (λ slots. Some was ≡ at_slot R.kind slot slots)

@@ -1,34 +1,32 @@
 // The record of one slot, if it is of a kind.
 ghost use Rattle.std.specs.Prelude.{◌≡◌, ◌<◌, ◌≤◌, ℕ, List, Some, None, false, IfOk, IfSome, if◌then◌else◌, slice_index_or};
-ghost use Rattle.record_store.specs.Held.{IsOver, StandsFor, record_at};
+ghost use Rattle.record_store.specs.Held.{StandsFor, record_at};
 ghost use Rattle.record_store.specs.declared.side.Side.{Side};
-ghost use Rattle.record_table.specs.Listed.{at_slot, kind_cells, slots_of};
+ghost use Rattle.record_table.specs.Asking.{slots_asked};
+ghost use Rattle.record_table.specs.Listed.{at_slot, kind_cells};
 ghost use Rattle.record_table.specs.Listed as listed;
 ghost use Rattle.record_table.specs.Tagged.{IsTagged, is_searched};
 ghost use Rattle.record_table.specs.Reading.{ReadsSide};
 
 use catalog_codec::Record;
 use eeprom::{Eeprom, EepromFault};
-use record_store::{RecordOctets, Side, Store, Tag};
+use record_store::{RecordOctets, Side, SideReader, Store, Tag};
 use scql_base::RowRecord;
 
 /// The record of a slot, if it is of the kind. A record with another first octet isn't read. Records are read into `octets`.
 pub fn read_entry<R: Record, B: Eeprom>(
-    store: &Store,
-    bench: &mut B,
-    side: Side,
+    reader: &mut SideReader<'_, '_, B>,
     slot: u16,
     octets: &mut RecordOctets,
 ) -> Result<Option<R>, EepromFault>
-    requires over { IsOver store.now (B.chip bench.old) }
-    requires slot { slot < store.now.chains.cells }
-    ensures value { IfOk result (λ value. IfSome (slots_of store.now side (B.chip bench.old)) (λ slots. value ≡ at_slot R.kind slot slots)) }
-    ensures reads { ReadsSide B.chip B.faults B.octets_read store.now side (λ slots. kind_cells R.kind (slice_index_or slots slot None)) bench.old bench.new result }
+    requires slot { slot < reader.old.store.now.chains.cells }
+    ensures value { IfOk result (λ value. IfSome (slots_asked reader.old) (λ slots. value ≡ at_slot R.kind slot slots)) }
+    ensures reads { ReadsSide (λ slots. kind_cells R.kind (slice_index_or slots slot None)) reader.old reader.new result }
 {
-    if !is_marked::<R>(store, side, slot) {
+    if !is_marked::<R>(reader.store, reader.side, slot) {
         return Ok(None);
     }
-    if store.get(bench, side, slot, octets)? {
+    if reader.store.get(reader.bench, reader.side, slot, octets)? {
         Ok(R::decode(octets.as_slice()))
     } else {
         Ok(None)
@@ -38,22 +36,19 @@ pub fn read_entry<R: Record, B: Eeprom>(
 /// Reads the record of a slot into a place, if it is of the kind, and answers whether it did. A record with another first octet
 /// isn't read. Records are read into `octets`.
 pub(crate) fn read_into<R: Record, B: Eeprom>(
-    store: &Store,
-    bench: &mut B,
-    side: Side,
+    reader: &mut SideReader<'_, '_, B>,
     slot: u16,
     octets: &mut RecordOctets,
     place: &mut Option<R>,
 ) -> Result<bool, EepromFault>
-    requires over { IsOver store.now (B.chip bench.old) }
-    requires slot { slot < store.now.chains.cells }
-    ensures value { IfOk result (λ read. IfSome (slots_of store.now side (B.chip bench.old)) (λ slots. (if read then place.new else None) ≡ at_slot R.kind slot slots)) }
-    ensures reads { ReadsSide B.chip B.faults B.octets_read store.now side (λ slots. kind_cells R.kind (slice_index_or slots slot None)) bench.old bench.new result }
+    requires slot { slot < reader.old.store.now.chains.cells }
+    ensures value { IfOk result (λ read. IfSome (slots_asked reader.old) (λ slots. (if read then place.new else None) ≡ at_slot R.kind slot slots)) }
+    ensures reads { ReadsSide (λ slots. kind_cells R.kind (slice_index_or slots slot None)) reader.old reader.new result }
 {
-    if !is_marked::<R>(store, side, slot) {
+    if !is_marked::<R>(reader.store, reader.side, slot) {
         return Ok(false);
     }
-    if store.get(bench, side, slot, octets)? {
+    if reader.store.get(reader.bench, reader.side, slot, octets)? {
         R::read_into(octets.as_slice(), place);
         Ok(true)
     } else {

@@ -1,18 +1,16 @@
 // A record of a database changed in its place, or taken out.
-ghost use Rattle.std.specs.Prelude.{◌≡◌, ◌<◌, [], ◌∷◌, Some, Ok, IsTrue, IfSome, IsErrOf, OnOk, drop};
-ghost use Rattle.eeprom.specs.Chip.{Chip, Becomes, Keeps};
-ghost use Rattle.eeprom.specs.Fault.{CountsFaults};
-ghost use Rattle.eeprom.specs.StoreOf.{store_of, image_size};
+ghost use Rattle.std.specs.Prelude.{◌≡◌, ◌<◌, [], ◌∷◌, Some, Ok, IsTrue, IfSome, OnOk};
+ghost use Rattle.eeprom.specs.Chip.{Chip, Becomes};
 ghost use Rattle.record_store.specs.Held.{IsOver};
 ghost use Rattle.record_store.specs.declared.side.Side.TheVariants.{Committed, Working};
-ghost use Rattle.scql_base.specs.declared.words.StatusWord.{StatusWord};
 ghost use Rattle.scql_model.specs.Database.{Database};
 ghost use Rattle.scql_model.specs.Edits.{changing, removing};
 ghost use Rattle.catalog_codec.specs.Catalog.{row_kind};
 ghost use Rattle.catalog_codec.specs.Kinds.{HaveOtherMarks};
-ghost use Rattle.record_table.specs.Changed.{IsChanged};
+ghost use Rattle.record_table.specs.Changed.{IsBegunOver, IsChanged};
 ghost use Rattle.record_table.specs.Listed.{at_slot, slots_of};
-ghost use Rattle.record_table.specs.Making.{Ends, GoesOn, IsHeld, IsValidWith, KeepsRows, Makes, is_stop_fault};
+ghost use Rattle.record_table.specs.Making.{Ends, GoesOn, IsHeld, IsValidWith, KeepsRows, Makes};
+ghost use Rattle.record_table.specs.OneRecord.{LeavesStore};
 
 use crate::{Editable, Stop, change, remove};
 use eeprom::Eeprom;
@@ -25,22 +23,16 @@ pub fn change_in_place<R: Editable, B: Eeprom>(
     slot: u16,
     value: &R,
 ) -> Result<(), Stop>
-    requires begun { IsTrue store.old.begun }
-    requires over { IsOver store.old (B.chip bench.old) }
+    requires open { IsBegunOver store.old (B.chip bench.old) }
     requires spelled { R.can_encode value.now }
     requires there { slot < store.old.chains.cells }
     ensures ends { (db : Database) (was : R) → IsHeld store.old Working (B.chip bench.old) db → IfSome (slots_of store.old Working (B.chip bench.old)) (λ slots. Some was ≡ at_slot R.kind slot slots)
         → R.kind.key was ≡ R.kind.key value.now → IsValidWith db (changing (R.any value.now) ∷ [])
         → Ends db (Ok (changing (R.any value.now) ∷ [])) result store.old store.new (B.chip bench.old) (B.chip bench.new) }
     ensures changed { OnOk result (Becomes (IsChanged R.kind value.now slot) (slots_of store.old Working (B.chip bench.old)) (slots_of store.new Working (B.chip bench.new))) }
-    ensures goes_on { ¬ IsErrOf result Stop.Fault → GoesOn store.old store.new (B.chip bench.old) (B.chip bench.new) }
     ensures rows { (was : R) → HaveOtherMarks R.kind row_kind → IfSome (slots_of store.old Working (B.chip bench.old)) (λ slots. Some was ≡ at_slot R.kind slot slots)
         → OnOk result (KeepsRows (slots_of store.old Working (B.chip bench.old)) (slots_of store.new Working (B.chip bench.new))) }
-    ensures refused { (word : StatusWord) → IsErrOf result (Stop.Refused word) → slots_of store.new Working (B.chip bench.new) ≡ slots_of store.old Working (B.chip bench.old) }
-    ensures committed { ¬ IsErrOf result Stop.Fault → slots_of store.new Committed (B.chip bench.new) ≡ slots_of store.old Committed (B.chip bench.old) }
-    ensures moments { Keeps store_of (B.chip bench.old) (B.chip bench.new) }
-    ensures behind { Keeps (drop (image_size store.old.chains.cells)) (B.chip bench.old) (B.chip bench.new) }
-    ensures cause { CountsFaults is_stop_fault (B.faults bench.old) (B.faults bench.new) result }
+    ensures leaves { LeavesStore B.chip B.faults bench.old bench.new store.old store.new result }
 {
     change(store, bench, slot, value)?;
     Ok(())

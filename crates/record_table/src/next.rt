@@ -1,32 +1,29 @@
 // The next record of a kind behind a stamp.
 ghost use Rattle.std.specs.Prelude.{◌≡◌, ◌⊎◌, Some, option_map, filter};
 ghost use Rattle.eeprom.specs.Slots.{above, nearer};
-ghost use Rattle.record_store.specs.Held.{IsOver};
 ghost use Rattle.record_table.specs.Searching.{FindsNext};
 
 use crate::Wanted;
 use crate::entry::{next_slot, read_entry};
 use catalog_codec::Record;
 use eeprom::{Eeprom, EepromFault};
-use record_store::{Found, RecordOctets, Side, Store};
+use record_store::{Found, RecordOctets, SideReader};
 
 /// Of the records that are wanted, the one of the least greater stamp.
 pub fn next_by<R: Record, W: Wanted<R>, B: Eeprom>(
-    store: &Store,
-    bench: &mut B,
-    side: Side,
+    reader: &mut SideReader<'_, '_, B>,
     stamp: u32,
     wanted: &W,
 ) -> Result<Option<Found<R>>, EepromFault>
-    requires over { IsOver store.now (B.chip bench.old) }
-    ensures { FindsNext B.chip B.faults B.octets_read store.now side R.kind stamp (filter (W.wants wanted.now)) bench.old bench.new result }
+    ensures { FindsNext R.kind stamp (filter (W.wants wanted.now)) reader.old reader.new result }
 {
     let mut octets = RecordOctets::new();
     let mut nearest: Option<Found<R>> = None;
+    let store = reader.store;
     let end = store.slots_in_use();
     let mut slot = next_slot::<R>(store, 0);
     while slot < end {
-        if let Some(value) = read_entry(store, bench, side, slot, &mut octets)? {
+        if let Some(value) = read_entry(reader, slot, &mut octets)? {
             if wanted.is(&value) {
                 nearest = nearer_of(nearest, Found { slot, value }, stamp);
             }

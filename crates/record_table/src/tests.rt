@@ -1,11 +1,12 @@
 // Users and the counter in the slots of a store.
-ghost use Rattle.std.specs.Prelude.{◌≡◌, ◌<◌, ◌==◌, IsTrue, OnOk};
+ghost use Rattle.std.specs.Prelude.{◌<◌, ◌==◌, OnOk};
 ghost use Rattle.record_store.specs.Held.{IsOver};
+ghost use Rattle.record_table.specs.Changed.{IsBegunOver};
 
 use crate::{Wanted, add, change, find_by, find_stamp, next_after, remove};
 use catalog_codec::Counter;
 use eeprom::{Eeprom, FaultPlan, MemBench};
-use record_store::{Side, Store, StoreRefusal, Tag};
+use record_store::{Side, SideReader, Store, StoreRefusal, Tag};
 use scql_base::User;
 use std::alloc::{AllocError, Global};
 use std::test::Fail;
@@ -52,17 +53,17 @@ fn records_are_found(rt: HostRuntime) -> Result<(), Fail> {
     assert!(rt; opened.is_ok());
     if let Ok(store) = opened {
         let before = bench.octets_read();
-        let owner = find_stamp::<User, MemBench>(&store, &mut bench, Side::Committed, 1);
+        let mut reader = SideReader {
+            store: &store,
+            bench: &mut bench,
+            side: Side::Committed,
+        };
+        let owner = find_stamp::<User, MemBench>(&mut reader, 1);
         assert!(rt; matches!(&owner, Ok(Some(found)) if found.slot == 1));
-        assert_eq!(rt; bench.octets_read().checked_sub(before), Some(32));
-        let none = find_by::<User, MadeBy, MemBench>(
-            &store,
-            &mut bench,
-            Side::Committed,
-            &MadeBy(2),
-        );
+        assert_eq!(rt; reader.bench.octets_read().checked_sub(before), Some(32));
+        let none = find_by::<User, MadeBy, MemBench>(&mut reader, &MadeBy(2));
         assert!(rt; matches!(&none, Ok(None)));
-        let counter = next_after::<Counter, MemBench>(&store, &mut bench, Side::Working, 1);
+        let counter = next_after::<Counter, MemBench>(&mut reader, 1);
         assert!(rt; matches!(&counter, Ok(Some(found)) if found.slot == 0));
     }
     Ok(())
@@ -70,9 +71,8 @@ fn records_are_found(rt: HostRuntime) -> Result<(), Fail> {
 
 // The counter is changed, and another one is added and removed.
 fn change_some<B: Eeprom>(store: &mut Store, bench: &mut B) -> Result<(), StoreRefusal>
-    requires begun { IsTrue store.old.begun }
+    requires open { IsBegunOver store.old (B.chip bench.old) }
     requires slot { 0 < store.old.chains.cells }
-    requires over { IsOver store.old (B.chip bench.old) }
     ensures { OnOk result (IsOver store.new (B.chip bench.new)) }
 {
     change(store, bench, 0, &Counter { next: 3 })?;
@@ -93,9 +93,14 @@ fn records_are_changed(rt: HostRuntime) -> Result<(), Fail> {
         let changed = change_some(&mut store, &mut bench);
         assert!(rt; changed.is_ok());
         if let Ok(()) = changed {
-            let next = next_after::<Counter, MemBench>(&store, &mut bench, Side::Working, 2);
+            let mut reader = SideReader {
+                store: &store,
+                bench: &mut bench,
+                side: Side::Working,
+            };
+            let next = next_after::<Counter, MemBench>(&mut reader, 2);
             assert!(rt; matches!(&next, Ok(Some(found)) if found.value.next == 3));
-            let last = next_after::<Counter, MemBench>(&store, &mut bench, Side::Working, 3);
+            let last = next_after::<Counter, MemBench>(&mut reader, 3);
             assert!(rt; matches!(&last, Ok(None)));
         }
     }

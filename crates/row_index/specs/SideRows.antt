@@ -1,5 +1,5 @@
 -- What is kept of the rows of one side of a store.
-use Rattle.std.specs.Prelude.{◌≡◌, ℕ, ◌<◌, ◌==◌, not, List, [], map, replicate, slice_index, slice_set}
+use Rattle.std.specs.Prelude.{◌≡◌, ℕ, ◌<◌, ◌≤◌, ◌==◌, Bool, not, count_by, length, List, [], map, replicate, slice_index, slice_set}
 use Rattle.std.specs.List.{AllByRecursion, filter, insert}
 use Rattle.eeprom.specs.Slots.{Rises}
 use Rattle.row_index.specs.Places.{place_key, place_slot, place_stamp}
@@ -42,3 +42,8 @@ without_slot slot rows = record { tables = rows.tables; slots = filter (λ other
 -- all rows of a table are missing
 abbrev pub without_table : ℕ → SideRows → SideRows
 without_table table rows = record { tables = rows.tables; slots = filter (λ slot. not (slice_index rows.tables slot == table)) rows.slots }
+
+-- So many of the slots are there whose places pass a test, where their places rise.
+pub record CountsPlaces (stamps tables slots : List ℕ) (passes : RowPlace → Bool) (result : ℕ) : Type 0 where
+  pub bound : result ≤ length slots
+  pub count : Rises place_key (places_at stamps tables slots) → result ≡ count_by passes (places_at stamps tables slots)

@@ -4,7 +4,7 @@ ghost use Rattle.std.specs.List.{list_all};
 ghost use Rattle.std.specs.Option.{option_map_or};
 ghost use Rattle.eeprom.specs.Slots.{Rises};
 ghost use Rattle.row_index.specs.Places.{place_key};
-ghost use Rattle.row_index.specs.SideRows.{place_at, places_at};
+ghost use Rattle.row_index.specs.SideRows.{CountsPlaces, place_at, places_at};
 
 use crate::columns::Columns;
 
@@ -31,18 +31,14 @@ fn are_above(slots: &[u16], columns: &Columns<'_>, key: u64) -> bool
 
 // How many keys are below a number.
 pub(crate) fn count_below(slots: &[u16], columns: &Columns<'_>, key: u64) -> usize
-    ensures bound { result ≤ length slots.now }
-    ensures count { Rises place_key (places_at columns.now.stamps.now columns.now.tables.now slots.now)
-        → result ≡ count_by (λ place. nat_lt (place_key place) key) (places_at columns.now.stamps.now columns.now.tables.now slots.now) }
+    ensures { CountsPlaces columns.now.stamps.now columns.now.tables.now slots.now (λ place. nat_lt (place_key place) key) result }
 {
     slots.partition_point(|slot| columns.place(*slot).key() < key)
 }
 
 // The same. Where the number is the key at the place `near`, nothing is searched for.
 pub(crate) fn count_below_near(slots: &[u16], columns: &Columns<'_>, key: u64, near: usize) -> usize
-    ensures bound { result ≤ length slots.now }
-    ensures count { Rises place_key (places_at columns.now.stamps.now columns.now.tables.now slots.now)
-        → result ≡ count_by (λ place. nat_lt (place_key place) key) (places_at columns.now.stamps.now columns.now.tables.now slots.now) }
+    ensures { CountsPlaces columns.now.stamps.now columns.now.tables.now slots.now (λ place. nat_lt (place_key place) key) result }
 {
     match slots.get(near) {
         Some(slot) if columns.place(*slot).key() == key => near,
@@ -52,18 +48,14 @@ pub(crate) fn count_below_near(slots: &[u16], columns: &Columns<'_>, key: u64, n
 
 // How many keys are at most a number.
 pub(crate) fn count_up_to(slots: &[u16], columns: &Columns<'_>, key: u64) -> usize
-    ensures bound { result ≤ length slots.now }
-    ensures count { Rises place_key (places_at columns.now.stamps.now columns.now.tables.now slots.now)
-        → result ≡ count_by (λ place. nat_le (place_key place) key) (places_at columns.now.stamps.now columns.now.tables.now slots.now) }
+    ensures { CountsPlaces columns.now.stamps.now columns.now.tables.now slots.now (λ place. nat_le (place_key place) key) result }
 {
     slots.partition_point(|slot| columns.place(*slot).key() <= key)
 }
 
 // The same. Where the number is the key at the place `near`, or has its own place there, nothing is searched for.
 pub(crate) fn count_up_to_near(slots: &[u16], columns: &Columns<'_>, key: u64, near: usize) -> usize
-    ensures bound { result ≤ length slots.now }
-    ensures count { Rises place_key (places_at columns.now.stamps.now columns.now.tables.now slots.now)
-        → result ≡ count_by (λ place. nat_le (place_key place) key) (places_at columns.now.stamps.now columns.now.tables.now slots.now) }
+    ensures { CountsPlaces columns.now.stamps.now columns.now.tables.now slots.now (λ place. nat_le (place_key place) key) result }
 {
     match slots.get(near) {
         Some(slot) if columns.place(*slot).key() == key => near + 1,

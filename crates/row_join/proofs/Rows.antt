@@ -23,6 +23,12 @@ rows_of-past (rows ∷ tables) [] i h = refl
 rows_of-past (rows ∷ tables) (place ∷ places) zero h = absurd (omega arith)
 rows_of-past (rows ∷ tables) (place ∷ places) (suc i) h = rows_of-past tables places i (omega arith)
 
+rows_of-beyond : (tables : List (List Values)) (places : List ℕ) (i : ℕ) → length places ≤ i → get_or (rows_of tables places) i [] ≡ []
+rows_of-beyond [] places i h = refl
+rows_of-beyond (rows ∷ tables) [] i h = refl
+rows_of-beyond (rows ∷ tables) (place ∷ places) zero h = absurd (omega arith)
+rows_of-beyond (rows ∷ tables) (place ∷ places) (suc i) h = rows_of-beyond tables places i (omega arith)
+
 -- a column's value stands in the row at its object's place
 pub value_at-place : (tables : List (List Values)) (places : List ℕ) (column : Column) → column.object < length tables → column.object < length places
     → value_in (row_at (get_or tables column.object []) (get_or places column.object 0)) column.place ≡ value_at (rows_of tables places) column
@@ -30,6 +36,15 @@ value_at-place tables places column h k = ap (λ row. get_or row column.place []
 
 pub value_at-past : (tables : List (List Values)) (places : List ℕ) (column : Column) → length tables ≤ column.object → ◌≡◌ {A = List ℕ} [] (value_at (rows_of tables places) column)
 value_at-past tables places column h = ap (λ row. get_or row column.place []) (sym (rows_of-past tables places column.object h))
+
+pub value_at-beyond : (tables : List (List Values)) (places : List ℕ) (column : Column) → length places ≤ column.object → ◌≡◌ {A = List ℕ} [] (value_at (rows_of tables places) column)
+value_at-beyond tables places column h = ap (λ row. get_or row column.place []) (sym (rows_of-beyond tables places column.object h))
+
+-- what is got is the value that stands there
+pub got-at : (row : Values) (i : ℕ) (value : List ℕ) → slice_get row i ≡ Some value → value ≡ value_in row i
+got-at [] i value is = absurd (none-some value is)
+got-at (x ∷ row) zero value is = sym (same_Some x value is)
+got-at (x ∷ row) (suc i) value is = got-at row i value is
 
 -- a row has no longer value
 pub narrow-at : (row : Values) (i : ℕ) (value : List ℕ) → list_all is_narrow row ≡ true → slice_get row i ≡ Some value → length value ≤ 200

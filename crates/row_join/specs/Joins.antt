@@ -1,5 +1,5 @@
 -- The join of several objects' rows: all combinations, those that are kept, and their order.
-use Rattle.std.specs.Prelude.{ℕ, Bool, List, [], ◌∷◌, map, slice_index_or, if◌then◌else◌}
+use Rattle.std.specs.Prelude.{◌≡◌, ℕ, ◌≤◌, Bool, List, [], ◌∷◌, length, map, slice_index_or, if◌then◌else◌}
 use Rattle.std.specs.List.{filter, flat_map, list_all}
 use Rattle.std.specs.Ordering.{nat_cmp, is_lt}
 use Rattle.std.specs.declared.cmp.Ordering.{Ordering}
@@ -16,6 +16,11 @@ Combination = List Values
 -- the value of a column in a combination
 abbrev pub value_at : Combination → Column → List ℕ
 value_at rows column = slice_index_or (slice_index_or rows column.object []) column.place []
+
+-- This is that value, of at most 200 octets.
+pub record IsValue (given value' : List ℕ) : Type 0 where
+  pub value : given ≡ value'
+  pub short : length given ≤ 200
 
 abbrev pub values_at : List Column → Combination → Values
 values_at columns rows = map (value_at rows) columns

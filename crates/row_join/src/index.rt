@@ -1,5 +1,5 @@
 // The rows of an object in the order of the values by which it is joined to the objects before it.
-ghost use Rattle.std.specs.Prelude.{◌≡◌, ◌≤◌, IfOk, length, map};
+ghost use Rattle.std.specs.Prelude.{◌≡◌, IfOk, map};
 ghost use Rattle.std.specs.List.{filter};
 ghost use Rattle.row_join.specs.Joins.{compare_values};
 ghost use Rattle.row_join.specs.Links.{key_of, links_of, meets_own, probe_of};
@@ -43,7 +43,6 @@ impl Index {
         before: &[Fetched],
         combination: &Combination,
     ) -> &[usize]
-        requires few { length before.now ≤ 3 }
         requires ordered { IsOrdered self.now.links.items rows.now self.now.places.items }
         ensures { result.now ≡ with_key self.now.links.items rows.now (probe_of self.now.links.items (rows_of before.now combination.now.places)) self.now.places.items }
     {
@@ -75,7 +74,6 @@ struct Probe<'a> {
 impl Probe<'_> {
     // How the linked values of a row compare with those that they are to be.
     fn compare(&self, place: usize) -> Ordering
-        requires { length self.now.before.now ≤ 3 }
         ensures { result ≡ compare_values (key_of self.now.links.now (row_at self.now.rows.now place)) (probe_of self.now.links.now (rows_of self.now.before.now self.now.combination.now.places)) }
     {
         for link in self.links {

@@ -1,7 +1,6 @@
 // The join by value: the combinations that are kept, unless they are too many.
-ghost use Rattle.std.specs.Prelude.{◌≡◌, ◌≤◌, ◌<◌, ◌+◌, ◌++◌, [], ◌∷◌, IfOk, IsErrOf, OnOk, length};
-ghost use Rattle.row_join.specs.Joined.{AreIndexes, joined, kept_after, rows_joined};
-ghost use Rattle.row_join.specs.Links.{AreWithin};
+ghost use Rattle.std.specs.Prelude.{◌≡◌, ◌≤◌, ◌<◌, ◌+◌, ◌++◌, [], ◌∷◌, IfOk, length};
+ghost use Rattle.row_join.specs.Joined.{AreIndexes, Keeps, MayExtend, MayJoin, joined, kept_after, rows_joined};
 ghost use Rattle.row_join.specs.Places.{all_rows};
 
 use crate::index::Index;
@@ -35,8 +34,7 @@ pub fn join_rows(
     tables: &[Fetched],
     equalities: &[Equality],
 ) -> Result<Joined, AllocError>
-    requires few { length tables.now ≤ 3 }
-    requires within { AreWithin (length tables.now) equalities.now }
+    requires { MayJoin equalities.now tables.now }
     ensures { IfOk result (λ found. rows_joined tables.now found ≡ joined equalities.now tables.now) }
 {
     let indexes = indexes_of(alloc, tables, equalities)?;
@@ -80,14 +78,9 @@ fn extend(
     combination: Combination,
     kept: &mut Vec<Combination, Heap>,
 ) -> Result<(), Stop>
-    requires few { length tables.now ≤ 3 }
-    requires within { AreWithin (length tables.now) equalities.now }
-    requires indexes { AreIndexes equalities.now tables.now indexes.now }
-    requires object { object ≤ length tables.now }
-    requires room { length kept.old.items ≤ MOST_KEPT }
-    ensures kept { OnOk result (all_rows tables.now kept.new.items ≡ all_rows tables.now kept.old.items ++ kept_after object equalities.now tables.now combination.places) }
-    ensures few { OnOk result (length kept.new.items ≤ MOST_KEPT) }
-    ensures many { IsErrOf result Stop.TooMany → MOST_KEPT < length kept.old.items + length (kept_after object equalities.now tables.now combination.places) }
+    requires { MayExtend equalities.now tables.now indexes.now object kept.old.items }
+    ensures { let after = kept_after object equalities.now tables.now combination.places in
+        Keeps result kept.new.items (all_rows tables.now kept.new.items ≡ all_rows tables.now kept.old.items ++ after) (MOST_KEPT < length kept.old.items + length after) }
 {
     if object == tables.len() {
         return add(kept, combination);
@@ -107,9 +100,7 @@ fn extend(
 // Adds a combination, unless there are as many as there may be.
 fn add(kept: &mut Vec<Combination, Heap>, combination: Combination) -> Result<(), Stop>
     requires room { length kept.old.items ≤ MOST_KEPT }
-    ensures added { OnOk result (kept.new.items ≡ kept.old.items ++ combination ∷ []) }
-    ensures few { OnOk result (length kept.new.items ≤ MOST_KEPT) }
-    ensures many { IsErrOf result Stop.TooMany → length kept.old.items ≡ MOST_KEPT }
+    ensures { Keeps result kept.new.items (kept.new.items ≡ kept.old.items ++ combination ∷ []) (length kept.old.items ≡ MOST_KEPT) }
 {
     if kept.len() == MOST_KEPT {
         return Err(Stop::TooMany);

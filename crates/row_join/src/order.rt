@@ -1,5 +1,5 @@
 // Combinations in the order of columns.
-ghost use Rattle.std.specs.Prelude.{◌≡◌, ◌≤◌, OnOk, length};
+ghost use Rattle.std.specs.Prelude.{◌≡◌, OnOk};
 ghost use Rattle.row_join.specs.Joins.{compare_values, ordered, values_at};
 ghost use Rattle.row_join.specs.Places.{all_rows, rows_of};
 
@@ -15,7 +15,6 @@ pub fn sort_combinations(
     order: &[Column],
     combinations: &mut Vec<Combination, Heap>,
 ) -> Result<(), AllocError>
-    requires { length tables.now ≤ 3 }
     ensures { OnOk result (all_rows tables.now combinations.new.items ≡ ordered order.now (all_rows tables.now combinations.old.items)) }
 {
     combinations.sort_by(|first, second| compare_rows(tables, order, first, second))
@@ -28,7 +27,6 @@ fn compare_rows(
     first: &Combination,
     second: &Combination,
 ) -> Ordering
-    requires { length tables.now ≤ 3 }
     ensures { result ≡ compare_values (values_at order.now (rows_of tables.now first.now.places)) (values_at order.now (rows_of tables.now second.now.places)) }
 {
     for column in order {

@@ -1,6 +1,5 @@
 // Joins of rows in memory.
-ghost use Rattle.std.specs.Prelude.{◌≤◌, length};
-ghost use Rattle.row_join.specs.Links.{AreWithin};
+ghost use Rattle.row_join.specs.Joined.{MayJoin};
 
 use super::*;
 use eeprom::Heap;
@@ -84,10 +83,8 @@ fn text(
     let mut text = Vec::new(alloc);
     for combination in combinations {
         for column in selected {
-            if tables.len() <= 3 {
-                text.extend_from_slice(value_at(tables, combination, *column))?;
-                text.push(b' ')?;
-            }
+            text.extend_from_slice(value_at(tables, combination, *column))?;
+            text.push(b' ')?;
         }
     }
     Ok(text)
@@ -110,8 +107,7 @@ fn answer(
     order: &[Column],
     selected: &[Column],
 ) -> Result<Option<Vec<u8, Heap>>, Fail>
-    requires few { length tables.now ≤ 3 }
-    requires within { AreWithin (length tables.now) equalities.now }
+    requires { MayJoin equalities.now tables.now }
 {
     match join_rows(alloc, tables, equalities)? {
         Joined::TooMany => Ok(None),

@@ -1,6 +1,6 @@
 // Values where they stand in fetched rows.
-ghost use Rattle.std.specs.Prelude.{◌≡◌, ◌≤◌, length};
 ghost use Rattle.row_join.specs.Joins as joins;
+ghost use Rattle.row_join.specs.Joins.{IsValue};
 ghost use Rattle.row_join.specs.Links.{value_in};
 ghost use Rattle.row_join.specs.Places.{row_at, rows_of};
 
@@ -9,8 +9,7 @@ use scql_base::Row;
 
 // The value at a place of a row, and nothing where there is none.
 fn value_among(row: &Row, place: usize) -> &[u8]
-    ensures value { result.now ≡ value_in row.now place }
-    ensures short { length result.now ≤ 200 }
+    ensures { IsValue result.now (value_in row.now place) }
 {
     // A row has no longer value.
     let _ = row.len();
@@ -22,8 +21,7 @@ fn value_among(row: &Row, place: usize) -> &[u8]
 
 // The value at a place of the row that stands at another, and nothing where there is none.
 pub(crate) fn value_of(rows: &[Row], row: usize, place: usize) -> &[u8]
-    ensures value { result.now ≡ value_in (row_at rows.now row) place }
-    ensures short { length result.now ≤ 200 }
+    ensures { IsValue result.now (value_in (row_at rows.now row) place) }
 {
     match rows.get(row) {
         Some(row) => value_among(row, place),
@@ -33,16 +31,13 @@ pub(crate) fn value_of(rows: &[Row], row: usize, place: usize) -> &[u8]
 
 /// The value of a column in a combination of objects' rows, and nothing where there is no such column. It has at most 200 octets.
 pub fn value_at<'a>(tables: &'a [Fetched], combination: &Combination, column: Column) -> &'a [u8]
-    requires { length tables.now ≤ 3 }
-    ensures value { result.now ≡ joins.value_at (rows_of tables.now combination.now.places) column }
-    ensures short { length result.now ≤ 200 }
+    ensures { IsValue result.now (joins.value_at (rows_of tables.now combination.now.places) column) }
 {
-    match tables.get(column.object) {
-        Some(table) => value_of(
-            table.rows(),
-            combination.places[column.object],
-            column.place,
-        ),
+    let Some(table) = tables.get(column.object) else {
+        return &[];
+    };
+    match combination.places.get(column.object) {
+        Some(place) => value_of(table.rows(), *place, column.place),
         None => &[],
     }
 }

@@ -9,7 +9,9 @@ use Rattle.record_store.specs.Held.{Held}
 use Rattle.record_store.specs.declared.side.Side.TheVariants.{Committed, Working}
 use Rattle.scql_base.specs.declared.words.StatusWord.{StatusWord}
 use Rattle.scql_model.specs.Database.{Database}
-use Rattle.scql_model.specs.Edits.{Edit}
+use Rattle.scql_model.specs.Edits.{Edit, with_edits}
+use Rattle.scql_model.specs.Refusals.{◌>>=◌}
+use Rattle.record_table.specs.Asking.{IsStopOf}
 use Rattle.record_table.specs.Listed.{slots_of}
 use Rattle.record_table.specs.Making.{Ends, GoesOn, IsHeld, KeepsRows, Makes, is_stop_fault}
 use Rattle.record_table.proofs.Ending.{Ends-stopped, no_fault-on}
@@ -69,6 +71,16 @@ pub Ended-before : {S T : Type 0} {chip : S → Chip} {faults : S → ℕ} {may 
     → Stand old (chip before) → chip after ≡ chip before → CountsFaults is_stop_fault (faults before) (faults after) result
     → ((db : Database) → IsHeld old.store Working (chip before) db → may db → Ends db (edits db) result old.store old.store (chip before) (chip after)) → Ended chip faults may edits before after old old result
 Ended-before {S} {T} {chip} {faults} {may} {edits} {before} {after} {old} {result} stand same counts ends = EndedBy-before stand same counts (λ db held asked. (edits db, refl, ends db held asked))
+
+-- so where a question stopped it that is answered by the outcome's refusal
+pub Ended-stopped : {S T : Type 0} {chip : S → Chip} {faults : S → ℕ} {may : Database → Type 0} {edits : Database → Result (List Edit) StatusWord} {before after : S} {old : Tables} {result : Result T Stop}
+    → (stop : Stop) → Stand old (chip before) → IsErrAnd result (λ given. given ≡ stop) → chip after ≡ chip before → CountsFaults is_stop_fault (faults before) (faults after) result
+    → ((db : Database) → IsHeld old.store Working (chip before) db → may db → IsStopOf (edits db) stop) → Ended chip faults may edits before after old old result
+Ended-stopped {edits = edits} {result = Ok x} stop stand gives same counts stops = absurd gives
+Ended-stopped {edits = edits} {result = Err (Refused word)} stop stand gives same counts stops = Ended-before stand same counts (λ db held asked.
+    let is : edits db ≡ Err word = subst (λ (stop : Stop). IsStopOf (edits db) stop) (sym gives) (stops db held asked) in
+    (ap (λ outcome. outcome >>= with_edits db) is, refl, same))
+Ended-stopped {edits = edits} {result = Err Fault} stop stand gives same counts stops = Ended-before stand same counts (λ db held asked. tt)
 
 -- An operation ends as its part that stopped it,
 pub EndedBy-stopped : {S T U : Type 0} {chip : S → Chip} {faults : S → ℕ} {may : Database → Type 0} {edits : Database → Result (List Edit) StatusWord → Type 0} {before after : S} {old new : Tables} {stop : Stop} {result : Result T Stop}

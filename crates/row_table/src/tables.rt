@@ -1,12 +1,13 @@
 // A store with the index of its rows: transactions on both, and records made and changed in them.
 ghost use Rattle.std.specs.Prelude.{◌≡◌, ◌<◌, [], ◌∷◌, Ok, Some, IsTrue, IfSome, OnOk, false, true};
 ghost use Rattle.record_store.specs.declared.side.Side.TheVariants.{Working};
-ghost use Rattle.scql_model.specs.Edits.{changing, making, stamps_end};
+ghost use Rattle.scql_model.specs.Edits.{changing, making};
 ghost use Rattle.scql_model.specs.Records.{of_row};
-ghost use Rattle.catalog_codec.specs.Catalog.{counter_kind, row_kind};
+ghost use Rattle.catalog_codec.specs.Catalog.{row_kind};
 ghost use Rattle.catalog_codec.specs.Kinds.{FitsChain, HaveOtherMarks};
 ghost use Rattle.record_table.specs.Listed.{at_slot, slots_of};
 ghost use Rattle.record_table.specs.Making.{IsValidWith, KeepsRows};
+ghost use Rattle.record_table.specs.OneRecord.{IsCounter};
 ghost use Rattle.row_table.specs.Found.{HasRowLike};
 ghost use Rattle.row_table.specs.Tables.{Begins, Commits, Ended, InTransaction, RemovesRow, RemovesRows, RollsBack};
 
@@ -64,9 +65,7 @@ impl Tables {
     ) -> Result<(), Stop>
         requires open { InTransaction self.old (B.chip bench.old) }
         requires spelled { R.can_encode value.now }
-        requires there { counter.now.slot < self.old.store.chains.cells }
-        requires left { counter.now.value < stamps_end }
-        requires counter { IfSome (slots_of self.old.store Working (B.chip bench.old)) (λ slots. Some counter.now.value ≡ at_slot counter_kind counter.now.slot slots) }
+        requires counter { IsCounter self.old.store (B.chip bench.old) counter.now }
         requires no_row { HaveOtherMarks R.kind row_kind }
         ensures ended { Ended B.chip B.faults (λ db. (R.kind.key value.now ≡ db.next) × IsValidWith db (making db (R.any value.now))) (λ db. Ok (making db (R.any value.now)))
             bench.old bench.new self.old self.new result }
@@ -85,9 +84,7 @@ impl Tables {
     ) -> Result<(), Stop>
         requires open { InTransaction self.old (B.chip bench.old) }
         requires spelled { FitsChain row_kind row.now }
-        requires there { counter.now.slot < self.old.store.chains.cells }
-        requires left { counter.now.value < stamps_end }
-        requires counter { IfSome (slots_of self.old.store Working (B.chip bench.old)) (λ slots. Some counter.now.value ≡ at_slot counter_kind counter.now.slot slots) }
+        requires counter { IsCounter self.old.store (B.chip bench.old) counter.now }
         ensures { Ended B.chip B.faults (λ db. (row.now.stamp ≡ db.next) × IsValidWith db (making db (of_row row.now))) (λ db. Ok (making db (of_row row.now)))
             bench.old bench.new self.old self.new result }
     {

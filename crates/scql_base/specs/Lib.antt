@@ -1,3 +1,4 @@
+pub mod Bounded
 pub mod Changes
 pub mod Codes
 pub mod Different

@@ -1,8 +1,9 @@
 -- Which names, conditions and changes are a list that a command or a record may have.
-use Rattle.std.specs.Prelude.{◌≡◌, ℕ, ◌≤◌, true, List, length}
+use Rattle.std.specs.Prelude.{◌≡◌, ℕ, ◌≤◌, true, List, length, map}
 use Rattle.std.specs.List.{list_all}
 use Rattle.scql_base.specs.Name.{is_name}
 use Rattle.scql_base.specs.Row.{is_narrow}
+use Rattle.scql_base.specs.declared.changes.Change.{Change}
 use Rattle.scql_base.specs.declared.condition.Condition.{Condition}
 use Rattle.scql_base.specs.declared.name_list.TheConstants.NameList as NameList
 use Rattle.scql_base.specs.declared.conditions.TheConstants.Conditions as Conditions
@@ -22,3 +23,8 @@ pub record AreChanges (changes : List (List ℕ × List ℕ)) : Type 0 where
   pub count : length changes ≤ Changes.MOST
   pub columns : list_all (λ change. is_name change.0) changes ≡ true
   pub values : list_all (λ change. is_narrow change.1) changes ≡ true
+
+-- the changes that a list gives
+pub record GivesChanges (held : List (List ℕ × List ℕ)) (given : List Change) : Type 0 where
+  pub changes : map (λ (change : Change). change.pair) given ≡ held
+  pub list : AreChanges held

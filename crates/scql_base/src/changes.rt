@@ -1,6 +1,7 @@
 // Lists of changes to the columns of a row.
-ghost use Rattle.std.specs.Prelude.{◌≡◌, ◌<◌, ◌↔◌, [], ◌∷◌, ◌++◌, IsOk, IsSome, OnOk, OnErr, length, map, option_copied, slice_get};
-ghost use Rattle.scql_base.specs.Lists.{AreChanges};
+ghost use Rattle.std.specs.Prelude.{◌≡◌, []};
+ghost use Rattle.scql_base.specs.Bounded.{Counted, Pushed};
+ghost use Rattle.scql_base.specs.Lists.{AreChanges, GivesChanges};
 ghost use Rattle.scql_base.specs.declared.changes.TheConstants.Changes.{MOST};
 
 use crate::blank::Blank;
@@ -46,36 +47,21 @@ impl Changes {
 
     /// How many changes there are.
     pub fn len(&self) -> usize
-        ensures count { result ≡ length self.now }
-        ensures list { AreChanges self.now }
+        ensures { Counted AreChanges self.now result }
     {
         self.held.len()
     }
 
-    /// The change at a place, counted from 0.
-    pub fn get(&self, place: usize) -> Option<&(Name, Octets<200>)>
-        ensures value { option_copied result ≡ slice_get self.now place }
-        ensures found { IsSome result ↔ (place < length self.now) }
-    {
-        match self.held.as_slice().get(place) {
-            Some(change) => Some(&change.pair),
-            None => None,
-        }
-    }
-
     /// The changes in their order.
     pub fn as_slice(&self) -> &[Change]
-        ensures changes { map (λ change. change.pair) result.now ≡ self.now }
-        ensures list { AreChanges self.now }
+        ensures { GivesChanges self.now result.now }
     {
         self.held.as_slice()
     }
 
     /// Adds a change at the end. A full list stays as it is.
     pub fn push(&mut self, change: (Name, Octets<200>)) -> Result<(), ListFull>
-        ensures variant { IsOk result ↔ (length self.old < MOST) }
-        ensures ok { OnOk result (self.new ≡ self.old ++ change ∷ []) }
-        ensures full { OnErr result (self.new ≡ self.old) }
+        ensures { Pushed MOST self.old change self.new result }
     {
         if self.held.is_full() {
             return Err(ListFull);

@@ -1,7 +1,5 @@
 // What a row is held against.
-ghost use Rattle.std.specs.Prelude.{◌≡◌};
-
-use crate::{Comparison, Name, Octets};
+use crate::{Comparison, Copied, Name, Octets};
 
 /// A condition on one column: the column's value, compared with the condition's.
 #[derive(Drop)]
@@ -11,11 +9,8 @@ pub struct Condition {
     pub value: Octets<200>,
 }
 
-impl Condition {
-    /// The same condition once more.
-    pub fn copy(&self) -> Condition
-        ensures { result ≡ self.now }
-    {
+impl Copied for Condition {
+    fn copy(&self) -> Condition {
         Condition {
             column: self.column.copy(),
             comparison: self.comparison,

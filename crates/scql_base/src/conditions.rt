@@ -1,10 +1,11 @@
 // Lists of conditions, all of which a row has to meet.
-ghost use Rattle.std.specs.Prelude.{◌≡◌, ◌<◌, ◌↔◌, [], ◌∷◌, ◌++◌, IsOk, IsSome, OnOk, OnErr, length, option_copied, slice_get};
+ghost use Rattle.std.specs.Prelude.{◌≡◌, []};
+ghost use Rattle.scql_base.specs.Bounded.{Counted, Pushed};
 ghost use Rattle.scql_base.specs.Lists.{AreConditions};
 ghost use Rattle.scql_base.specs.declared.conditions.TheConstants.Conditions.{MOST};
 
 use crate::blank::Blank;
-use crate::{Condition, ListFull};
+use crate::{Condition, Copied, ListFull};
 use arrayvec::ArrayVec;
 use std::marker::Model;
 
@@ -41,18 +42,9 @@ impl Conditions {
 
     /// How many conditions there are.
     pub fn len(&self) -> usize
-        ensures count { result ≡ length self.now }
-        ensures list { AreConditions self.now }
+        ensures { Counted AreConditions self.now result }
     {
         self.held.len()
-    }
-
-    /// The condition at a place, counted from 0.
-    pub fn get(&self, place: usize) -> Option<&Condition>
-        ensures value { option_copied result ≡ slice_get self.now place }
-        ensures found { IsSome result ↔ (place < length self.now) }
-    {
-        self.held.as_slice().get(place)
     }
 
     /// The conditions in their order.
@@ -65,9 +57,7 @@ impl Conditions {
 
     /// Adds a condition at the end. A full list stays as it is.
     pub fn push(&mut self, condition: Condition) -> Result<(), ListFull>
-        ensures variant { IsOk result ↔ (length self.old < MOST) }
-        ensures ok { OnOk result (self.new ≡ self.old ++ condition ∷ []) }
-        ensures full { OnErr result (self.new ≡ self.old) }
+        ensures { Pushed MOST self.old condition self.new result }
     {
         if self.held.is_full() {
             return Err(ListFull);
@@ -77,11 +67,10 @@ impl Conditions {
         self.held.push(condition);
         Ok(())
     }
+}
 
-    /// The same conditions once more.
-    pub fn copy(&self) -> Conditions
-        ensures { result ≡ self.now }
-    {
+impl Copied for Conditions {
+    fn copy(&self) -> Conditions {
         let mut held = ArrayVec::new_in(Blank);
         for condition in self.held.as_slice() {
             held.push(condition.copy());

@@ -1,7 +1,5 @@
 // What a session keeps: its user, and where it reads.
-ghost use Rattle.std.specs.Prelude.{◌≡◌};
-
-use crate::{Conditions, NameList};
+use crate::{Conditions, Copied, NameList};
 
 /// Where a cursor stands: before its first opening, at the row of a stamp, or past the last row.
 #[derive(Clone, Copy, PartialEq, Eq, Debug)]
@@ -20,11 +18,8 @@ pub struct Cursor {
     pub place: Place,
 }
 
-impl Cursor {
-    /// The same cursor once more.
-    pub fn copy(&self) -> Cursor
-        ensures { result ≡ self.now }
-    {
+impl Copied for Cursor {
+    fn copy(&self) -> Cursor {
         Cursor {
             object: self.object,
             columns: self.columns.copy(),

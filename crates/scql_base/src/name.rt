@@ -4,6 +4,7 @@ ghost use Rattle.std.specs.List.{list_all};
 ghost use Rattle.scql_base.specs.Name as names;
 ghost use Rattle.scql_base.specs.declared.name.TheConstants.Name.{LONGEST};
 
+use crate::Copied;
 use std::marker::Model;
 
 /// A name: 1 to 8 octets, a letter `A` to `Z`, then letters, digits `0` to `9` and `_`.
@@ -69,16 +70,6 @@ impl Name {
         let _ = &self.len;
     }
 
-    /// The same name once more.
-    pub fn copy(&self) -> Name
-        ensures { result ≡ self.now }
-    {
-        Name {
-            octets: self.octets,
-            len: self.len,
-        }
-    }
-
     // The name of these octets, which are one.
     fn holding(octets: &[u8]) -> Name
         requires { names.IsName octets.now }
@@ -89,6 +80,15 @@ impl Name {
         Name {
             octets: held,
             len: octets.len() as u8,
+        }
+    }
+}
+
+impl Copied for Name {
+    fn copy(&self) -> Name {
+        Name {
+            octets: self.octets,
+            len: self.len,
         }
     }
 }

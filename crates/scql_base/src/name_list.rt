@@ -1,13 +1,14 @@
 // Lists of names, as the columns of a table.
-ghost use Rattle.std.specs.Prelude.{◌≡◌, ◌<◌, ◌↔◌, [], ◌∷◌, ◌++◌, IsOk, IsSome, OnOk, OnErr, length, option_copied, slice_get};
+ghost use Rattle.std.specs.Prelude.{◌≡◌, []};
 ghost use Rattle.std.specs.List.{list_any};
 ghost use Rattle.std.specs.Str.{bytes_eq};
-ghost use Rattle.scql_base.specs.Different as different;
+ghost use Rattle.scql_base.specs.Different.{TellsDifferent};
+ghost use Rattle.scql_base.specs.Bounded.{Counted, Pushed};
 ghost use Rattle.scql_base.specs.Lists.{AreNames};
 ghost use Rattle.scql_base.specs.declared.name_list.TheConstants.NameList.{MOST};
 
 use crate::blank::Blank;
-use crate::{ListFull, Name};
+use crate::{Copied, ListFull, Name};
 use arrayvec::ArrayVec;
 use std::marker::Model;
 
@@ -43,18 +44,9 @@ impl NameList {
 
     /// How many names there are.
     pub fn len(&self) -> usize
-        ensures count { result ≡ length self.now }
-        ensures list { AreNames self.now }
+        ensures { Counted AreNames self.now result }
     {
         self.held.len()
-    }
-
-    /// The name at a place, counted from 0.
-    pub fn get(&self, place: usize) -> Option<&Name>
-        ensures value { option_copied result ≡ slice_get self.now place }
-        ensures found { IsSome result ↔ (place < length self.now) }
-    {
-        self.held.as_slice().get(place)
     }
 
     /// The names in their order.
@@ -74,8 +66,7 @@ impl NameList {
 
     /// Whether no name is in the list twice.
     pub fn are_different(&self) -> bool
-        ensures different { result ≡ different.are_different self.now }
-        ensures list { AreNames self.now }
+        ensures { TellsDifferent self.now result }
     {
         let mut rest = self.as_slice();
         while let [name, others @ ..] = rest {
@@ -89,9 +80,7 @@ impl NameList {
 
     /// Adds a name at the end. A full list stays as it is.
     pub fn push(&mut self, name: Name) -> Result<(), ListFull>
-        ensures variant { IsOk result ↔ (length self.old < MOST) }
-        ensures ok { OnOk result (self.new ≡ self.old ++ name ∷ []) }
-        ensures full { OnErr result (self.new ≡ self.old) }
+        ensures { Pushed MOST self.old name self.new result }
     {
         if self.held.is_full() {
             return Err(ListFull);
@@ -100,11 +89,10 @@ impl NameList {
         self.held.push(name);
         Ok(())
     }
+}
 
-    /// The same names once more.
-    pub fn copy(&self) -> NameList
-        ensures { result ≡ self.now }
-    {
+impl Copied for NameList {
+    fn copy(&self) -> NameList {
         let mut held = ArrayVec::new_in(Blank);
         for name in self.held.as_slice() {
             held.push(name.copy());

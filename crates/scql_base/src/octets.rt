@@ -1,7 +1,8 @@
 // Octet strings of a bounded length.
 ghost use Rattle.std.specs.Prelude.{◌≡◌, ◌≤◌, ◌↔◌, [], IsSome, length};
-ghost use Rattle.scql_base.specs.Octets.{within};
+ghost use Rattle.scql_base.specs.Octets.{GivesOctets, within};
 
+use crate::Copied;
 use arrayvec::ArrayVec;
 use std::marker::Model;
 
@@ -45,8 +46,7 @@ impl<const CAP: usize> Octets<CAP> {
 
     /// The octets themselves.
     pub fn as_slice(&self) -> &[u8]
-        ensures octets { result.now ≡ self.now }
-        ensures fits { length result.now ≤ CAP }
+        ensures { GivesOctets CAP self.now result.now }
     {
         self.held.as_slice()
     }
@@ -57,11 +57,10 @@ impl<const CAP: usize> Octets<CAP> {
     {
         let _ = &self.held;
     }
+}
 
-    /// The same string once more.
-    pub fn copy(&self) -> Self
-        ensures { result ≡ self.now }
-    {
+impl<const CAP: usize> Copied for Octets<CAP> {
+    fn copy(&self) -> Self {
         let mut held = ArrayVec::new();
         let copied = held.try_extend_from_slice(self.held.as_slice()).is_ok();
         prove!(copied);

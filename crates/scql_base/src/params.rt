@@ -1,5 +1,6 @@
 // The parameters of a command: the strings that its data field splits into.
-ghost use Rattle.std.specs.Prelude.{◌≡◌, ◌≢◌, ◌<◌, ◌↔◌, ◌==◌, ℕ, List, [], ◌∷◌, Some, None, if◌then◌else◌, IsSome, IfSome, IfNone, length, option_copied, option_map, slice_get};
+ghost use Rattle.std.specs.Prelude.{◌≡◌, ◌≢◌, ◌<◌, ◌==◌, ℕ, List, [], ◌∷◌, Some, None, if◌then◌else◌, IfSome, IfNone, length, option_map};
+ghost use Rattle.scql_base.specs.Bounded.{HasAt};
 ghost use Rattle.scql_base.specs.Strings.{AreParams, first_of, params_of, with_string};
 
 use std::marker::Model;
@@ -42,8 +43,7 @@ impl<'a> Params<'a> {
 
     /// The parameter at a place, counted from 0.
     pub fn get(&self, place: usize) -> Option<&'a [u8]>
-        ensures value { option_copied result ≡ slice_get self.now place }
-        ensures found { IsSome result ↔ (place < length self.now) }
+        ensures { HasAt self.now place result }
     {
         let mut rest = self.octets;
         for _ in 0..place {

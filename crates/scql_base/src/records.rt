@@ -1,8 +1,6 @@
 // The records of a database, of each kind. Stamps number users, objects, grants and rows in the order in which they were made;
 // an owner, a base, an object and a grantee are stamps of others.
-ghost use Rattle.std.specs.Prelude.{◌≡◌};
-
-use crate::{Conditions, Name, NameList, Octets, Privileges, Profile, Row, Subject};
+use crate::{Conditions, Copied, Name, NameList, Octets, Privileges, Profile, Row, Subject};
 
 /// A user. Without a secret there are always three tries.
 #[derive(Drop)]
@@ -29,11 +27,10 @@ impl User {
 
     /// How often a secret may be presented after one that was right.
     pub const ALL_TRIES: u8 = 3;
+}
 
-    /// The same user once more.
-    pub fn copy(&self) -> User
-        ensures { result ≡ self.now }
-    {
+impl Copied for User {
+    fn copy(&self) -> User {
         User {
             stamp: self.stamp,
             name: self.name.copy(),
@@ -62,11 +59,8 @@ pub enum ObjectKind {
     },
 }
 
-impl ObjectKind {
-    /// The same kind once more.
-    pub fn copy(&self) -> ObjectKind
-        ensures { result ≡ self.now }
-    {
+impl Copied for ObjectKind {
+    fn copy(&self) -> ObjectKind {
         match self {
             ObjectKind::Table { columns } => ObjectKind::Table {
                 columns: columns.copy(),
@@ -104,11 +98,10 @@ impl Object {
 
     /// The octets of the longest record of an object.
     pub const LONGEST: usize = 512;
+}
 
-    /// The same object once more.
-    pub fn copy(&self) -> Object
-        ensures { result ≡ self.now }
-    {
+impl Copied for Object {
+    fn copy(&self) -> Object {
         Object {
             stamp: self.stamp,
             name: self.name.copy(),
@@ -133,6 +126,12 @@ impl Grant {
     pub const MARK: u8 = 0x05;
 }
 
+impl Copied for Grant {
+    fn copy(&self) -> Grant {
+        *self
+    }
+}
+
 /// A row of a table.
 #[derive(Drop)]
 pub struct RowRecord {
@@ -147,11 +146,10 @@ impl RowRecord {
 
     /// The octets of the longest record of a row: its mark, two stamps and the row.
     pub const LONGEST: usize = 9 + Row::LARGEST;
+}
 
-    /// The same row once more.
-    pub fn copy(&self) -> RowRecord
-        ensures { result ≡ self.now }
-    {
+impl Copied for RowRecord {
+    fn copy(&self) -> RowRecord {
         RowRecord {
             stamp: self.stamp,
             table: self.table,

@@ -1,12 +1,13 @@
 // Rows of values.
-ghost use Rattle.std.specs.Prelude.{◌≡◌, ◌<◌, ◌≤◌, ◌+◌, ◌↔◌, [], ◌∷◌, ◌++◌, Ok, Err, IsSome, OnErr, OnOk, IfErr, length, option_and_then, option_copied, option_map, slice_get};
+ghost use Rattle.std.specs.Prelude.{◌≡◌, ◌<◌, ◌≤◌, ◌+◌, [], ◌∷◌, ◌++◌, Ok, Err, OnErr, OnOk, IfErr, length, option_and_then, option_map};
 ghost use Rattle.std.specs.List.{flat_map};
+ghost use Rattle.scql_base.specs.Bounded.{HasAt};
 ghost use Rattle.scql_base.specs.Strings.{params_of, spelled};
 ghost use Rattle.scql_base.specs.Row.{IsRow, narrow_count, row_from, row_size, with_value};
 ghost use Rattle.scql_base.specs.declared.row.TheConstants.Row.{LARGEST, LONGEST_VALUE};
 
-use crate::RowRefusal;
 use crate::params::Params;
+use crate::{Copied, RowRefusal};
 use arrayvec::ArrayVec;
 use std::marker::Model;
 
@@ -102,8 +103,7 @@ impl Row {
 
     /// The value at a place, counted from 0.
     pub fn get(&self, place: usize) -> Option<&[u8]>
-        ensures value { option_copied result ≡ slice_get self.now place }
-        ensures found { IsSome result ↔ (place < length self.now) }
+        ensures { HasAt self.now place result }
     {
         Params {
             octets: self.octets.as_slice(),
@@ -128,11 +128,10 @@ impl Row {
         self.count += 1;
         Ok(())
     }
+}
 
-    /// The same row once more.
-    pub fn copy(&self) -> Row
-        ensures { result ≡ self.now }
-    {
+impl Copied for Row {
+    fn copy(&self) -> Row {
         let mut octets = ArrayVec::new();
         let copied = octets.try_extend_from_slice(self.octets.as_slice()).is_ok();
         prove!(copied);

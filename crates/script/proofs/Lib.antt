@@ -11,3 +11,4 @@ pub mod Locality
 pub mod ReadingRows
 pub mod Sendable
 pub mod Undoubling
+pub mod Within

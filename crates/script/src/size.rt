@@ -5,7 +5,7 @@ ghost use Rattle.script.specs.Sizes as sizes;
 
 use crate::Statement;
 use apdu::field_fits;
-use scql_base::{Changes, Conditions, Name, NameList, Operation, PackedChanges, Row};
+use scql_base::{Changes, Conditions, Copied, Name, NameList, Operation, PackedChanges, Row};
 
 /// Is a row of this statement, or one of its commands, too large?
 pub(crate) fn is_too_large(statement: &Statement) -> bool

@@ -1,5 +1,5 @@
 // How long a token is.
-ghost use Rattle.std.specs.Prelude.{◌≡◌, ◌≤◌, false, length, option_map, ◌+◌, unwrap_or};
+ghost use Rattle.std.specs.Prelude.{◌≡◌, false, option_map, ◌+◌, unwrap_or};
 ghost use Rattle.scql_base.specs.Name.{is_name_octet};
 ghost use Rattle.scql_model.specs.Lines.{is_blank};
 ghost use Rattle.script.specs.Tokens as tokens;
@@ -7,8 +7,7 @@ ghost use Rattle.script.specs.Tokens as tokens;
 /// How many octets of a line are its first token, which begins with the line's first octet.
 /// Octets that begin no token are one, up to the line's end.
 pub(crate) fn token_len(line: &[u8]) -> usize
-    ensures value { result ≡ tokens.token_len line.now }
-    ensures within { result ≤ length line.now }
+    ensures { result ≡ tokens.token_len line.now }
 {
     let len = word_len(line)
         .max(number_len(line))
@@ -26,8 +25,7 @@ pub(crate) fn is_blank(octet: u8) -> bool
 }
 
 fn word_len(line: &[u8]) -> usize
-    ensures value { result ≡ tokens.word_len line.now }
-    ensures within { result ≤ length line.now }
+    ensures { result ≡ tokens.word_len line.now }
 {
     if begins_word(line) {
         name_octets(line)
@@ -37,8 +35,7 @@ fn word_len(line: &[u8]) -> usize
 }
 
 fn name_octets(line: &[u8]) -> usize
-    ensures value { result ≡ tokens.name_octets line.now }
-    ensures within { result ≤ length line.now }
+    ensures { result ≡ tokens.name_octets line.now }
 {
     line.iter()
         .take_while(|octet| is_name_octet(**octet))
@@ -61,8 +58,7 @@ fn is_name_octet(octet: u8) -> bool
 }
 
 fn number_len(line: &[u8]) -> usize
-    ensures value { result ≡ tokens.number_len line.now }
-    ensures within { result ≤ length line.now }
+    ensures { result ≡ tokens.number_len line.now }
 {
     line.iter()
         .take_while(|octet| octet.is_ascii_digit())
@@ -70,8 +66,7 @@ fn number_len(line: &[u8]) -> usize
 }
 
 fn literal_len(line: &[u8]) -> usize
-    ensures value { result ≡ tokens.literal_len line.now }
-    ensures within { result ≤ length line.now }
+    ensures { result ≡ tokens.literal_len line.now }
 {
     match line {
         [b'\'', rest @ ..] => closed(rest),
@@ -81,8 +76,7 @@ fn literal_len(line: &[u8]) -> usize
 
 // How many octets a literal has of which these stand behind its first quote; none where it isn't closed.
 fn closed(rest: &[u8]) -> usize
-    ensures value { result ≡ unwrap_or (option_map (λ n. n + 1) (tokens.closed false rest.now)) 0 }
-    ensures within { result ≤ length rest.now + 1 }
+    ensures { result ≡ unwrap_or (option_map (λ n. n + 1) (tokens.closed false rest.now)) 0 }
 {
     let mut len = 0;
     let mut behind = false;
@@ -100,8 +94,7 @@ fn closed(rest: &[u8]) -> usize
 }
 
 fn hexadecimal_len(line: &[u8]) -> usize
-    ensures value { result ≡ tokens.hexadecimal_len line.now }
-    ensures within { result ≤ length line.now }
+    ensures { result ≡ tokens.hexadecimal_len line.now }
 {
     if !line.starts_with(b"X'") {
         return 0;
@@ -116,8 +109,7 @@ fn hexadecimal_len(line: &[u8]) -> usize
 }
 
 fn digits_len(rest: &[u8]) -> usize
-    ensures value { result ≡ tokens.digits_len rest.now }
-    ensures within { result ≤ length rest.now }
+    ensures { result ≡ tokens.digits_len rest.now }
 {
     rest.iter()
         .take_while(|octet| octet.is_ascii_hexdigit())
@@ -125,8 +117,7 @@ fn digits_len(rest: &[u8]) -> usize
 }
 
 fn sign_len(line: &[u8]) -> usize
-    ensures value { result ≡ tokens.sign_len line.now }
-    ensures within { result ≤ length line.now }
+    ensures { result ≡ tokens.sign_len line.now }
 {
     match line {
         [b'<', b'=' | b'>', ..] | [b'>', b'=', ..] => 2,

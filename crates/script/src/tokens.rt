@@ -98,8 +98,7 @@ pub(crate) fn after_blanks(line: &[u8]) -> &[u8]
 }
 
 fn blanks_len(line: &[u8]) -> usize
-    ensures value { result ≡ tokens.blanks_len line.now }
-    ensures within { result ≤ length line.now }
+    ensures { result ≡ tokens.blanks_len line.now }
 {
     line.iter().take_while(|octet| is_blank(**octet)).count()
 }

@@ -7,7 +7,7 @@ use crate::Placed;
 use crate::comparing::compares;
 use crate::placed::Blank;
 use arrayvec::ArrayVec;
-use scql_base::{Condition, Conditions, Name, NameList, Row};
+use scql_base::{Condition, Conditions, Copied, Name, NameList, Row};
 use std::marker::Model;
 
 /// Conditions on the rows of some columns, each at the place of its column.

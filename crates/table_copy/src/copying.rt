@@ -1,16 +1,14 @@
 // A copy: from a SELECT on the source into a transaction on the destination, a row at a time.
-ghost use Rattle.std.specs.Prelude.{◌≡◌, ℕ, List, ◌∷◌, length, IsTrue, OnOk, Ok, Result};
-ghost use Rattle.scql_base.specs.declared.words.StatusWord.{StatusWord as ModelWord};
+ghost use Rattle.std.specs.Prelude.{◌≡◌, List, ◌∷◌, length, IsTrue, Ok};
 ghost use Rattle.scql_model.specs.Database.{Database};
 ghost use Rattle.scql_model.specs.Machine.{Machine};
 ghost use Rattle.scql_model.specs.Matching.{Values};
 ghost use Rattle.card_link.specs.Link.{IsOneOf};
-ghost use Rattle.card_asking.specs.Following.{ComesOn};
 ghost use Rattle.table_copy.specs.Copy as model;
-ghost use Rattle.table_copy.specs.Copying.{StaysAt, UndoneSo};
-ghost use Rattle.table_copy.specs.Filling.{CopiesAt, FillsSo, GivesAll, HasRow, IsCommitted, IsFetching, IsFilled, IsFilling, PutsSo, Together, TurnsSo, commits_by, counted_by, has_row as model_has_row, with_row};
-ghost use Rattle.table_copy.specs.Leaving.{CanGoOn, ComesTo, CopiesOver, CopyLeaves, DestLeaves, FetchesOver, FillsOver, PieceLeaves, ReadsOver};
-ghost use Rattle.table_copy.specs.Progress.{ShowsRows};
+ghost use Rattle.table_copy.specs.Copying.{UndoneSo};
+ghost use Rattle.table_copy.specs.Filling.{CopiesAt, FillsSo, GivesAll, HasRow, IsCommitted, IsFetching, IsFilled, IsFilling, PutsSo, TurnsSo, commits_by, counted_by, has_row as model_has_row};
+ghost use Rattle.table_copy.specs.Leaving.{CanGoOn, ComesTo, CopiesOver, CopyLeaves, DestLeaves, FillsOver, ReadsOver};
+ghost use Rattle.table_copy.specs.Pieces.{CopyEnds, RowsOver, TurnsOver};
 
 use crate::CopyEnd;
 use crate::dest::{begin, commit, insert, roll_back};
@@ -52,12 +50,7 @@ fn turn<S: CardLink, D: CardLink>(
     fetching: &mut Fetching,
 ) -> Result<(), CopyEnd>
     requires { CanGoOn S.is_live D.is_live fetching.old.step source.old dest.old }
-    ensures turns { (s d : Machine) (count passed : ℕ) (total : Result Database ModelWord) → Together S.is_at D.is_at s d count passed table.now total fetching.old.plan fetching.old.step source.old dest.old
-        → TurnsSo total result (λ _. Together S.is_at D.is_at s d count (with_row (model_has_row fetching.old.step) passed) table.now total fetching.new.plan fetching.new.step source.new dest.new) }
-    ensures reads { (s : Machine) → IsFetching S.is_at s fetching.old.plan fetching.old.step source.old → FetchesOver S.is_at S.mark S.chip s result (IsFetching S.is_at s fetching.new.plan fetching.new.step source.new) source.old source.new }
-    ensures fills { (d : Machine) → IsFilling D.is_at d dest.old → FillsOver D.is_at D.mark D.chip d result dest.old dest.new }
-    ensures leaves { PieceLeaves S.is_live S.faults S.mark S.keeps S.goes_on D.is_live D.faults D.mark D.keeps D.goes_on result source.old source.new dest.old dest.new }
-    ensures comes_on { OnOk result (ComesOn fetching.old.plan fetching.old.step fetching.new.plan fetching.new.step) }
+    ensures { TurnsOver S.is_at S.is_live S.faults S.mark S.chip S.keeps S.goes_on D.is_at D.is_live D.faults D.mark D.chip D.keeps D.goes_on table.now fetching.old.plan fetching.old.step result fetching.new.plan fetching.new.step source.old source.new dest.old dest.new }
 {
     match put_row(
         dest,
@@ -80,12 +73,9 @@ fn insert_rows<S: CardLink, D: CardLink, P: Person>(
     person: &mut P,
 ) -> Result<u32, CopyEnd>
     requires { CanGoOn S.is_live D.is_live fetching.old.step source.old dest.old }
-    ensures turns { (s d : Machine) (count : ℕ) (total : Result Database ModelWord) → Together S.is_at D.is_at s d count 0 table.now total fetching.old.plan fetching.old.step source.old dest.old
-        → TurnsSo total result (λ number. IsFilled D.is_at d count total number dest.new) }
-    ensures reads { (s : Machine) → IsFetching S.is_at s fetching.old.plan fetching.old.step source.old → FetchesOver S.is_at S.mark S.chip s result (StaysAt S.is_at s source.new) source.old source.new }
-    ensures fills { (d : Machine) → IsFilling D.is_at d dest.old → FillsOver D.is_at D.mark D.chip d result dest.old dest.new }
-    ensures leaves { PieceLeaves S.is_live S.faults S.mark S.keeps S.goes_on D.is_live D.faults D.mark D.keeps D.goes_on result source.old source.new dest.old dest.new }
-    ensures shows { ShowsRows P.lost P.shown result person.old person.new }
+    ensures { RowsOver (λ d count total. TurnsSo total result (λ number. IsFilled D.is_at d count total number dest.new)) (λ d. FillsOver D.is_at D.mark D.chip d result dest.old dest.new)
+        S.is_at S.is_live S.faults S.mark S.chip S.keeps S.goes_on D.is_at D.is_live D.faults D.mark D.keeps D.goes_on P.lost P.shown
+        table.now fetching.old.plan fetching.old.step result source.old source.new dest.old dest.new person.old person.new }
 {
     let mut rows = 0;
     loop {
@@ -112,12 +102,9 @@ fn fill<S: CardLink, D: CardLink, P: Person>(
     person: &mut P,
 ) -> Result<u32, CopyEnd>
     requires { CanGoOn S.is_live D.is_live fetching.old.step source.old dest.old }
-    ensures turns { (s d : Machine) (count : ℕ) (total : Result Database ModelWord) → Together S.is_at D.is_at s d count 0 table.now total fetching.old.plan fetching.old.step source.old dest.old
-        → ComesTo (IsOneOf (D.mark dest.old) (d.committed ∷ commits_by total)) D.chip (TurnsSo total result (λ number. IsCommitted D.is_at d count total number dest.new)) dest.old dest.new }
-    ensures reads { (s : Machine) → IsFetching S.is_at s fetching.old.plan fetching.old.step source.old → FetchesOver S.is_at S.mark S.chip s result (StaysAt S.is_at s source.new) source.old source.new }
-    ensures fills { (d : Machine) → IsFilling D.is_at d dest.old → FillsSo D.is_at d result dest.new }
-    ensures leaves { PieceLeaves S.is_live S.faults S.mark S.keeps S.goes_on D.is_live D.faults D.mark D.keeps D.goes_on result source.old source.new dest.old dest.new }
-    ensures shows { ShowsRows P.lost P.shown result person.old person.new }
+    ensures { RowsOver (λ d count total. ComesTo (IsOneOf (D.mark dest.old) (d.committed ∷ commits_by total)) D.chip (TurnsSo total result (λ number. IsCommitted D.is_at d count total number dest.new)) dest.old dest.new) (λ d. FillsSo D.is_at d result dest.new)
+        S.is_at S.is_live S.faults S.mark S.chip S.keeps S.goes_on D.is_at D.is_live D.faults D.mark D.keeps D.goes_on P.lost P.shown
+        table.now fetching.old.plan fetching.old.step result source.old source.new dest.old dest.new person.old person.new }
 {
     match insert_rows(source, dest, table, fetching, person) {
         Ok(rows) => counted(rows, commit(dest, &mut fetching.reply)),
@@ -173,10 +160,8 @@ pub fn copy<S: CardLink, D: CardLink, P: Person>(
     person: &mut P,
 ) -> CopyEnd
     requires live { IsTrue (S.is_live source.old) × IsTrue (D.is_live dest.old) }
-    ensures copied { (s d : Machine) → S.is_at source.old s → D.is_at dest.old d → CopiesOver D.is_at D.mark D.chip d (model.copy s d object.now table.now) result dest.old dest.new }
-    ensures undone { (d : Machine) → D.is_at dest.old d → UndoneSo D.is_at d result dest.new }
-    ensures read { (s : Machine) → S.is_at source.old s → ReadsOver S.is_at S.is_live S.mark S.chip s source.old source.new }
-    ensures leaves { CopyLeaves S.is_live S.faults S.mark S.keeps S.goes_on D.is_live D.faults D.mark D.keeps D.goes_on P.lost P.shown result source.old source.new dest.old dest.new person.old person.new }
+    ensures { CopyEnds S.is_at S.is_live S.faults S.mark S.chip S.keeps S.goes_on D.is_at D.is_live D.faults D.mark D.chip D.keeps D.goes_on P.lost P.shown (λ s d. model.copy s d object.now table.now) result
+        source.old source.new dest.old dest.new person.old person.new }
 {
     let plan = Plan::start(selection(object), 0, false);
     let mut fetching = Fetching {

@@ -1,27 +1,25 @@
 // The destination of a copy: a transaction on channel 0, into which rows are put.
-ghost use Rattle.std.specs.Prelude.{◌≡◌, ℕ, List, [], ◌∷◌, IfSome, IsTrue, Some, true};
+ghost use Rattle.std.specs.Prelude.{◌≡◌, ◌∷◌, IfSome, IsTrue, Some, true};
 ghost use Rattle.scql_base.specs.declared.operation.Operation.TheVariants.{Insert};
-ghost use Rattle.scql_model.specs.Database.{Database};
-ghost use Rattle.scql_model.specs.Machine.{Machine, actor};
+ghost use Rattle.scql_model.specs.Machine.{Machine};
 ghost use Rattle.scql_model.specs.Matching.{Values};
 ghost use Rattle.scql_model.specs.ReadingCommands.{row_octets};
 ghost use Rattle.scql_model.specs.Records.{is_row};
 ghost use Rattle.script.specs.Commands as commands;
-ghost use Rattle.script.specs.Commands.{IsSendable};
 ghost use Rattle.card_link.specs.Link.{Answered, Holds, IsOneOf};
 ghost use Rattle.planner.specs.Meaning.{answer_to};
-ghost use Rattle.table_copy.specs.Copy.{may_begin, row_copied};
 ghost use Rattle.card_asking.specs.Calls.{HasGoneOn};
 ghost use Rattle.table_copy.specs.Copying.{StaysAt};
-ghost use Rattle.table_copy.specs.Filling.{BeginsSo, CommitsSo, CopiesAt, InsertsSo, IsFilling, IsInsertion, RollsBackSo, UnlessDestMute, done_by};
-ghost use Rattle.table_copy.specs.Leaving.{ComesTo, DestLeaves, FillsOver};
+ghost use Rattle.table_copy.specs.Filling.{IsFilling, IsInsertion, RollsBackSo, UnlessDestMute, done_by};
+ghost use Rattle.table_copy.specs.Leaving.{ComesTo, DestLeaves};
+ghost use Rattle.table_copy.specs.Pieces.{BeginsOver, CommitsOver, InsertsOver, MayPut};
 ghost use Rattle.table_copy.specs.declared.copy_end.CopyEnd.TheVariants.{DestMute};
 
 use crate::CopyEnd;
 use apdu::Reply;
 use card_asking::ask;
 use card_link::CardLink;
-use scql_base::{Command, Name, Operation, Row, StatusWord};
+use scql_base::{Command, Copied, Name, Operation, Row, StatusWord};
 
 // An operation as a command of channel 0.
 fn asking(operation: Operation) -> Command
@@ -47,8 +45,7 @@ fn done(word: StatusWord) -> Result<(), CopyEnd>
 
 // Asks the destination for something. Each word but 9000 is a refusal.
 fn put<L: CardLink>(dest: &mut L, command: &Command, reply: &mut Reply) -> Result<(), CopyEnd>
-    requires live { IsTrue (L.is_live dest.old) }
-    requires sendable { IsSendable command.now }
+    requires { MayPut L.is_live command.now dest.old }
     ensures answers { (m : Machine) → L.is_at dest.old m
         → ComesTo (IsOneOf (L.mark dest.old) (m.committed ∷ (answer_to m command.now).commits)) L.chip (UnlessDestMute result (Answered L.is_at (answer_to m command.now) reply.new dest.new)) dest.old dest.new }
     ensures done { UnlessDestMute result (result ≡ done_by reply.new.word) }
@@ -63,8 +60,7 @@ fn put<L: CardLink>(dest: &mut L, command: &Command, reply: &mut Reply) -> Resul
 /// BEGIN.
 pub fn begin<L: CardLink>(dest: &mut L, reply: &mut Reply) -> Result<(), CopyEnd>
     requires live { IsTrue (L.is_live dest.old) }
-    ensures begins { (d : Machine) → L.is_at dest.old d → ComesTo (Holds (L.mark dest.old) d.committed) L.chip (BeginsSo L.is_at d (may_begin d) result dest.new) dest.old dest.new }
-    ensures leaves { DestLeaves L.is_live L.faults L.mark L.keeps L.goes_on result dest.old dest.new }
+    ensures { BeginsOver L.is_at L.is_live L.faults L.mark L.chip L.keeps L.goes_on result dest.old dest.new }
 {
     put(dest, &asking(Operation::Begin), reply)
 }
@@ -93,10 +89,7 @@ pub fn insert<L: CardLink>(
     reply: &mut Reply,
 ) -> Result<(), CopyEnd>
     requires live { IsTrue (L.is_live dest.old) }
-    ensures inserts { (d : Machine) (db : Database) (row : Values) → CopiesAt L.is_at d db dest.old → octets.now ≡ row_octets row → is_row row ≡ true
-        → InsertsSo L.is_at d db (row_copied d.committed.limit (actor d 0) table.now db row) result dest.new }
-    ensures fills { (d : Machine) → IsFilling L.is_at d dest.old → FillsOver L.is_at L.mark L.chip d result dest.old dest.new }
-    ensures leaves { DestLeaves L.is_live L.faults L.mark L.keeps L.goes_on result dest.old dest.new }
+    ensures { InsertsOver L.is_at L.is_live L.faults L.mark L.chip L.keeps L.goes_on table.now octets.now result dest.old dest.new }
 {
     match insertion(table, octets) {
         Some(command) => put(dest, &command, reply),
@@ -109,9 +102,7 @@ pub fn insert<L: CardLink>(
 /// COMMIT.
 pub fn commit<L: CardLink>(dest: &mut L, reply: &mut Reply) -> Result<(), CopyEnd>
     requires live { IsTrue (L.is_live dest.old) }
-    ensures commits { (d : Machine) (db : Database) → CopiesAt L.is_at d db dest.old
-        → ComesTo (IsOneOf (L.mark dest.old) (d.committed ∷ db ∷ [])) L.chip (CommitsSo L.is_at d db result dest.new) dest.old dest.new }
-    ensures leaves { DestLeaves L.is_live L.faults L.mark L.keeps L.goes_on result dest.old dest.new }
+    ensures { CommitsOver L.is_at L.is_live L.faults L.mark L.chip L.keeps L.goes_on result dest.old dest.new }
 {
     put(dest, &asking(Operation::Commit), reply)
 }

@@ -1,24 +1,21 @@
 // The source of a copy: a SELECT of all columns, followed step by step.
 ghost use Rattle.std.specs.Prelude.{◌≡◌, ℕ, List, [], Ok, Err, IsTrue, OnOk, false};
 ghost use Rattle.scql_model.specs.Machine.{Machine};
-ghost use Rattle.scql_model.specs.Matching.{Values};
 ghost use Rattle.script.specs.declared.statement.Statement.TheVariants.{Select};
 ghost use Rattle.script.specs.Commands.{CanBeSent, IsSendable};
-ghost use Rattle.card_link.specs.Link.{Holds, LeavesOpen};
-ghost use Rattle.planner.specs.declared.closing.Closing.{Closing as ModelClosing};
+ghost use Rattle.card_link.specs.Link.{Holds};
 ghost use Rattle.planner.specs.Planned.{IfSent, started};
-ghost use Rattle.card_asking.specs.Following.{ComesOn};
-ghost use Rattle.card_asking.specs.Giving.{GivesRows};
 ghost use Rattle.table_copy.specs.Copy.{source_rows};
 ghost use Rattle.table_copy.specs.Filling.{OpensSo, fetched_by, goes_on_by};
-ghost use Rattle.table_copy.specs.Leaving.{Advances, ComesTo, SourceLeaves};
+ghost use Rattle.table_copy.specs.Leaving.{ComesTo, SourceLeaves};
+ghost use Rattle.table_copy.specs.Pieces.{AdvancesOver, MayAdvance};
 
 use crate::CopyEnd;
 use crate::fetching::Fetching;
 use card_asking::follow;
 use card_link::CardLink;
 use planner::{Closing, Step};
-use scql_base::{Conditions, Name, NameList, StatusWord};
+use scql_base::{Conditions, Copied, Name, NameList, StatusWord};
 use script::Statement;
 
 /// The SELECT of all columns and all rows of an object.
@@ -59,13 +56,8 @@ pub fn goes_on(step: &Step) -> Result<(), CopyEnd>
 
 /// Follows a step of the source's plan. Where it was refused the copy ends.
 pub fn advance<L: CardLink>(source: &mut L, fetching: &mut Fetching) -> Result<(), CopyEnd>
-    requires live { IsTrue (L.is_live source.old) }
-    requires sendable { IfSent fetching.old.step IsSendable }
-    ensures advances { Advances L.is_at fetching.old.plan fetching.old.step fetching.old.reply source.old result fetching.new.plan fetching.new.step fetching.new.reply source.new }
-    ensures still { (m last : Machine) (closing : ModelClosing) (rows : List Values) → GivesRows L.is_at m closing last rows fetching.old.plan fetching.old.step source.old
-        → LeavesOpen (Holds (L.mark source.old) m.committed) (L.chip source.old) (L.chip source.new) }
-    ensures comes_on { OnOk result (ComesOn fetching.old.plan fetching.old.step fetching.new.plan fetching.new.step) }
-    ensures leaves { SourceLeaves L.is_live L.faults L.mark L.keeps L.goes_on result source.old source.new }
+    requires { MayAdvance L.is_live fetching.old.step source.old }
+    ensures { AdvancesOver L.is_at L.is_live L.faults L.mark L.chip L.keeps L.goes_on fetching.old.plan fetching.old.step fetching.old.reply result fetching.new.plan fetching.new.step fetching.new.reply source.old source.new }
 {
     match follow(
         source,

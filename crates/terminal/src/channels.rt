@@ -3,7 +3,6 @@ ghost use Rattle.std.specs.Prelude.{◌≡◌, ◌≤◌, ◌==◌, length, IfOk
 ghost use Rattle.script.specs.declared.statement.Statement.TheVariants.{Blank};
 ghost use Rattle.std.specs.Option.{option_map_or};
 ghost use Rattle.scql_model.specs.Machine.{Machine};
-ghost use Rattle.scql_model.specs.Lines.{longest_line};
 ghost use Rattle.script.specs.Commands.{CanAlwaysBeSent, CanBeSent};
 ghost use Rattle.script.specs.Line.{statement_of};
 ghost use Rattle.card_link.specs.Link.{AfterOutput};
@@ -30,6 +29,7 @@ use planner::{Closing, Plan};
 use scql_base::{Operation, StatusWord};
 use script::{ScriptFault, Statement};
 use std::marker::Model;
+use taken_line::TakenLine;
 
 /// The channel of a terminal's statements, and the one that has the open transaction.
 #[derive(Drop)]
@@ -61,12 +61,11 @@ impl Channels {
     }
 
     /// Reads the statement of a line into its plan.
-    pub fn read(&self, line: &[u8], plan: &mut Plan) -> Result<(), ScriptFault>
-        requires { length line.now ≤ longest_line }
-        ensures statement { OnOk result (statement_of line.now ≡ Ok plan.new.statement) }
+    pub fn read(&self, line: TakenLine<'_>, plan: &mut Plan) -> Result<(), ScriptFault>
+        ensures statement { OnOk result (statement_of line.entry.octets.now ≡ Ok plan.new.statement) }
         ensures started { OnOk result (IsStarted self.now plan.new) }
         ensures sendable { OnOk result (CanAlwaysBeSent plan.new.statement) }
-        ensures fault { IfErr result (λ fault. statement_of line.now ≡ Err fault) }
+        ensures fault { IfErr result (λ fault. statement_of line.entry.octets.now ≡ Err fault) }
     {
         plan.read(
             line,

@@ -1,7 +1,7 @@
 // A terminal, and what it does with a line.
 ghost use Rattle.std.specs.Prelude.{◌≡◌, ◌≤◌, [], length, IsTrue, None, Some, Ok};
 ghost use Rattle.scql_model.specs.Machine.{Machine};
-ghost use Rattle.scql_model.specs.Lines.{line_effect, longest_line};
+ghost use Rattle.scql_model.specs.Lines.{line_effect};
 ghost use Rattle.scql_model.specs.Step.{step};
 ghost use Rattle.script.specs.Line.{statement_of};
 ghost use Rattle.card_link.specs.Link.{LeavesOpen};
@@ -21,6 +21,7 @@ use planner::Plan;
 use scql_base::StatusWord;
 use script::Statement;
 use std::marker::Model;
+use taken_line::TakenLine;
 
 /// A terminal: its channels, the plan of a statement, into which each line is read, and what is used again for each of its steps.
 #[derive(Drop)]
@@ -51,10 +52,9 @@ impl Terminal {
     }
 
     /// Reads a line as a statement, carries it out and prints what comes of it.
-    pub fn line<L: Desk>(&mut self, link: &mut L, line: &[u8]) -> LineEnd
+    pub fn line<L: Desk>(&mut self, link: &mut L, line: TakenLine<'_>) -> LineEnd
         requires live { IsTrue (L.is_live link.old) }
-        requires short { length line.now ≤ longest_line }
-        ensures ended { EndsLine L.is_at L.given L.mark L.chip (λ state. line_effect statement_lines state line.now) (λ state. rows_in state (statement_of line.now)) (λ state. refusal_in state (statement_of line.now))
+        ensures ended { EndsLine L.is_at L.given L.mark L.chip (λ state. line_effect statement_lines state line.entry.octets.now) (λ state. rows_in state (statement_of line.entry.octets.now)) (λ state. refusal_in state (statement_of line.entry.octets.now))
             self.old self.new result link.old link.new }
         ensures leaves { LineLeaves L.is_live L.faults L.sink_faults L.goes_on result link.old link.new }
     {
@@ -75,10 +75,9 @@ impl Terminal {
     }
 
     /// Reads a line as a statement and carries it out as `line` does, but prints nothing.
-    pub fn quiet<L: CardLink>(&mut self, link: &mut L, line: &[u8]) -> QuietEnd
+    pub fn quiet<L: CardLink>(&mut self, link: &mut L, line: TakenLine<'_>) -> QuietEnd
         requires live { IsTrue (L.is_live link.old) }
-        requires short { length line.now ≤ longest_line }
-        ensures ended { EndsQuietLine L.is_at L.mark L.chip (λ state. line_effect statement_lines state line.now) (λ state. closing_in state (statement_of line.now)) self.old self.new result link.old link.new }
+        ensures ended { EndsQuietLine L.is_at L.mark L.chip (λ state. line_effect statement_lines state line.entry.octets.now) (λ state. closing_in state (statement_of line.entry.octets.now)) self.old self.new result link.old link.new }
         ensures leaves { QuietLeaves L.is_live L.faults L.mark L.keeps L.goes_on result link.old link.new }
     {
         match self.channels.read(line, &mut self.plan) {

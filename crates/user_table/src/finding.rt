@@ -1,6 +1,5 @@
 // Searches among the users.
 ghost use Rattle.std.specs.Prelude.{Some};
-ghost use Rattle.record_store.specs.Held.{IsOver};
 ghost use Rattle.record_store.specs.Tags as tags;
 ghost use Rattle.record_store.specs.declared.tags.Tag.TheVariants as by;
 ghost use Rattle.scql_model.specs.Rules.{is_named};
@@ -8,7 +7,7 @@ ghost use Rattle.catalog_codec.specs.Catalog.{user_kind};
 ghost use Rattle.record_table.specs.Searching.{Finds, FindsStamp};
 
 use eeprom::{Eeprom, EepromFault};
-use record_store::{Found, Side, Store, Tag, name_tag};
+use record_store::{Found, SideReader, Tag, name_tag};
 use record_table::{Wanted, find_by};
 use scql_base::{Name, User};
 
@@ -32,26 +31,20 @@ impl Wanted<User> for Named {
 
 /// Finds the user of a stamp.
 pub fn find_stamp<B: Eeprom>(
-    store: &Store,
-    bench: &mut B,
-    side: Side,
+    reader: &mut SideReader<'_, '_, B>,
     stamp: u32,
 ) -> Result<Option<Found<User>>, EepromFault>
-    requires over { IsOver store.now (B.chip bench.old) }
-    ensures { FindsStamp B.chip B.faults B.octets_read store.now side user_kind stamp bench.old bench.new result }
+    ensures { FindsStamp user_kind stamp reader.old reader.new result }
 {
-    record_table::find_stamp(store, bench, side, stamp)
+    record_table::find_stamp(reader, stamp)
 }
 
 /// Finds the user of a name: of several that of the lowest slot.
 pub fn find_name<B: Eeprom>(
-    store: &Store,
-    bench: &mut B,
-    side: Side,
+    reader: &mut SideReader<'_, '_, B>,
     name: Name,
 ) -> Result<Option<Found<User>>, EepromFault>
-    requires over { IsOver store.now (B.chip bench.old) }
-    ensures { Finds B.chip B.faults B.octets_read store.now side user_kind (is_named name) (Some (by.Name (tags.name_tag name))) bench.old bench.new result }
+    ensures { Finds user_kind (is_named name) (Some (by.Name (tags.name_tag name))) reader.old reader.new result }
 {
-    find_by(store, bench, side, &Named(name))
+    find_by(reader, &Named(name))
 }

@@ -1,7 +1,7 @@
 // Users whose names have one tag are told apart.
 use crate::find_name;
 use eeprom::{Eeprom, FaultPlan, MemBench};
-use record_store::{Side, Store};
+use record_store::{Side, SideReader, Store};
 use scql_base::Name;
 use std::test::Fail;
 
@@ -28,14 +28,19 @@ fn names_of_one_tag_are_told_apart(rt: HostRuntime) -> Result<(), Fail> {
     let opened = Store::open(alloc, &mut bench);
     assert!(rt; opened.is_ok());
     if let Ok(store) = opened {
+        let mut reader = SideReader {
+            store: &store,
+            bench: &mut bench,
+            side: Side::Committed,
+        };
         if let Some(second) = second {
-            let found = find_name(&store, &mut bench, Side::Committed, second);
+            let found = find_name(&mut reader, second);
             assert!(rt; matches!(&found, Ok(Some(found)) if found.slot == 1));
             if let Some(third) = third {
-                let before = bench.octets_read();
-                let none = find_name(&store, &mut bench, Side::Committed, third);
+                let before = reader.bench.octets_read();
+                let none = find_name(&mut reader, third);
                 assert!(rt; matches!(&none, Ok(None)));
-                assert_eq!(rt; bench.octets_read().checked_sub(before), Some(64));
+                assert_eq!(rt; reader.bench.octets_read().checked_sub(before), Some(64));
             }
         }
     }

@@ -1,11 +1,10 @@
 // From view to base, down to a table.
 ghost use Rattle.std.specs.Prelude.{◌≡◌, ◌≤◌, ◌<◌, ◌+◌, ◌∷◌, [], suc, true, Some, IfOk, length};
 ghost use Rattle.std.specs.List.{list_all};
-ghost use Rattle.record_store.specs.Held.{IsOver};
 ghost use Rattle.scql_model.specs.Database.{Database};
 ghost use Rattle.scql_model.specs.Resolving as model;
 ghost use Rattle.scql_model.specs.Resolving.{AreKnown, resolved_below};
-ghost use Rattle.record_table.specs.Making.{IsHeld};
+ghost use Rattle.record_table.specs.Asking.{Holds};
 ghost use Rattle.record_table.specs.Reading.{ReadsDatabase};
 ghost use Rattle.views.specs.Below.{cells_below};
 ghost use Rattle.views.specs.Resolved.{Reaches};
@@ -14,29 +13,26 @@ use crate::DEEPEST;
 use crate::resolving::Resolved;
 use eeprom::{Eeprom, EepromFault};
 use object_table::find_stamp_into;
-use record_store::{Side, Store};
-use scql_base::{Conditions, NameList, ObjectKind};
+use record_store::SideReader;
+use scql_base::{Conditions, Copied, NameList, ObjectKind};
 use search_cond::bind;
 
 /// Finds the table on which the base of a view rests, where there is one under at most so many views more. Each object is read
 /// into one place, and each view's conditions are bound on the way back.
 pub(crate) fn descend<B: Eeprom>(
-    store: &Store,
-    bench: &mut B,
-    side: Side,
+    reader: &mut SideReader<'_, '_, B>,
     base: u32,
     most: usize,
     resolved: &mut Resolved,
 ) -> Result<bool, EepromFault>
-    requires over { IsOver store.now (B.chip bench.old) }
     requires few { most < DEEPEST }
-    ensures reached { (db : Database) (r : model.Resolved) → IsHeld store.now side (B.chip bench.old) db → resolved_below (suc most) db.objects base ≡ Some r
+    ensures reached { (db : Database) (r : model.Resolved) → Holds reader.old db → resolved_below (suc most) db.objects base ≡ Some r
         → list_all (AreKnown r.all) r.filters ≡ true → IfOk result (λ there. (there ≡ true) × Reaches resolved.new r) }
     ensures few { IfOk result (λ there. there ≡ true → length resolved.new.filters.items ≤ most) }
-    ensures reads { ReadsDatabase B.chip B.faults B.octets_read store.now side (λ db. cells_below (suc most) db.objects base) bench.old bench.new result }
+    ensures reads { ReadsDatabase (λ db. cells_below (suc most) db.objects base) reader.old reader.new result }
 {
     let mut place = None;
-    find_stamp_into(store, bench, side, base, &mut place)?;
+    find_stamp_into(reader, base, &mut place)?;
     let Some(object) = &place else {
         return Ok(false);
     };
@@ -53,7 +49,7 @@ pub(crate) fn descend<B: Eeprom>(
             if most == 0 {
                 return Ok(false);
             }
-            if !descend(store, bench, side, *base, most - 1, resolved)? {
+            if !descend(reader, *base, most - 1, resolved)? {
                 return Ok(false);
             }
             Ok(pass(conditions, resolved))

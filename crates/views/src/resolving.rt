@@ -2,14 +2,13 @@
 ghost use Rattle.std.specs.Prelude.{◌≡◌, ◌<◌, true, Some, IfOk, IfSome, IsSome, position};
 ghost use Rattle.std.specs.List.{list_all};
 ghost use Rattle.std.specs.Str.{bytes_eq};
-ghost use Rattle.record_store.specs.Held.{IsOver};
 ghost use Rattle.scql_base.specs.declared.name_list.TheConstants.NameList.{MOST};
 ghost use Rattle.scql_model.specs.Database.{Database, are_among, object_stamped};
 ghost use Rattle.scql_model.specs.Defining.{is_table_or_view};
 ghost use Rattle.scql_model.specs.Objects.{columns_of};
 ghost use Rattle.scql_model.specs.Resolving as model;
 ghost use Rattle.scql_model.specs.Resolving.{AreKnown, resolved_of};
-ghost use Rattle.record_table.specs.Making.{IsHeld};
+ghost use Rattle.record_table.specs.Asking.{Holds};
 ghost use Rattle.record_table.specs.Reading.{ReadsDatabase};
 ghost use Rattle.views.specs.Below.{cells_under};
 ghost use Rattle.views.specs.Resolved.{ArePlaces, Reaches, Resolves, StandsFor};
@@ -17,8 +16,8 @@ ghost use Rattle.views.specs.Resolved.{ArePlaces, Reaches, Resolves, StandsFor};
 use crate::layer::{descend, pass, reach};
 use arrayvec::ArrayVec;
 use eeprom::{Eeprom, EepromFault};
-use record_store::{Side, Store};
-use scql_base::{Name, NameList, Object, ObjectKind};
+use record_store::SideReader;
+use scql_base::{Copied, Name, NameList, Object, ObjectKind};
 use search_cond::Bound;
 
 /// How many views may stand over one another.
@@ -68,18 +67,15 @@ impl Default for Resolved {
 
 /// Finds the table on which a table or a view rests, and how its rows come from those of the table, in a place.
 pub fn resolve_into<B: Eeprom>(
-    store: &Store,
-    bench: &mut B,
-    side: Side,
+    reader: &mut SideReader<'_, '_, B>,
     object: &Object,
     resolved: &mut Resolved,
 ) -> Result<(), EepromFault>
-    requires over { IsOver store.now (B.chip bench.old) }
-    ensures resolved { (db : Database) → IsHeld store.now side (B.chip bench.old) db
+    ensures resolved { (db : Database) → Holds reader.old db
         → object_stamped db.objects object.now.stamp ≡ Some object.now → is_table_or_view object.now.kind ≡ true → IfOk result (λ _. Resolves db.objects object.now.stamp resolved.new) }
-    ensures reads { ReadsDatabase B.chip B.faults B.octets_read store.now side (λ db. cells_under db.objects object.now.kind) bench.old bench.new result }
+    ensures reads { ReadsDatabase (λ db. cells_under db.objects object.now.kind) reader.old reader.new result }
 {
-    if rest(store, bench, side, object, resolved)? && show(&object.kind, resolved) {
+    if rest(reader, object, resolved)? && show(&object.kind, resolved) {
         return Ok(());
     }
     resolved.clear();
@@ -88,16 +84,13 @@ pub fn resolve_into<B: Eeprom>(
 
 // Finds the table on which an object rests, under the conditions of the views between.
 fn rest<B: Eeprom>(
-    store: &Store,
-    bench: &mut B,
-    side: Side,
+    reader: &mut SideReader<'_, '_, B>,
     object: &Object,
     resolved: &mut Resolved,
 ) -> Result<bool, EepromFault>
-    requires over { IsOver store.now (B.chip bench.old) }
-    ensures reached { (db : Database) (r : model.Resolved) → IsHeld store.now side (B.chip bench.old) db → object_stamped db.objects object.now.stamp ≡ Some object.now → resolved_of db.objects object.now.stamp ≡ Some r
+    ensures reached { (db : Database) (r : model.Resolved) → Holds reader.old db → object_stamped db.objects object.now.stamp ≡ Some object.now → resolved_of db.objects object.now.stamp ≡ Some r
         → list_all (AreKnown r.all) r.filters ≡ true → IfOk result (λ there. (there ≡ true) × Reaches resolved.new r) }
-    ensures reads { ReadsDatabase B.chip B.faults B.octets_read store.now side (λ db. cells_under db.objects object.now.kind) bench.old bench.new result }
+    ensures reads { ReadsDatabase (λ db. cells_under db.objects object.now.kind) reader.old reader.new result }
 {
     match &object.kind {
         ObjectKind::Table { columns } => {
@@ -109,7 +102,7 @@ fn rest<B: Eeprom>(
             conditions,
             ..
         } => {
-            if !descend(store, bench, side, *base, DEEPEST - 1, resolved)? {
+            if !descend(reader, *base, DEEPEST - 1, resolved)? {
                 return Ok(false);
             }
             Ok(pass(conditions, resolved))

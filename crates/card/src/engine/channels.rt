@@ -8,6 +8,7 @@ ghost use Rattle.card.specs.Sessions.{is_open, least_closed};
 
 use crate::channel::Channel;
 use crate::engine::Engine;
+use crate::reply::without_body;
 use apdu::Reply;
 use scql_base::StatusWord;
 
@@ -19,20 +20,20 @@ impl Engine {
         channel: Channel,
         reply: &mut Reply,
     ) -> StatusWord
-        requires empty { reply.old.body ≡ [] }
         ensures { RepliesAtOnce (λ m. stepping.answered m (stepping.channel_opened m asking.number channel.number)) (replied reply.new.body result) self.old self.new }
     {
         if channel.number == 0 {
             self.open_least(asking, reply)
         } else {
+            without_body(reply);
             self.open_named(asking, channel)
         }
     }
 
     pub(super) fn open_least(&mut self, asking: Channel, reply: &mut Reply) -> StatusWord
-        requires empty { reply.old.body ≡ [] }
         ensures { RepliesAtOnce (λ m. stepping.answered m (stepping.channel_opened m asking.number 0)) (replied reply.new.body result) self.old self.new }
     {
+        without_body(reply);
         let Some(channel) = self.least_closed() else {
             return StatusWord::FUNCTION_NOT_SUPPORTED;
         };

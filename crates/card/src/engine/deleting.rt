@@ -4,7 +4,7 @@ ghost use Rattle.scql_base.specs.declared.operation.Operation.TheVariants as ask
 ghost use Rattle.scql_model.specs.Bound.{octets_changed, or_nothing};
 ghost use Rattle.scql_model.specs.Sessions.{left_by};
 ghost use Rattle.scql_model.specs.Step as stepping;
-ghost use Rattle.card.specs.Card.{FindsAgain, StandsOver};
+ghost use Rattle.card.specs.Card.{StandsOver};
 ghost use Rattle.card.specs.CarryingOut.{CarriesOut, MayCarryOut};
 ghost use Rattle.card.specs.Sessions.{left_session};
 
@@ -21,9 +21,7 @@ impl Engine {
         command: &Command,
         name: Name,
     ) -> Result<StatusWord, EepromFault>
-        requires ready { StandsOver self.old (B.chip bench.old) }
-        requires found { FindsAgain self.old (B.chip bench.old) }
-        requires asked { MayCarryOut self.old command.now }
+        requires asked { MayCarryOut self.old (B.chip bench.old) command.now }
         requires closed { self.old.transaction ≡ None }
         requires deletes { command.now.operation ≡ asks.DeleteUser name }
         ensures { CarriesOut B.chip B.faults StandsOver (λ m. stepping.answered m (stepping.user_and_sessions_deleted m command.now.channel name)) (λ m. or_nothing (octets_changed m command.now.channel command.now.operation)) [] bench.old bench.new self.old self.new result }

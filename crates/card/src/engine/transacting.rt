@@ -1,5 +1,5 @@
 // BEGIN, COMMIT and ROLLBACK on the card (ISO/IEC 7816-7, PERFORM TRANSACTION OPERATION), and what an open transaction is to its channels.
-ghost use Rattle.std.specs.Prelude.{◌≡◌, ◌<◌, [], None, is_some, IsTrue};
+ghost use Rattle.std.specs.Prelude.{◌≡◌, ◌<◌, [], None};
 ghost use Rattle.eeprom.specs.Chip.{Chip};
 ghost use Rattle.scql_model.specs.Bound.{octets_committed, or_nothing};
 ghost use Rattle.scql_model.specs.Machine as machine;
@@ -10,7 +10,7 @@ ghost use Rattle.scql_model.specs.Step as stepping;
 ghost use Rattle.scql_model.specs.Transactions.{waits};
 ghost use Rattle.card.specs.Answering.{changing_session};
 ghost use Rattle.card.specs.Card.{HoldsMachine, StandsOver};
-ghost use Rattle.card.specs.CarryingOut.{CarriesOut, RepliesAtOnce};
+ghost use Rattle.card.specs.CarryingOut.{CarriesOut, IsBegun, IsBegunWhereOpen, RepliesAtOnce};
 ghost use Rattle.card.specs.Waiting.{has_own, keeps_waiting, side_of};
 
 use crate::channel::Channel;
@@ -61,8 +61,7 @@ impl Engine {
 
     // Begins a transaction of a channel, where none is open.
     pub(super) fn begin(&mut self, channel: Channel) -> StatusWord
-        requires begun { self.old.store.begun ≡ is_some self.old.transaction }
-        requires index_begun { self.old.index.begun ≡ is_some self.old.transaction }
+        requires { IsBegunWhereOpen self.old }
         ensures { RepliesAtOnce (λ m. stepping.answered m (stepping.transaction_begun m channel.number)) (model.said result) self.old self.new }
     {
         if self.transaction.is_some() {
@@ -94,8 +93,7 @@ impl Engine {
 
     // Drops the transaction of a channel, where it has one, and the channel's cursor.
     pub(super) fn roll_back(&mut self, channel: Channel) -> StatusWord
-        requires begun { self.old.store.begun ≡ is_some self.old.transaction }
-        requires index_begun { self.old.index.begun ≡ is_some self.old.transaction }
+        requires { IsBegunWhereOpen self.old }
         ensures { RepliesAtOnce (λ m. stepping.answered m (stepping.transaction_rolled_back m channel.number)) (model.said result) self.old self.new }
     {
         if !self.has_transaction(channel) {
@@ -109,8 +107,7 @@ impl Engine {
 
     // What was committed is all there is.
     pub(super) fn undo(&mut self)
-        requires begun { IsTrue self.old.store.begun }
-        requires index_begun { IsTrue self.old.index.begun }
+        requires { IsBegun self.old }
         ensures holds { (chip : Chip) (m : machine.Machine) → HoldsMachine self.old chip m → HoldsMachine self.new chip (record m { transaction = None }) }
         ensures ready { (chip : Chip) → StandsOver self.old chip → StandsOver self.new chip }
         ensures sessions { self.new.sessions ≡ self.old.sessions }

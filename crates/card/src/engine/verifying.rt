@@ -1,13 +1,12 @@
 // VERIFY on a channel: the secret of the user who is presented there.
-ghost use Rattle.std.specs.Prelude.{◌≡◌, ◌<◌, [], None, slice_get, OnOk};
+ghost use Rattle.std.specs.Prelude.{◌≡◌, ◌<◌, [], slice_get};
 ghost use Rattle.std.specs.Option.{option_flatten};
 ghost use Rattle.scql_model.specs.Bound.{octets_verified, or_nothing};
-ghost use Rattle.scql_model.specs.Machine as machine;
 ghost use Rattle.scql_model.specs.Sessions.{proving};
 ghost use Rattle.scql_model.specs.Step as stepping;
-ghost use Rattle.card.specs.Answering.{LeavesFirstOfTwo, changing_session};
-ghost use Rattle.card.specs.Card.{StandsOver, IsAt};
-ghost use Rattle.card.specs.CarryingOut.{CarriesOut};
+ghost use Rattle.card.specs.Answering.{changing_session};
+ghost use Rattle.card.specs.Card.{StandsOver};
+ghost use Rattle.card.specs.CarryingOut.{CarriesOut, CommitsInTurn, StandsIdle};
 ghost use Rattle.card.specs.Sessions.{unproved_user};
 
 use crate::channel::Channel;
@@ -23,12 +22,10 @@ impl Engine {
         channel: Channel,
         secret: &[u8],
     ) -> Result<StatusWord, EepromFault>
-        requires ready { StandsOver self.old (B.chip bench.old) }
-        requires closed { self.old.transaction ≡ None }
+        requires { StandsIdle self.old (B.chip bench.old) }
         ensures carries { CarriesOut B.chip B.faults StandsOver (λ m. stepping.answered m (stepping.verified m channel.number secret.now)) (λ m. or_nothing (octets_verified m channel.number secret.now)) [] bench.old bench.new self.old self.new result }
         // Where the secret was right, there was a moment at which a power loss may leave one try less.
-        ensures lowered { (m : machine.Machine) → IsAt self.old (B.chip bench.old) m
-            → OnOk result (LeavesFirstOfTwo (stepping.answered m (stepping.verified m channel.number secret.now)) (B.chip bench.old) (B.chip bench.new)) }
+        ensures lowered { CommitsInTurn B.chip (λ m. stepping.answered m (stepping.verified m channel.number secret.now)) bench.old bench.new self.old result }
     {
         let Some(user) = self.unproved_user(channel) else {
             return Ok(StatusWord::CONDITIONS_NOT_SATISFIED);

@@ -4,10 +4,9 @@ ghost use Rattle.scql_model.specs.Operations.{kind_of};
 ghost use Rattle.scql_model.specs.Step as stepping;
 ghost use Rattle.scql_model.specs.Transactions.{is_kept_waiting, waits};
 ghost use Rattle.scql_model.specs.ValidMachine.{IsValidMachine};
-ghost use Rattle.scql_model.specs.WellFormed.{HasForm, IsWellFormed};
 ghost use Rattle.plain_reading.specs.Outcomes.{Answers};
 ghost use Rattle.plain_machine.specs.Answers.{left_by_answer, outcome_left};
-ghost use Rattle.plain_machine.specs.Serving.{IsServed};
+ghost use Rattle.plain_machine.specs.Serving.{ServesCommand, ServesOperation};
 
 use crate::channel::Channel;
 use crate::engine::{Engine, say};
@@ -41,8 +40,7 @@ impl Engine {
 
     // An open transaction may stand against a command; else it reads, or does what its operation does.
     fn carry_out(&mut self, command: &Command, reply: &mut Reply) -> Result<(), StatusWord>
-        requires formed { IsWellFormed command.now }
-        requires served { IsServed self.old command.now.channel }
+        requires { ServesCommand self.old command.now }
         ensures { Answers self.old self.new reply.new result (outcome_left (stepping.carried_out self.old command.now)) }
     {
         let channel = Channel::new(command.channel);
@@ -65,8 +63,7 @@ impl Engine {
         operation: &Operation,
         reply: &mut Reply,
     ) -> Result<(), StatusWord>
-        requires served { IsServed self.old channel }
-        requires formed { HasForm operation.now }
+        requires { ServesOperation self.old channel operation.now }
         ensures { Answers self.old self.new reply.new result (outcome_left (stepping.operated self.old channel operation.now)) }
     {
         match operation {

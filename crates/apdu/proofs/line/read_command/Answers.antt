@@ -1,5 +1,5 @@
 -- The octets of a command stand at the front of its place.
-use Rattle.std.proofs.Common.{◌≡◌, ℕ, ◌/◌, List, ◌++◌, length, take, Result, Ok, Err, refl, sym, ◌∙◌, ap, subst, arith, length-take-le}
+use Rattle.std.proofs.Common.{rules, ◌≡◌, ℕ, ◌/◌, List, ◌++◌, length, take, Result, Ok, Err, refl, sym, ◌∙◌, ap, subst, arith, length-take-le}
 use Rattle.std.specs.Result.{MatchResult}
 use Rattle.std.proofs.Math.Seq.{take-append_seam}
 use Rattle.std.proofs.lemmas.Bool.{eq-eqb}
@@ -21,6 +21,9 @@ decoded A E digits out rest room is size never value =
     go (Ok bytes) value = ap command (front ∙ value.1)
     go (Err e) value = absurd (never e value)
 
-pub returns-in-Ok-clause-content : goal.returns-in-Ok-clause-content
-returns-in-Ok-clause-content c =
-    decoded _ _ c.args.digits.now c.decode_to_slice.new.out _ _ (length-take-le (length c.args.digits.now / 2) c.args.place.now (omega (arith, c.requires, c.told-place))) c.decode_to_slice.auto.out (λ e wrong. cc wrong) c.in-Ok.ensures.value
+pub returns-in-Ok : goal.returns-in-Ok
+returns-in-Ok c = record {
+  content =
+      decoded _ _ c.args.digits.now c.decode_to_slice.new.out _ _ (length-take-le (length c.args.digits.now / 2) c.args.place.now (omega (arith, c.requires, c.told-place))) c.decode_to_slice.auto.out (λ e wrong. cc wrong) c.in-Ok.ensures.value;
+  within = search rules;
+}

@@ -41,9 +41,6 @@ returns-in_err-actor-clause-changes g c = λ db rest of.
     c.from_residual.result c.args.tables.now.store (g.B.Eeprom.chip c.actor_known.new.bench) (search rules)
     (Keeps-none store_of (g.B.Eeprom.chip c.args.bench.now) (g.B.Eeprom.chip c.actor_known.new.bench) c.in_err-actor.ensures.frame.same)
 
-pub make-requires-clause-fits : goal.make-requires-clause-fits
-make-requires-clause-fits g c = subst (λ (store : Held). FitsCard store.row_limit c.args.operation.now) (sym c.begin.ensures.store) c.requires.fits
-
 -- the operation that was made ended as through a cursor
 abbrev EndsThrough : (g : _) (c : After-make g) → Database → Option Cursor → Type 0
 EndsThrough g c db cursor =
@@ -150,15 +147,23 @@ done-through g c db cursor rest ends =
 pub returns-in_ok-commit-in-Ok-clause-changes : goal.returns-in_ok-commit-in-Ok-clause-changes
 returns-in_ok-commit-in-Ok-clause-changes g c = λ db rest of. done-through g c db c.args.cursor.now rest (ended g (goal.at.returns-in_ok-commit-in-Ok-clause-changes g c).After-make db rest of)
 
-pub returns-in_err-commit-in-Ok-clause-behind : goal.returns-in_err-commit-in-Ok-clause-behind
-returns-in_err-commit-in-Ok-clause-behind g c =
-    behind-changed (g.B.Eeprom.chip c.args.bench.now) (g.B.Eeprom.chip c.actor_known.new.bench) (g.B.Eeprom.chip c.make.new.bench) (g.B.Eeprom.chip c.commit.new.bench) c.args.tables.now.store c.begin.new.self.store c.make.new.tables.store
-    c.in_ok-actor.ensures.frame.same c.begin.ensures.store (c.in-Ok.ensures.ended.goes_on (λ wrong. cc)).cells c.make.ensures.ended.behind c.commit.ensures.behind
+pub returns-in_err-commit-in-Ok-clause-ends : goal.returns-in_err-commit-in-Ok-clause-ends
+returns-in_err-commit-in-Ok-clause-ends g c = record {
+  stand = search rules;
+  behind =
+      behind-changed (g.B.Eeprom.chip c.args.bench.now) (g.B.Eeprom.chip c.actor_known.new.bench) (g.B.Eeprom.chip c.make.new.bench) (g.B.Eeprom.chip c.commit.new.bench) c.args.tables.now.store c.begin.new.self.store c.make.new.tables.store
+      c.in_ok-actor.ensures.frame.same c.begin.ensures.store (c.in-Ok.ensures.ended.goes_on (λ wrong. cc)).cells c.make.ensures.ended.behind c.commit.ensures.behind;
+  cause = search rules;
+}
 
-pub returns-in_ok-commit-in-Ok-clause-behind : goal.returns-in_ok-commit-in-Ok-clause-behind
-returns-in_ok-commit-in-Ok-clause-behind g c =
-    behind-changed (g.B.Eeprom.chip c.args.bench.now) (g.B.Eeprom.chip c.actor_known.new.bench) (g.B.Eeprom.chip c.make.new.bench) (g.B.Eeprom.chip c.commit.new.bench) c.args.tables.now.store c.begin.new.self.store c.make.new.tables.store
-    c.in_ok-actor.ensures.frame.same c.begin.ensures.store (c.in-Ok.ensures.ended.goes_on (λ wrong. cc)).cells c.make.ensures.ended.behind c.commit.ensures.behind
+pub returns-in_ok-commit-in-Ok-clause-ends : goal.returns-in_ok-commit-in-Ok-clause-ends
+returns-in_ok-commit-in-Ok-clause-ends g c = record {
+  stand = search rules;
+  behind =
+      behind-changed (g.B.Eeprom.chip c.args.bench.now) (g.B.Eeprom.chip c.actor_known.new.bench) (g.B.Eeprom.chip c.make.new.bench) (g.B.Eeprom.chip c.commit.new.bench) c.args.tables.now.store c.begin.new.self.store c.make.new.tables.store
+      c.in_ok-actor.ensures.frame.same c.begin.ensures.store (c.in-Ok.ensures.ended.goes_on (λ wrong. cc)).cells c.make.ensures.ended.behind c.commit.ensures.behind;
+  cause = search rules;
+}
 
 pub returns-in-Err-Fault-clause-changes : goal.returns-in-Err-Fault-clause-changes
 returns-in-Err-Fault-clause-changes g c = λ db rest of.
@@ -182,14 +187,21 @@ returns-in-Err-Refused-clause-holds g c =
     let ends = through g (goal.at.returns-in-Err-Refused-clause-changes g c).After-make db rest in
     rest-concluded db _ _ _ _ (refused-through g c db ends.0 rest ends.1).step)
 
-pub make-requires-clause-open : goal.make-requires-clause-open
-make-requires-clause-open g c = record { stand = c.begin.ensures.stand _ (rw (sym c.in_ok-actor.ensures.frame.same) at c.requires.stand); begun = search rules }
+pub make-requires-clause-may : goal.make-requires-clause-may
+make-requires-clause-may g c = record {
+  «open» = record { stand = c.begin.ensures.stand _ (rw (sym c.in_ok-actor.ensures.frame.same) at c.requires.stand); begun = search rules };
+  fits = subst (λ (store : Held). FitsCard store.row_limit c.args.operation.now) (sym c.begin.ensures.store) c.requires.fits;
+}
 
 pub commit-requires : goal.commit-requires
 commit-requires g c = record { «open» = record { stand = stood g (goal.at.commit-requires g c).After-make (rw c.in-Ok.is (λ wrong. cc)); begun = search rules } }
 
-pub returns-in-Err-Refused-clause-stand : goal.returns-in-Err-Refused-clause-stand
-returns-in-Err-Refused-clause-stand g c = c.rollback.ensures.stand _ (stood g (goal.at.returns-in-Err-Refused-clause-stand g c).After-make (rw (c.in-Err-Refused.is, c.in-Err-Refused.field-0-is) (λ wrong. cc)))
+pub returns-in-Err-Refused-clause-ends : goal.returns-in-Err-Refused-clause-ends
+returns-in-Err-Refused-clause-ends g c = record {
+  stand = c.rollback.ensures.stand _ (stood g (goal.at.returns-in-Err-Refused-clause-ends g c).After-make (rw (c.in-Err-Refused.is, c.in-Err-Refused.field-0-is) (λ wrong. cc)));
+  behind = search rules;
+  cause = search rules;
+}
 
 pub returns-in_ok-commit-in-Ok-clause-catalog : goal.returns-in_ok-commit-in-Ok-clause-catalog
 returns-in_ok-commit-in-Ok-clause-catalog g c = λ rows.

@@ -1,5 +1,5 @@
 -- Each way in which a change within a transaction ends.
-use Rattle.std.proofs.Common.{◌≡◌, ℕ, List, Option, Result, Ok, Err, is_some, refl, sym, ap, subst, ◌∙◌, inl, inr}
+use Rattle.std.proofs.Common.{rules, ◌≡◌, ℕ, List, Option, Result, Ok, Err, is_some, refl, sym, ap, subst, ◌∙◌, inl, inr}
 use Rattle.std.specs.Prelude.{IfSome, IsErrOf}
 use Rattle.eeprom.specs.Chip.{Chip}
 use Rattle.record_store.specs.Held.{Held}
@@ -43,7 +43,7 @@ acts-made : (g : _) (c : After-make g) (db : Database) → IsHeld c.args.tables.
 acts-made g c db held = subst (IsActorOf db) (sym (c.in_ok-actor.ensures.actor db held)) (IsActorOf-acting db c.args.user)
 
 fits-made : (g : _) (c : After-make g) (db : Database) → IsHeld c.args.tables.now.store Working (g.B.Eeprom.chip c.args.bench.now) db → FitsCard db.limit c.args.operation.now
-fits-made g c db held = subst (λ (limit : ℕ). FitsCard limit c.args.operation.now) (sym held.limit) c.requires.fits
+fits-made g c db held = subst (λ (limit : ℕ). FitsCard limit c.args.operation.now) (sym held.limit) c.requires.may.fits
 
 may-made : (g : _) (c : After-make g) (db : Database) → IsHeld c.args.tables.now.store Working (g.B.Eeprom.chip c.args.bench.now) db → MayChange db c.in_ok-actor.actor c.args.operation.now
 may-made g c db held = record { acts = acts-made g c db held; form = c.requires.formed; fits = fits-made g c db held }
@@ -66,7 +66,7 @@ followed : (g : _) (c : After-make g) → ¬ IsErrOf c.make.result Fault → Ind
 followed g c whole =
     let goes_on = c.make.ensures.ended.goes_on whole in
     Indexes-held c.make.new.tables.index c.make.new.tables.store c.args.tables.now.store Working (g.B.Eeprom.chip c.args.bench.now) (g.B.Eeprom.chip c.make.new.bench) c.requires.works
-    (goes_on.told ∙ ap (λ (chip : Chip). is_some chip.image) c.in_ok-actor.ensures.frame.same) (c.make.ensures.ended.index_cells ∙ (c.requires.open.stand.index.cells ∙ sym goes_on.cells)) (λ db held.
+    (goes_on.told ∙ ap (λ (chip : Chip). is_some chip.image) c.in_ok-actor.ensures.frame.same) (c.make.ensures.ended.index_cells ∙ (c.requires.may.open.stand.index.cells ∙ sym goes_on.cells)) (λ db held.
     c.make.ensures.ended.index db (held-made g c db held) (may-made g c db held) whole)
 
 -- so the tables stand
@@ -74,7 +74,7 @@ stood : (g : _) (c : After-make g) → ¬ IsErrOf c.make.result Fault → Stand 
 stood g c whole = record {
   over = (c.make.ensures.ended.goes_on whole).over;
   index = followed g c whole;
-  together = c.make.ensures.ended.index_begun ∙ (c.requires.open.stand.together ∙ sym (c.make.ensures.ended.goes_on whole).begun);
+  together = c.make.ensures.ended.index_begun ∙ (c.requires.may.open.stand.together ∙ sym (c.make.ensures.ended.goes_on whole).begun);
 }
 
 -- what is so of an operation that was done, and of one that was refused
@@ -110,12 +110,20 @@ returns-in-Err-clause-works g c = IfOk-stop_answer c.in-Err.stop c.answer.result
     let refused = of-refused db _ c.make.result word c.args.tables.now.store c.make.new.tables.store (g.B.Eeprom.chip c.actor_known.new.bench) (g.B.Eeprom.chip c.make.new.bench) (c.in-Err.is ∙ ap Err is) (through g (goal.at.returns-in-Err-clause-works g c).After-make db held).1 in
     (db, subst (λ (store : Held). IsHeld store Working (g.B.Eeprom.chip c.make.new.bench) db) (sym refused.1) (subst (λ (chip : Chip). IsHeld c.args.tables.now.store Working chip db) (sym (refused.2 ∙ c.in_ok-actor.ensures.frame.same)) held))))
 
-pub returns-in-Ok-clause-stand : goal.returns-in-Ok-clause-stand
-returns-in-Ok-clause-stand g c = stood g (goal.at.returns-in-Ok-clause-stand g c).After-make (rw c.in-Ok.is (λ wrong. cc))
+pub returns-in-Ok-clause-ends : goal.returns-in-Ok-clause-ends
+returns-in-Ok-clause-ends g c = record {
+  stand = stood g (goal.at.returns-in-Ok-clause-ends g c).After-make (rw c.in-Ok.is (λ wrong. cc));
+  behind = search rules;
+  cause = search rules;
+}
 
-pub returns-in-Err-clause-stand : goal.returns-in-Err-clause-stand
-returns-in-Err-clause-stand g c = IfOk-stop_answer c.in-Err.stop c.answer.result _ c.answer.ensures (λ word is.
-    stood g (goal.at.returns-in-Err-clause-stand g c).After-make (rw (c.in-Err.is, is) (λ wrong. cc)))
+pub returns-in-Err-clause-ends : goal.returns-in-Err-clause-ends
+returns-in-Err-clause-ends g c = record {
+  stand = IfOk-stop_answer c.in-Err.stop c.answer.result _ c.answer.ensures (λ word is.
+      stood g (goal.at.returns-in-Err-clause-ends g c).After-make (rw (c.in-Err.is, is) (λ wrong. cc)));
+  behind = search rules;
+  cause = search rules;
+}
 
 pub returns-in-Ok-clause-catalog : goal.returns-in-Ok-clause-catalog
 returns-in-Ok-clause-catalog g c = λ rows.

@@ -16,7 +16,7 @@ use Rattle.card.specs.Changing.{goes_through_cursor, stamp_named}
 use Rattle.card.proofs.changing.make_without_cursor.Goals as goal
 
 pub create_view-requires-clause-short : goal.create_view-requires-clause-short
-create_view-requires-clause-short g c = rw c.in-CreateView.is at c.requires.fits
+create_view-requires-clause-short g c = rw c.in-CreateView.is at c.requires.may.fits
 
 pub returns-in-CreateTable-clause-ended : goal.returns-in-CreateTable-clause-ended
 unfolding edits_of
@@ -97,7 +97,7 @@ no-edits db actor cursor (DeleteUser name) without table view dictionary drop dr
 no-edits db actor cursor operation without table view dictionary drop drop_view grant revoke row user gone = refl
 
 pub returns-in_default-clause-ended : goal.returns-in_default-clause-ended
-returns-in_default-clause-ended g c = λ cursor. Ended-before c.requires.open.stand refl (search rules) (λ db held may.
+returns-in_default-clause-ended g c = λ cursor. Ended-before c.requires.may.open.stand refl (search rules) (λ db held may.
     let none = no-edits db c.args.actor cursor c.args.operation.now c.requires.no_cursor c.in_default.not-CreateTable c.in_default.not-CreateView c.in_default.not-CreateDictionary c.in_default.not-DropTable
     c.in_default.not-DropView c.in_default.not-Grant c.in_default.not-Revoke c.in_default.not-Insert c.in_default.not-CreateUser c.in_default.not-DeleteUser in
     rw (none, c.refused.ensures) (refl, refl, refl))

@@ -16,13 +16,13 @@ use Rattle.card.proofs.reading.give_rest.Goals as goal
 
 pub returns-in_default-clause-moves : goal.returns-in_default-clause-moves
 returns-in_default-clause-moves g c = λ db held.
-    rw c.requires.empty (more-without_cursor db c.args.actor (reading_in c.args.session.now) c.args.le c.in_default.is)
+    rw c.without_body.ensures (more-without_cursor db c.args.actor (reading_in c.args.session.now) c.args.le c.in_default.is)
 
 pub returns-in-Err-clause-moves : goal.returns-in-Err-clause-moves
 returns-in-Err-clause-moves g c = λ db held. IfOk-stop_answer c.in-Err.stop c.answer.result _ c.answer.ensures (λ word is.
     let cursor = c.in-Some.cursor in
     let stops = rw is at (c.in-Err.ensures.refused db held) in
-    rw c.requires.empty (more-refused db c.args.actor (reading_in c.args.session.now) c.args.le cursor c.in-Some.is word
+    rw c.without_body.ensures (more-refused db c.args.actor (reading_in c.args.session.now) c.args.le cursor c.in-Some.is word
     (asked-Err db c.args.actor (seen_stamped db c.args.actor cursor.object) (λ (x : Object) (contents : Contents). Ok (chosen contents cursor)) word stops.0)))
 
 pub returns-in-Ok-clause-moves : goal.returns-in-Ok-clause-moves

@@ -15,17 +15,17 @@ use Rattle.card.proofs.reading.read.Goals as goal
 pub returns-in-GetResponse-clause-moves : goal.returns-in-GetResponse-clause-moves
 returns-in-GetResponse-clause-moves g c = λ db rest cursor right.
     let before = reading_in c.args.session.now in
-    if_ok-then c.give_rest.result (λ word moves. MovesSo-get_response db c.args.actor c.args.command.now before c.unwrap_or-le.result _ c.in-GetResponse.is c.unwrap_or-le.ensures moves)
-    (c.give_rest.ensures.moves db rest)
+    if_ok-then c.give_rest.result (λ word moves. MovesSo-get_response db c.args.actor c.args.command.now before c.unwrap_or-most.result _ c.in-GetResponse.is c.unwrap_or-most.ensures moves)
+    (rw c.new-le.ensures at (c.give_rest.ensures.moves db rest))
 
 pub returns-in-GetResponse-clause-octets_read : goal.returns-in-GetResponse-clause-octets_read
 returns-in-GetResponse-clause-octets_read g c = λ db held cursor right.
     let before = reading_in c.args.session.now in
     let a : Option ℕ = g.B.Eeprom.octets_read c.args.reader.now.bench.now in
     let b : Option ℕ = g.B.Eeprom.octets_read c.give_rest.new.reader.bench.now in
-    on-then c.give_rest.result (λ most. as-get_response (λ (command : ReadingCommand). ReadsOctets (octets_for_operation db c.args.actor before.cursor command) db c.args.actor before command a b) c.args.command.now c.unwrap_or-le.result
-    c.in-GetResponse.is c.unwrap_or-le.ensures (record { within = λ _. most; row = λ asks. absurd cc }))
-    (c.give_rest.ensures.octets_read db held)
+    on-then c.give_rest.result (λ most. as-get_response (λ (command : ReadingCommand). ReadsOctets (octets_for_operation db c.args.actor before.cursor command) db c.args.actor before command a b) c.args.command.now c.unwrap_or-most.result
+    c.in-GetResponse.is c.unwrap_or-most.ensures (record { within = λ _. most; row = λ asks. absurd cc }))
+    (rw c.new-le.ensures at (c.give_rest.ensures.octets_read db held))
 
 pub returns-in-GetResponse-clause-right : goal.returns-in-GetResponse-clause-right
 returns-in-GetResponse-clause-right g c = λ db held right. subst (IsRightFor db c.args.actor c.args.scan.now) (sym c.give_rest.ensures.cursor) right
@@ -35,7 +35,7 @@ returns-in_ok-word-in-DeclareCursor-clause-moves g c = λ db held cursor right.
     let before = reading_in c.args.session.now in
     let word = c.in_ok-word-in-DeclareCursor.word in
     let said = declare c.in-DeclareCursor.object c.in-DeclareCursor.columns c.in-DeclareCursor.conditions in
-    rw (c.requires.empty, c.settle.ensures.word) (as-said (λ (command : ReadingCommand). move_of db c.args.actor before command ≡ move_to [] word c.declare.new.cursor c.settle.new.pending) c.args.command.now
+    rw (c.settle.ensures.body, c.settle.ensures.word) (as-said (λ (command : ReadingCommand). move_of db c.args.actor before command ≡ move_to [] word c.declare.new.cursor c.settle.new.pending) c.args.command.now
     (asks.DeclareCursor c.in-DeclareCursor.object c.in-DeclareCursor.columns c.in-DeclareCursor.conditions) said (λ le. refl) c.in-DeclareCursor.is
     (move-answered db c.args.actor before said word c.declare.new.cursor c.settle.new.pending (rw c.copy.ensures at (c.in_ok-word-in-DeclareCursor.ensures.moved db held before.pending)) c.in_ok-word-in-DeclareCursor.ensures.refused c.settle.ensures.pending))
 
@@ -54,7 +54,7 @@ returns-in_ok-word-in-OpenCursor-clause-moves g c = λ db held cursor right.
     let before = reading_in c.args.session.now in
     let word = c.in_ok-word-in-OpenCursor.word in
     let reads = c.in_ok-word-in-OpenCursor.ensures in
-    rw (c.requires.empty, c.settle-in-OpenCursor.ensures.word) (as-said (λ (command : ReadingCommand). move_of db c.args.actor before command ≡ move_to [] word c.advance.new.cursor c.settle-in-OpenCursor.new.pending) c.args.command.now asks.OpenCursor open_cursor (λ le. refl) c.in-OpenCursor.is
+    rw (c.settle-in-OpenCursor.ensures.body, c.settle-in-OpenCursor.ensures.word) (as-said (λ (command : ReadingCommand). move_of db c.args.actor before command ≡ move_to [] word c.advance.new.cursor c.settle-in-OpenCursor.new.pending) c.args.command.now asks.OpenCursor open_cursor (λ le. refl) c.in-OpenCursor.is
     (move-answered db c.args.actor before open_cursor word c.advance.new.cursor c.settle-in-OpenCursor.new.pending (reads.moved db held cursor right before.pending) (reads.refused db held cursor right) c.settle-in-OpenCursor.ensures.pending))
 
 pub returns-in_ok-word-in-OpenCursor-clause-octets_read : goal.returns-in_ok-word-in-OpenCursor-clause-octets_read
@@ -70,7 +70,7 @@ returns-in_ok-word-in-Next-clause-moves g c = λ db held cursor right.
     let before = reading_in c.args.session.now in
     let word = c.in_ok-word-in-Next.word in
     let reads = c.in_ok-word-in-Next.ensures in
-    rw (c.requires.empty, c.settle-in-Next.ensures.word) (as-said (λ (command : ReadingCommand). move_of db c.args.actor before command ≡ move_to [] word c.advance-in-Next.new.cursor c.settle-in-Next.new.pending) c.args.command.now asks.Next next (λ le. refl) c.in-Next.is
+    rw (c.settle-in-Next.ensures.body, c.settle-in-Next.ensures.word) (as-said (λ (command : ReadingCommand). move_of db c.args.actor before command ≡ move_to [] word c.advance-in-Next.new.cursor c.settle-in-Next.new.pending) c.args.command.now asks.Next next (λ le. refl) c.in-Next.is
     (move-answered db c.args.actor before next word c.advance-in-Next.new.cursor c.settle-in-Next.new.pending (reads.moved db held cursor right before.pending) (reads.refused db held cursor right) c.settle-in-Next.ensures.pending))
 
 pub returns-in_ok-word-in-Next-clause-octets_read : goal.returns-in_ok-word-in-Next-clause-octets_read
@@ -84,41 +84,41 @@ returns-in_ok-word-in-Next-clause-octets_read g c = λ db held cursor right.
 pub returns-in_ok-word-in-Fetch-clause-moves : goal.returns-in_ok-word-in-Fetch-clause-moves
 returns-in_ok-word-in-Fetch-clause-moves g c = λ db held cursor right.
     let before = reading_in c.args.session.now in
-    let le = c.unwrap_or-le.result in
+    let le = c.unwrap_or-most.result in
     let reads = c.in_ok-word-in-Fetch.ensures in
-    MovesSo-fetch db c.args.actor c.args.command.now before le _ c.in-Fetch.is c.unwrap_or-le.ensures
-    (move-given db c.args.actor before (fetch le) le c.in_ok-word-in-Fetch.word c.advance-in-Fetch.new.cursor c.advance-in-Fetch.new.out _ (reads.moved db held cursor right before.pending) (reads.refused db held cursor right) (c.give.ensures c.advance-in-Fetch.new.cursor))
+    MovesSo-fetch db c.args.actor c.args.command.now before le _ c.in-Fetch.is c.unwrap_or-most.ensures
+    (move-given db c.args.actor before (fetch le) le c.in_ok-word-in-Fetch.word c.advance-in-Fetch.new.cursor c.advance-in-Fetch.new.out _ (reads.moved db held cursor right before.pending) (reads.refused db held cursor right) (rw c.new-le.ensures at (c.give.ensures c.advance-in-Fetch.new.cursor)))
 
 pub returns-in_ok-word-in-Fetch-clause-octets_read : goal.returns-in_ok-word-in-Fetch-clause-octets_read
 returns-in_ok-word-in-Fetch-clause-octets_read g c = λ db held cursor right.
     let before = reading_in c.args.session.now in
-    let le = c.unwrap_or-le.result in
+    let le = c.unwrap_or-most.result in
     let a : Option ℕ = g.B.Eeprom.octets_read c.args.reader.now.bench.now in
     let b : Option ℕ = g.B.Eeprom.octets_read c.advance-in-Fetch.new.reader.bench.now in
     let reads = c.in_ok-word-in-Fetch.ensures in
-    let moves = move-given db c.args.actor before (fetch le) le c.in_ok-word-in-Fetch.word c.advance-in-Fetch.new.cursor c.advance-in-Fetch.new.out _ (reads.moved db held cursor right before.pending) (reads.refused db held cursor right) (c.give.ensures c.advance-in-Fetch.new.cursor) in
-    as-fetch (λ (command : ReadingCommand). ReadsOctets (octets_for_operation db c.args.actor before.cursor command) db c.args.actor before command a b) c.args.command.now le c.in-Fetch.is c.unwrap_or-le.ensures (record {
+    let moves = move-given db c.args.actor before (fetch le) le c.in_ok-word-in-Fetch.word c.advance-in-Fetch.new.cursor c.advance-in-Fetch.new.out _ (reads.moved db held cursor right before.pending) (reads.refused db held cursor right) (rw c.new-le.ensures at (c.give.ensures c.advance-in-Fetch.new.cursor)) in
+    as-fetch (λ (command : ReadingCommand). ReadsOctets (octets_for_operation db c.args.actor before.cursor command) db c.args.actor before command a b) c.args.command.now le c.in-Fetch.is c.unwrap_or-most.ensures (record {
       within = λ on. reads.octets_read db held cursor right (on refl);
-      row = λ asks on. row-read db c.args.actor before (fetch le) le c.in_ok-word-in-Fetch.word c.advance-in-Fetch.new.cursor c.advance-in-Fetch.new.out _ a b moves (c.give.ensures c.advance-in-Fetch.new.cursor) (reads.least db held cursor right on);
+      row = λ asks on. row-read db c.args.actor before (fetch le) le c.in_ok-word-in-Fetch.word c.advance-in-Fetch.new.cursor c.advance-in-Fetch.new.out _ a b moves (rw c.new-le.ensures at (c.give.ensures c.advance-in-Fetch.new.cursor)) (reads.least db held cursor right on);
     })
 
 pub returns-in_ok-word-in-FetchNext-clause-moves : goal.returns-in_ok-word-in-FetchNext-clause-moves
 returns-in_ok-word-in-FetchNext-clause-moves g c = λ db held cursor right.
     let before = reading_in c.args.session.now in
-    let le = c.unwrap_or-le.result in
+    let le = c.unwrap_or-most.result in
     let reads = c.in_ok-word-in-FetchNext.ensures in
-    MovesSo-fetch_next db c.args.actor c.args.command.now before le _ c.in-FetchNext.is c.unwrap_or-le.ensures
-    (move-given db c.args.actor before (fetch_next le) le c.in_ok-word-in-FetchNext.word c.advance-in-FetchNext.new.cursor c.advance-in-FetchNext.new.out _ (reads.moved db held cursor right before.pending) (reads.refused db held cursor right) (c.give-in-FetchNext.ensures c.advance-in-FetchNext.new.cursor))
+    MovesSo-fetch_next db c.args.actor c.args.command.now before le _ c.in-FetchNext.is c.unwrap_or-most.ensures
+    (move-given db c.args.actor before (fetch_next le) le c.in_ok-word-in-FetchNext.word c.advance-in-FetchNext.new.cursor c.advance-in-FetchNext.new.out _ (reads.moved db held cursor right before.pending) (reads.refused db held cursor right) (rw c.new-le.ensures at (c.give-in-FetchNext.ensures c.advance-in-FetchNext.new.cursor)))
 
 pub returns-in_ok-word-in-FetchNext-clause-octets_read : goal.returns-in_ok-word-in-FetchNext-clause-octets_read
 returns-in_ok-word-in-FetchNext-clause-octets_read g c = λ db held cursor right.
     let before = reading_in c.args.session.now in
-    let le = c.unwrap_or-le.result in
+    let le = c.unwrap_or-most.result in
     let a : Option ℕ = g.B.Eeprom.octets_read c.args.reader.now.bench.now in
     let b : Option ℕ = g.B.Eeprom.octets_read c.advance-in-FetchNext.new.reader.bench.now in
     let reads = c.in_ok-word-in-FetchNext.ensures in
-    let moves = move-given db c.args.actor before (fetch_next le) le c.in_ok-word-in-FetchNext.word c.advance-in-FetchNext.new.cursor c.advance-in-FetchNext.new.out _ (reads.moved db held cursor right before.pending) (reads.refused db held cursor right) (c.give-in-FetchNext.ensures c.advance-in-FetchNext.new.cursor) in
-    as-fetch_next (λ (command : ReadingCommand). ReadsOctets (octets_for_operation db c.args.actor before.cursor command) db c.args.actor before command a b) c.args.command.now le c.in-FetchNext.is c.unwrap_or-le.ensures (record {
+    let moves = move-given db c.args.actor before (fetch_next le) le c.in_ok-word-in-FetchNext.word c.advance-in-FetchNext.new.cursor c.advance-in-FetchNext.new.out _ (reads.moved db held cursor right before.pending) (reads.refused db held cursor right) (rw c.new-le.ensures at (c.give-in-FetchNext.ensures c.advance-in-FetchNext.new.cursor)) in
+    as-fetch_next (λ (command : ReadingCommand). ReadsOctets (octets_for_operation db c.args.actor before.cursor command) db c.args.actor before command a b) c.args.command.now le c.in-FetchNext.is c.unwrap_or-most.ensures (record {
       within = λ on. reads.octets_read db held cursor right (on refl);
-      row = λ asks on. row-read db c.args.actor before (fetch_next le) le c.in_ok-word-in-FetchNext.word c.advance-in-FetchNext.new.cursor c.advance-in-FetchNext.new.out _ a b moves (c.give-in-FetchNext.ensures c.advance-in-FetchNext.new.cursor) (reads.least db held cursor right on);
+      row = λ asks on. row-read db c.args.actor before (fetch_next le) le c.in_ok-word-in-FetchNext.word c.advance-in-FetchNext.new.cursor c.advance-in-FetchNext.new.out _ a b moves (rw c.new-le.ensures at (c.give-in-FetchNext.ensures c.advance-in-FetchNext.new.cursor)) (reads.least db held cursor right on);
     })

@@ -40,39 +40,6 @@ replied_moments g c m at within =
     answered-moments command_lines m (content_effect m (command c.args.octets.now)) (g.B.Eeprom.chip c.args.bench.now) mid now (c.answer.ensures.moments m at) c.answer.ensures.still
     (gives-throughout mid now (g.met.B.Eeprom.clocked c.answer.new.bench) c.give.ensures.gives) (replied_opens g c m at) (omega (arith, within, ap length (replied_text g c m at)))
 
-pub returns-in_ok-give-in-Replied-clause-ended : goal.returns-in_ok-give-in-Replied-clause-ended
-returns-in_ok-give-in-Replied-clause-ended g c = λ m at.
-    let after : After-give g = (goal.at.returns-in_ok-give-in-Replied-clause-ended g c).After-give in
-    let same : (g.B.Eeprom.chip c.answer.new.bench).still.mark ≡ (g.B.Eeprom.chip c.args.bench.now).still.mark = ap (λ (s : Still). s.mark) c.answer.ensures.still in
-    record {
-      answered = record {
-        at = IsAt-given c.answer.new.self (g.B.Eeprom.chip c.answer.new.bench) (g.B.Eeprom.chip c.give.new.bench) c.give.ensures.image (step m c.args.octets.now).machine (c.in-Replied.ensures.replied m at refl).step.at;
-        text =
-            subst (λ (before : Option (List ℕ)). Prints (content_effect m (command c.args.octets.now)).text before (g.B.Eeprom.chip c.give.new.bench).still.given) (ap (λ (s : Still). s.given) c.answer.ensures.still)
-            (subst (λ (text : List ℕ). Prints text (g.B.Eeprom.chip c.answer.new.bench).still.given (g.B.Eeprom.chip c.give.new.bench).still.given) (replied_text g after m at) c.in_ok-give-in-Replied.ensures.text);
-        moments = λ told.
-            (let mark = c.in_ok-give-in-Replied.ensures.mark told in
-            record { mark = omega (arith, mark, same, ap length (replied_text g after m at)); moments = replied_moments g after m at (omega (arith, mark)) });
-      };
-      failed = tt;
-    }
-
-pub returns-in_err-give-in-Replied-clause-ended : goal.returns-in_err-give-in-Replied-clause-ended
-returns-in_err-give-in-Replied-clause-ended g c = λ m at.
-    let after : After-give g = (goal.at.returns-in_err-give-in-Replied-clause-ended g c).After-give in
-    let mid : Chip = g.B.Eeprom.chip c.answer.new.bench in
-    let now : Chip = g.B.Eeprom.chip c.give.new.bench in
-    record {
-      answered = search rules;
-      failed = at_outlet _ c.from_residual.result c.from_residual.ensures.1 (record {
-        fails =
-            subst (λ (before : Option (List ℕ)). FailsIn Outlet command_lines [] m (content_effect m (command c.args.octets.now)) before now) (ap (λ (s : Still). s.given) c.answer.ensures.still)
-            (fails_giving command_lines m (content_effect m (command c.args.octets.now)) mid.still.given mid now
-            (subst (λ (t : List ℕ). IsCutShort t mid.still.given now.still.given) (replied_text g after m at) c.in_err-give-in-Replied.ensures.fails) c.give.ensures.image (replied_opens g after m at));
-        moments = λ told. replied_moments g after m at (c.give.ensures.within told);
-      });
-    }
-
 -- what the card says that goes mute
 mute : (g : _) (c : After-give-in-Mute g) → c.text-in-Mute.result.now ≡ mute_text
 mute g c =
@@ -88,38 +55,6 @@ mute_moments g c m at =
     line-moments command_lines m (content_effect m (command c.args.octets.now)) (g.B.Eeprom.chip c.args.bench.now) mid now (c.answer.ensures.moments m at) c.answer.ensures.still
     (gives-throughout mid now (g.met.B.Eeprom.clocked c.answer.new.bench) c.give-in-Mute.ensures.gives)
 
-pub returns-in-Ok-clause-ended : goal.returns-in-Ok-clause-ended
-returns-in-Ok-clause-ended g c = λ m at.
-    let run : After-give-in-Mute g = (goal.at.returns-in-Ok-clause-ended g c).After-give-in-Mute in
-    let mid : Chip = g.B.Eeprom.chip c.answer.new.bench in
-    let now : Chip = g.B.Eeprom.chip c.give-in-Mute.new.bench in
-    record {
-      answered = tt;
-      failed = record {
-        fails =
-            subst (λ (before : Option (List ℕ)). FailsIn Eeprom command_lines [] m (content_effect m (command c.args.octets.now)) before now) (ap (λ (s : Still). s.given) c.answer.ensures.still)
-            (fails_mute command_lines m (content_effect m (command c.args.octets.now)) c.text-in-Mute.result.now mid.still.given mid now (inl (mute g run)) c.in-Ok.ensures.text c.give-in-Mute.ensures.image
-            (λ image told. ((c.answer.ensures.moments m at).now image told).1));
-        moments = λ told. mute_moments g run m at;
-      };
-    }
-
-pub returns-in-Err-clause-ended : goal.returns-in-Err-clause-ended
-returns-in-Err-clause-ended g c = λ m at.
-    let run : After-give-in-Mute g = (goal.at.returns-in-Err-clause-ended g c).After-give-in-Mute in
-    let mid : Chip = g.B.Eeprom.chip c.answer.new.bench in
-    let now : Chip = g.B.Eeprom.chip c.give-in-Mute.new.bench in
-    record {
-      answered = tt;
-      failed = record {
-        fails =
-            subst (λ (before : Option (List ℕ)). FailsIn Both command_lines [] m (content_effect m (command c.args.octets.now)) before now) (ap (λ (s : Still). s.given) c.answer.ensures.still)
-            (fails_both command_lines m (content_effect m (command c.args.octets.now)) c.text-in-Mute.result.now mid.still.given mid now (inl (mute g run)) c.in-Err.ensures.fails c.give-in-Mute.ensures.image
-            (λ image told. ((c.answer.ensures.moments m at).now image told).1));
-        moments = λ told. mute_moments g run m at;
-      };
-    }
-
 -- what lies behind the image stays, and the card has its number of cells where it replied
 replied_behind : (g : _) (c : After-give g) → c.answer.new.self.store.chains.cells ≡ c.args.card.now.store.chains.cells → StaysBehind c.args.card.now c.answer.new.self (g.B.Eeprom.chip c.args.bench.now) (g.B.Eeprom.chip c.give.new.bench)
 replied_behind g c same =
@@ -130,20 +65,53 @@ replied_behind g c same =
       behind = behind-on cells cells (g.B.Eeprom.chip c.args.bench.now) mid (g.B.Eeprom.chip c.give.new.bench) refl (behind-keeps cells (g.B.Eeprom.chip c.args.bench.now) mid c.answer.ensures.behind) (c.give.ensures.behind (λ was. cells));
     }
 
-pub returns-in_ok-give-in-Replied-clause-leaves : goal.returns-in_ok-give-in-Replied-clause-leaves
-returns-in_ok-give-in-Replied-clause-leaves g c = record {
-  ready = IsReady-given c.answer.new.self (g.B.Eeprom.chip c.answer.new.bench) (g.B.Eeprom.chip c.give.new.bench) c.give.ensures.image c.give.ensures.size (c.in-Replied.ensures.ready refl);
-  causes = search rules;
-  memory = search rules;
-  rest = replied_behind g (goal.at.returns-in_ok-give-in-Replied-clause-leaves g c).After-give (c.in-Replied.ensures.cells refl);
+pub returns-in_ok-give-in-Replied : goal.returns-in_ok-give-in-Replied
+returns-in_ok-give-in-Replied g c = record {
+  ended = (λ m at.
+      let after : After-give g = (goal.at.returns-in_ok-give-in-Replied g c).After-give in
+      let same : (g.B.Eeprom.chip c.answer.new.bench).still.mark ≡ (g.B.Eeprom.chip c.args.bench.now).still.mark = ap (λ (s : Still). s.mark) c.answer.ensures.still in
+      record {
+        answered = record {
+          at = IsAt-given c.answer.new.self (g.B.Eeprom.chip c.answer.new.bench) (g.B.Eeprom.chip c.give.new.bench) c.give.ensures.image (step m c.args.octets.now).machine (c.in-Replied.ensures.replied m at refl).step.at;
+          text =
+              subst (λ (before : Option (List ℕ)). Prints (content_effect m (command c.args.octets.now)).text before (g.B.Eeprom.chip c.give.new.bench).still.given) (ap (λ (s : Still). s.given) c.answer.ensures.still)
+              (subst (λ (text : List ℕ). Prints text (g.B.Eeprom.chip c.answer.new.bench).still.given (g.B.Eeprom.chip c.give.new.bench).still.given) (replied_text g after m at) c.in_ok-give-in-Replied.ensures.text);
+          moments = λ told.
+              (let mark = c.in_ok-give-in-Replied.ensures.mark told in
+              record { mark = omega (arith, mark, same, ap length (replied_text g after m at)); moments = replied_moments g after m at (omega (arith, mark)) });
+        };
+        failed = tt;
+      });
+  leaves = (record {
+    ready = IsReady-given c.answer.new.self (g.B.Eeprom.chip c.answer.new.bench) (g.B.Eeprom.chip c.give.new.bench) c.give.ensures.image c.give.ensures.size (c.in-Replied.ensures.ready refl);
+    causes = search rules;
+    memory = search rules;
+    rest = replied_behind g (goal.at.returns-in_ok-give-in-Replied g c).After-give (c.in-Replied.ensures.cells refl);
+  });
 }
 
-pub returns-in_err-give-in-Replied-clause-leaves : goal.returns-in_err-give-in-Replied-clause-leaves
-returns-in_err-give-in-Replied-clause-leaves g c = record {
-  ready = search rules;
-  causes = search rules;
-  memory = search rules;
-  rest = replied_behind g (goal.at.returns-in_err-give-in-Replied-clause-leaves g c).After-give (c.in-Replied.ensures.cells refl);
+pub returns-in_err-give-in-Replied : goal.returns-in_err-give-in-Replied
+returns-in_err-give-in-Replied g c = record {
+  ended = (λ m at.
+      let after : After-give g = (goal.at.returns-in_err-give-in-Replied g c).After-give in
+      let mid : Chip = g.B.Eeprom.chip c.answer.new.bench in
+      let now : Chip = g.B.Eeprom.chip c.give.new.bench in
+      record {
+        answered = search rules;
+        failed = at_outlet _ c.from_residual.result c.from_residual.ensures.1 (record {
+          fails =
+              subst (λ (before : Option (List ℕ)). FailsIn Outlet command_lines [] m (content_effect m (command c.args.octets.now)) before now) (ap (λ (s : Still). s.given) c.answer.ensures.still)
+              (fails_giving command_lines m (content_effect m (command c.args.octets.now)) mid.still.given mid now
+              (subst (λ (t : List ℕ). IsCutShort t mid.still.given now.still.given) (replied_text g after m at) c.in_err-give-in-Replied.ensures.fails) c.give.ensures.image (replied_opens g after m at));
+          moments = λ told. replied_moments g after m at (c.give.ensures.within told);
+        });
+      });
+  leaves = (record {
+    ready = search rules;
+    causes = search rules;
+    memory = search rules;
+    rest = replied_behind g (goal.at.returns-in_err-give-in-Replied g c).After-give (c.in-Replied.ensures.cells refl);
+  });
 }
 
 -- or the card went mute, and answers no more
@@ -157,8 +125,40 @@ mute_behind g c =
       behind = behind-on cells cells (g.B.Eeprom.chip c.args.bench.now) mid (g.B.Eeprom.chip c.give-in-Mute.new.bench) refl (behind-keeps cells (g.B.Eeprom.chip c.args.bench.now) mid c.answer.ensures.behind) (c.give-in-Mute.ensures.behind (λ was. cells));
     }
 
-pub returns-in-Ok-clause-leaves : goal.returns-in-Ok-clause-leaves
-returns-in-Ok-clause-leaves g c = record { ready = tt; causes = search rules; memory = search rules; rest = mute_behind g (goal.at.returns-in-Ok-clause-leaves g c).After-give-in-Mute }
+pub returns-in-Ok : goal.returns-in-Ok
+returns-in-Ok g c = record {
+  ended = (λ m at.
+      let run : After-give-in-Mute g = (goal.at.returns-in-Ok g c).After-give-in-Mute in
+      let mid : Chip = g.B.Eeprom.chip c.answer.new.bench in
+      let now : Chip = g.B.Eeprom.chip c.give-in-Mute.new.bench in
+      record {
+        answered = tt;
+        failed = record {
+          fails =
+              subst (λ (before : Option (List ℕ)). FailsIn Eeprom command_lines [] m (content_effect m (command c.args.octets.now)) before now) (ap (λ (s : Still). s.given) c.answer.ensures.still)
+              (fails_mute command_lines m (content_effect m (command c.args.octets.now)) c.text-in-Mute.result.now mid.still.given mid now (inl (mute g run)) c.in-Ok.ensures.text c.give-in-Mute.ensures.image
+              (λ image told. ((c.answer.ensures.moments m at).now image told).1));
+          moments = λ told. mute_moments g run m at;
+        };
+      });
+  leaves = record { ready = tt; causes = search rules; memory = search rules; rest = mute_behind g (goal.at.returns-in-Ok g c).After-give-in-Mute };
+}
 
-pub returns-in-Err-clause-leaves : goal.returns-in-Err-clause-leaves
-returns-in-Err-clause-leaves g c = record { ready = tt; causes = search rules; memory = search rules; rest = mute_behind g (goal.at.returns-in-Err-clause-leaves g c).After-give-in-Mute }
+pub returns-in-Err : goal.returns-in-Err
+returns-in-Err g c = record {
+  ended = (λ m at.
+      let run : After-give-in-Mute g = (goal.at.returns-in-Err g c).After-give-in-Mute in
+      let mid : Chip = g.B.Eeprom.chip c.answer.new.bench in
+      let now : Chip = g.B.Eeprom.chip c.give-in-Mute.new.bench in
+      record {
+        answered = tt;
+        failed = record {
+          fails =
+              subst (λ (before : Option (List ℕ)). FailsIn Both command_lines [] m (content_effect m (command c.args.octets.now)) before now) (ap (λ (s : Still). s.given) c.answer.ensures.still)
+              (fails_both command_lines m (content_effect m (command c.args.octets.now)) c.text-in-Mute.result.now mid.still.given mid now (inl (mute g run)) c.in-Err.ensures.fails c.give-in-Mute.ensures.image
+              (λ image told. ((c.answer.ensures.moments m at).now image told).1));
+          moments = λ told. mute_moments g run m at;
+        };
+      });
+  leaves = record { ready = tt; causes = search rules; memory = search rules; rest = mute_behind g (goal.at.returns-in-Err g c).After-give-in-Mute };
+}

@@ -16,22 +16,22 @@ until g c =
     let mid = g.B.Eeprom.chip c.prepare.new.bench in
     let new = g.B.Eeprom.chip c.open.new.bench in
     record {
-      leaves = until_open c.args.form c.args.form old mid new refl c.open.ensures.recovers.store c.prepare.ensures.until.leaves;
-      behind = behind-then (run_cells c.args.form) own_cells old mid new c.in-Ok.ensures.prepared.cells c.prepare.ensures.until.behind c.open.ensures.behind;
+      leaves = until_open c.args.form c.args.form old mid new refl c.open.ensures.recovers.store c.prepare.ensures.leaves.until.leaves;
+      behind = behind-then (run_cells c.args.form) own_cells old mid new c.in-Ok.ensures.prepared.cells c.prepare.ensures.leaves.until.behind c.open.ensures.behind;
       still = search rules;
     }
 
-pub returns-in-Err-NoMemory-clause-until : goal.returns-in-Err-NoMemory-clause-until
-returns-in-Err-NoMemory-clause-until g c = until g (goal.at.returns-in-Err-NoMemory-clause-until g c).After-open
+pub returns-in-Err-NoMemory-clause-leaves : goal.returns-in-Err-NoMemory-clause-leaves
+returns-in-Err-NoMemory-clause-leaves g c = record { until = until g (goal.at.returns-in-Err-NoMemory-clause-leaves g c).After-open; too_small = search rules; unchanged = search rules; quiet = search rules }
 
-pub returns-in-Err-NotACard-clause-until : goal.returns-in-Err-NotACard-clause-until
-returns-in-Err-NotACard-clause-until g c = until g (goal.at.returns-in-Err-NotACard-clause-until g c).After-open
+pub returns-in-Err-NotACard-clause-leaves : goal.returns-in-Err-NotACard-clause-leaves
+returns-in-Err-NotACard-clause-leaves g c = record { until = until g (goal.at.returns-in-Err-NotACard-clause-leaves g c).After-open; too_small = search rules; unchanged = search rules; quiet = search rules }
 
-pub returns-in-Err-Fault-open-clause-until : goal.returns-in-Err-Fault-open-clause-until
-returns-in-Err-Fault-open-clause-until g c = until g (goal.at.returns-in-Err-Fault-open-clause-until g c).After-open
+pub returns-in-Err-Fault-open-clause-leaves : goal.returns-in-Err-Fault-open-clause-leaves
+returns-in-Err-Fault-open-clause-leaves g c = record { until = until g (goal.at.returns-in-Err-Fault-open-clause-leaves g c).After-open; too_small = search rules; unchanged = search rules; quiet = search rules }
 
-pub returns-in-Ok-open-clause-until : goal.returns-in-Ok-open-clause-until
-returns-in-Ok-open-clause-until g c = until g (goal.at.returns-in-Ok-open-clause-until g c).After-open
+pub returns-in-Ok-open-clause-leaves : goal.returns-in-Ok-open-clause-leaves
+returns-in-Ok-open-clause-leaves g c = record { until = until g (goal.at.returns-in-Ok-open-clause-leaves g c).After-open; too_small = search rules; unchanged = search rules; quiet = search rules }
 
 -- It was opened.
 
@@ -44,7 +44,7 @@ returns-in-Ok-open-clause-opened g c =
       starts = λ db begins. (c.in-Ok-open.ensures.opened db (there.begins db begins)).starts;
       ready = c.in-Ok-open.ensures.ready;
       begins = λ told. (let found = open_to mid (there.told told) c.in-Ok-open.ensures.opens in there.began found.0 found.1);
-      found = λ lacks. lacks_none c.args.form old mid lacks c.prepare.ensures.until.leaves there.told c.in-Ok-open.ensures.opens;
+      found = λ lacks. lacks_none c.args.form old mid lacks c.prepare.ensures.leaves.until.leaves there.told c.in-Ok-open.ensures.opens;
       room = search rules;
       cells = cells-opened c.args.form c.in-Ok-open.card old mid (g.B.Eeprom.chip c.open.new.bench) c.in-Ok-open.ensures.ready c.open.ensures.recovers.store there.cells;
     }

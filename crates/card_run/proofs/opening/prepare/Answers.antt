@@ -23,14 +23,19 @@ returns-in-New-clause-prepared g c =
     (search rules)
     (cells-new c.format.result old new c.args.form c.in-New.cells c.in-New.is (search rules) c.format.ensures.image)
 
-pub returns-in-New-clause-until : goal.returns-in-New-clause-until
-returns-in-New-clause-until g c =
+pub returns-in-New-clause-leaves : goal.returns-in-New-clause-leaves
+returns-in-New-clause-leaves g c =
     let old = g.B.Eeprom.chip c.args.bench.now in
     let new = g.B.Eeprom.chip c.format.new.bench in
     record {
-      leaves = subst (λ (form : Form). LeavesUntilOpen form old new) (sym c.in-New.is) c.format.ensures.moments;
-      behind = behind-new c.args.form c.in-New.cells old new c.in-New.is c.format.ensures.behind;
-      still = c.format.ensures.still;
+      until = record {
+        leaves = subst (λ (form : Form). LeavesUntilOpen form old new) (sym c.in-New.is) c.format.ensures.moments;
+        behind = behind-new c.args.form c.in-New.cells old new c.in-New.is c.format.ensures.behind;
+        still = c.format.ensures.still;
+      };
+      too_small = search rules;
+      unchanged = search rules;
+      quiet = search rules;
     }
 
 pub returns-in-Apdu-clause-prepared : goal.returns-in-Apdu-clause-prepared
@@ -45,7 +50,12 @@ returns-in-Apdu-clause-prepared g c =
       cells = cells-there c.args.form old.image c.in-Apdu.is;
     }
 
-pub returns-in-Apdu-clause-until : goal.returns-in-Apdu-clause-until
-returns-in-Apdu-clause-until g c =
+pub returns-in-Apdu-clause-leaves : goal.returns-in-Apdu-clause-leaves
+returns-in-Apdu-clause-leaves g c =
     let old = g.B.Eeprom.chip c.args.bench.now in
-    record { leaves = leaves-there c.args.form old c.in-Apdu.is; behind = behind-same (run_cells c.args.form) old old refl; still = refl }
+    record {
+      until = record { leaves = leaves-there c.args.form old c.in-Apdu.is; behind = behind-same (run_cells c.args.form) old old refl; still = refl };
+      too_small = search rules;
+      unchanged = search rules;
+      quiet = search rules;
+    }

@@ -56,14 +56,14 @@ lacking g c finds =
 left : (g : given.Over) (c : Opened g) (form : Form) → form_in (map string_bytes c.args.words.now) ≡ Some form → LeavesUntilOpen form (g.B.Eeprom.chip c.args.bench.now) (g.B.Eeprom.chip c.open_card.new.bench)
 left g c form asked =
     let same : c.in-Some.form ≡ form = cc (c.in-Some.ensures, asked) in
-    subst (λ (f : Form). LeavesUntilOpen f (g.B.Eeprom.chip c.args.bench.now) (g.B.Eeprom.chip c.open_card.new.bench)) same c.open_card.ensures.until.leaves
+    subst (λ (f : Form). LeavesUntilOpen f (g.B.Eeprom.chip c.args.bench.now) (g.B.Eeprom.chip c.open_card.new.bench)) same c.open_card.ensures.leaves.until.leaves
 
 -- no fault of the outlet is counted until it is open
 outlet_kept : (g : given.Over) (opened bench : g.row.B.Denot) → (g.B.Eeprom.chip opened).still ≡ (g.B.Eeprom.chip bench).still → g.B.Outlet.sink_faults opened ≡ g.B.Outlet.sink_faults bench
 outlet_kept g opened bench still = sym (g.met.B.Bench.output opened).1 ∙ (ap (λ (s : Still). s.sink_faults) still ∙ (g.met.B.Bench.output bench).1)
 
 outlet_stays : (g : given.Over) (c : Opened g) → g.B.Outlet.sink_faults c.open_card.new.bench ≡ g.B.Outlet.sink_faults c.args.bench.now
-outlet_stays g c = outlet_kept g c.open_card.new.bench c.args.bench.now c.open_card.ensures.until.still
+outlet_stays g c = outlet_kept g c.open_card.new.bench c.args.bench.now c.open_card.ensures.leaves.until.still
 
 -- It wasn't opened.
 
@@ -81,7 +81,7 @@ returns-in-Migrate-clause-ends g c =
     let run : Opened g = (goal.at.returns-in-Migrate-clause-ends g c).After-open_card in
     let now : AllFaults = record { eeprom = g.B.Eeprom.faults c.run_migration.new.bench; source = g.S.Source.source_faults c.args.source.now; outlet = g.B.Outlet.sink_faults c.run_migration.new.bench } in
     let same = same_faults (g.B.Eeprom.faults c.open_card.new.bench) (g.B.Eeprom.faults c.args.bench.now) (g.S.Source.source_faults c.args.source.now) (g.B.Outlet.sink_faults c.open_card.new.bench) (g.B.Outlet.sink_faults c.args.bench.now)
-    c.in-Ok.ensures.quiet (outlet_stays g run) in
+    c.in-Ok.ensures.leaves.quiet (outlet_stays g run) in
     subst (λ (f : AllFaults). EndsBy c.run_migration.result f now) same (c.run_migration.ensures.ended.ends (g.S.Source.source_faults c.args.source.now))
 
 -- It was opened to be checked.
@@ -92,8 +92,8 @@ ends_check : (g : given.Over) (c : Checked g)
     EndsBy c.run_check.result was now)
 ends_check g c =
     let now : AllFaults = record { eeprom = g.B.Eeprom.faults c.run_check.new.bench; source = g.S.Source.source_faults c.args.source.now; outlet = g.B.Outlet.sink_faults c.run_check.new.bench } in
-    let sink = outlet_kept g c.open_card.new.bench c.args.bench.now c.open_card.ensures.until.still in
-    let same = same_faults (g.B.Eeprom.faults c.open_card.new.bench) (g.B.Eeprom.faults c.args.bench.now) (g.S.Source.source_faults c.args.source.now) (g.B.Outlet.sink_faults c.open_card.new.bench) (g.B.Outlet.sink_faults c.args.bench.now) c.in-Ok.ensures.quiet sink in
+    let sink = outlet_kept g c.open_card.new.bench c.args.bench.now c.open_card.ensures.leaves.until.still in
+    let same = same_faults (g.B.Eeprom.faults c.open_card.new.bench) (g.B.Eeprom.faults c.args.bench.now) (g.S.Source.source_faults c.args.source.now) (g.B.Outlet.sink_faults c.open_card.new.bench) (g.B.Outlet.sink_faults c.args.bench.now) c.in-Ok.ensures.leaves.quiet sink in
     subst (λ (f : AllFaults). EndsBy c.run_check.result f now) same (c.run_check.ensures.ended.ends (g.S.Source.source_faults c.args.source.now))
 
 pub returns-in-Check-clause-ends : goal.returns-in-Check-clause-ends
@@ -107,8 +107,8 @@ ends_load : (g : given.Over) (c : Loaded g)
     EndsBy c.run_load.result was now)
 ends_load g c =
     let now : AllFaults = record { eeprom = g.B.Eeprom.faults c.run_load.new.bench; source = g.S.Source.source_faults c.args.source.now; outlet = g.B.Outlet.sink_faults c.run_load.new.bench } in
-    let sink = outlet_kept g c.open_card.new.bench c.args.bench.now c.open_card.ensures.until.still in
-    let same = same_faults (g.B.Eeprom.faults c.open_card.new.bench) (g.B.Eeprom.faults c.args.bench.now) (g.S.Source.source_faults c.args.source.now) (g.B.Outlet.sink_faults c.open_card.new.bench) (g.B.Outlet.sink_faults c.args.bench.now) c.in-Ok.ensures.quiet sink in
+    let sink = outlet_kept g c.open_card.new.bench c.args.bench.now c.open_card.ensures.leaves.until.still in
+    let same = same_faults (g.B.Eeprom.faults c.open_card.new.bench) (g.B.Eeprom.faults c.args.bench.now) (g.S.Source.source_faults c.args.source.now) (g.B.Outlet.sink_faults c.open_card.new.bench) (g.B.Outlet.sink_faults c.args.bench.now) c.in-Ok.ensures.leaves.quiet sink in
     subst (λ (f : AllFaults). EndsBy c.run_load.result f now) same (c.run_load.ensures.ended.ends (g.S.Source.source_faults c.args.source.now))
 
 pub returns-in-Load-clause-ends : goal.returns-in-Load-clause-ends
@@ -125,8 +125,8 @@ ends_statements : (g : given.Over) (c : Stated g)
     EndsBy c.answer_statements.result was now)
 ends_statements g c =
     let now : AllFaults = record { eeprom = g.B.Eeprom.faults c.answer_statements.new.bench; source = g.S.Source.source_faults c.answer_statements.new.source; outlet = g.B.Outlet.sink_faults c.answer_statements.new.bench } in
-    let sink = outlet_kept g c.open_card.new.bench c.args.bench.now c.open_card.ensures.until.still in
-    let same = same_faults (g.B.Eeprom.faults c.open_card.new.bench) (g.B.Eeprom.faults c.args.bench.now) (g.S.Source.source_faults c.args.source.now) (g.B.Outlet.sink_faults c.open_card.new.bench) (g.B.Outlet.sink_faults c.args.bench.now) c.in-Ok.ensures.quiet sink in
+    let sink = outlet_kept g c.open_card.new.bench c.args.bench.now c.open_card.ensures.leaves.until.still in
+    let same = same_faults (g.B.Eeprom.faults c.open_card.new.bench) (g.B.Eeprom.faults c.args.bench.now) (g.S.Source.source_faults c.args.source.now) (g.B.Outlet.sink_faults c.open_card.new.bench) (g.B.Outlet.sink_faults c.args.bench.now) c.in-Ok.ensures.leaves.quiet sink in
     subst (λ (f : AllFaults). EndsBy c.answer_statements.result f now) same c.answer_statements.ensures.run.ends
 
 pub returns-in-Term-clause-ends : goal.returns-in-Term-clause-ends
@@ -151,8 +151,8 @@ ends_commands : (g : given.Over) (c : Ended g)
     EndsBy c.answer_commands.result was now)
 ends_commands g c =
     let now : AllFaults = record { eeprom = g.B.Eeprom.faults c.answer_commands.new.bench; source = g.S.Source.source_faults c.answer_commands.new.source; outlet = g.B.Outlet.sink_faults c.answer_commands.new.bench } in
-    let sink = outlet_kept g c.open_card.new.bench c.args.bench.now c.open_card.ensures.until.still in
-    let same = same_faults (g.B.Eeprom.faults c.open_card.new.bench) (g.B.Eeprom.faults c.args.bench.now) (g.S.Source.source_faults c.args.source.now) (g.B.Outlet.sink_faults c.open_card.new.bench) (g.B.Outlet.sink_faults c.args.bench.now) c.in-Ok.ensures.quiet sink in
+    let sink = outlet_kept g c.open_card.new.bench c.args.bench.now c.open_card.ensures.leaves.until.still in
+    let same = same_faults (g.B.Eeprom.faults c.open_card.new.bench) (g.B.Eeprom.faults c.args.bench.now) (g.S.Source.source_faults c.args.source.now) (g.B.Outlet.sink_faults c.open_card.new.bench) (g.B.Outlet.sink_faults c.args.bench.now) c.in-Ok.ensures.leaves.quiet sink in
     subst (λ (f : AllFaults). EndsBy c.answer_commands.result f now) same c.answer_commands.ensures.run.ends
 
 -- card and EEPROM are at its start where the run over the input begins
@@ -297,22 +297,22 @@ returns-in-Err-clause-forms g c = λ form asked.
     record {
       unread = λ ends.
           (let run : Opened g = (goal.at.returns-in-Err-clause-forms g c).After-open_card in
-          record { opening = c.in-Err.ensures.unopened.unopened; source = refl; given = ap (λ (s : Still). s.given) c.open_card.ensures.until.still; leaves = left g run form asked });
+          record { opening = c.in-Err.ensures.unopened.unopened; source = refl; given = ap (λ (s : Still). s.given) c.open_card.ensures.leaves.until.still; leaves = left g run form asked });
       statuses = (let run : Opened g = (goal.at.returns-in-Err-clause-forms g c).After-open_card in
           may-asked g run c.in-Err.status (opening-may c.in-Some.form c.in-Err.status c.in-Err.ensures.unopened.unopened
-          (λ is. let made = c.in-Err.ensures.too_small.0 (cc is) in subst (λ (f : Form). makes_card f ≡ true) (sym made.1) refl))) form asked;
+          (λ is. let made = c.in-Err.ensures.leaves.too_small.0 (cc is) in subst (λ (f : Form). makes_card f ≡ true) (sym made.1) refl))) form asked;
       no_memory = λ is.
           (let run : Opened g = (goal.at.returns-in-Err-clause-forms g c).After-open_card in
           subst (λ (f : Form). WantsMemory g.B.Eeprom.chip g.B.Eeprom.octets_read f c.args.bench.now c.open_card.new.bench) (same_form g run form asked) (c.in-Err.ensures.unopened.no_memory (cc is)));
       commands = λ reads.
           (let run : Opened g = (goal.at.returns-in-Err-clause-forms g c).After-open_card in
           Lines-unopened g.B.Eeprom.chip g.B.Eeprom.faults command_lines (λ m. false) start form c.in-Err.status c.args.source.now (g.S.Source.left c.args.source.now) (g.S.Source.left c.args.source.now) c.args.bench.now c.open_card.new.bench _ _ c.in-Err.ensures.unopened.unopened
-          (λ db begins. c.in-Err.ensures.unopened.stopped db (of_form g run form db asked begins)) (c.in-Err.ensures.ends (g.S.Source.source_faults c.args.source.now)) c.open_card.ensures.until.still (left g run form asked));
+          (λ db begins. c.in-Err.ensures.unopened.stopped db (of_form g run form db asked begins)) (c.in-Err.ensures.ends (g.S.Source.source_faults c.args.source.now)) c.open_card.ensures.leaves.until.still (left g run form asked));
       statements = λ is.
           (let asked = asked_for Term is in
           let run : Opened g = (goal.at.returns-in-Err-clause-forms g c).After-open_card in
           Lines-unopened g.B.Eeprom.chip g.B.Eeprom.faults term_lines was_refused opened Term c.in-Err.status c.args.source.now (g.S.Source.left c.args.source.now) (g.S.Source.left c.args.source.now) c.args.bench.now c.open_card.new.bench _ _ c.in-Err.ensures.unopened.unopened
-          (λ db begins. c.in-Err.ensures.unopened.stopped db (of_form g run Term db asked begins)) (c.in-Err.ensures.ends (g.S.Source.source_faults c.args.source.now)) c.open_card.ensures.until.still (left g run Term asked));
+          (λ db begins. c.in-Err.ensures.unopened.stopped db (of_form g run Term db asked begins)) (c.in-Err.ensures.ends (g.S.Source.source_faults c.args.source.now)) c.open_card.ensures.leaves.until.still (left g run Term asked));
       check = λ is.
           (let asked = asked_for Check is in
           let run : Opened g = (goal.at.returns-in-Err-clause-forms g c).After-open_card in
@@ -328,7 +328,7 @@ returns-in-Err-clause-forms g c = λ form asked.
           let run : Opened g = (goal.at.returns-in-Err-clause-forms g c).After-open_card in
           Migrates-unopened c.in-Err.status c.args.source.now (g.B.Eeprom.chip c.args.bench.now) (g.B.Eeprom.chip c.open_card.new.bench) _ _ c.in-Err.ensures.unopened.unopened
           (λ db opens. c.in-Err.ensures.unopened.stopped db (found g run db asked opens)) (c.in-Err.ensures.ends (g.S.Source.source_faults c.args.source.now)) (left g run Migrate asked));
-      behind = (asked_behind g (goal.at.returns-in-Err-clause-forms g c).After-open_card (g.B.Eeprom.chip c.open_card.new.bench) c.open_card.ensures.until.behind) form asked;
+      behind = (asked_behind g (goal.at.returns-in-Err-clause-forms g c).After-open_card (g.B.Eeprom.chip c.open_card.new.bench) c.open_card.ensures.leaves.until.behind) form asked;
     }
 
 pub returns-in-Migrate-clause-forms : goal.returns-in-Migrate-clause-forms
@@ -354,7 +354,7 @@ returns-in-Migrate-clause-forms g c = λ form asked.
           let old : Chip = g.B.Eeprom.chip c.args.bench.now in
           let mid : Chip = g.B.Eeprom.chip c.open_card.new.bench in
           let new : Chip = g.B.Eeprom.chip c.run_migration.new.bench in
-          let counted : g.B.Eeprom.faults c.open_card.new.bench ≡ g.B.Eeprom.faults c.args.bench.now = c.in-Ok.ensures.quiet in
+          let counted : g.B.Eeprom.faults c.open_card.new.bench ≡ g.B.Eeprom.faults c.args.bench.now = c.in-Ok.ensures.leaves.quiet in
           let sink = outlet_stays g run in
           let was : AllFaults = record { eeprom = g.B.Eeprom.faults c.args.bench.now; source = g.S.Source.source_faults c.args.source.now; outlet = g.B.Outlet.sink_faults c.args.bench.now } in
           let now : AllFaults = record { eeprom = g.B.Eeprom.faults c.run_migration.new.bench; source = g.S.Source.source_faults c.args.source.now; outlet = g.B.Outlet.sink_faults c.run_migration.new.bench } in
@@ -369,7 +369,7 @@ returns-in-Migrate-clause-forms g c = λ form asked.
           let mid : Chip = g.B.Eeprom.chip c.open_card.new.bench in
           let new : Chip = g.B.Eeprom.chip c.run_migration.new.bench in
           asked_behind g (goal.at.returns-in-Migrate-clause-forms g c).After-open_card new
-          (behind-then (run_cells c.in-Some.form) own_cells old mid new (cells-over c.in-Some.form c.in-Ok.card old mid c.in-Ok.ensures.opened.ready c.in-Ok.ensures.opened.cells) c.open_card.ensures.until.behind c.run_migration.ensures.behind)) form asked;
+          (behind-then (run_cells c.in-Some.form) own_cells old mid new (cells-over c.in-Some.form c.in-Ok.card old mid c.in-Ok.ensures.opened.ready c.in-Ok.ensures.opened.cells) c.open_card.ensures.leaves.until.behind c.run_migration.ensures.behind)) form asked;
     }
 
 pub returns-in-Check-clause-forms : goal.returns-in-Check-clause-forms
@@ -395,14 +395,14 @@ returns-in-Check-clause-forms g c = λ form asked.
           let same : c.in-Some.form ≡ Check = cc (c.in-Some.ensures, asked) in
           Checks-opened c.run_check.result c.args.source.now old mid new _ _ (left g run Check asked)
           (λ told. let first = c.in-Ok.ensures.opened.begins told in (first.0, subst (λ (f : Form). Begins f old first.0) same first.1))
-          (λ db opens. subst (λ (from : ℕ). Says c.run_check.result db from (g.B.Eeprom.faults c.run_check.new.bench) mid.still.given new.still.given) c.in-Ok.ensures.quiet
+          (λ db opens. subst (λ (from : ℕ). Says c.run_check.result db from (g.B.Eeprom.faults c.run_check.new.bench) mid.still.given new.still.given) c.in-Ok.ensures.leaves.quiet
           (c.run_check.ensures.says (start db) (c.in-Ok.ensures.opened.starts db (of_form g run Check db asked opens))))
           c.run_check.ensures.nothing (ends_check g (goal.at.returns-in-Check-clause-forms g c).After-run_check));
       load = λ rows seed is. (let other : Check ≡ Load rows seed = sym c.in-Check.is ∙ (same ∙ is) in absurd cc);
       migrate = λ is. (let other : Check ≡ Migrate = sym c.in-Check.is ∙ (same ∙ is) in absurd cc);
       behind = (let new : Chip = g.B.Eeprom.chip c.run_check.new.bench in
           asked_behind g (goal.at.returns-in-Check-clause-forms g c).After-open_card new
-          (behind-then (run_cells c.in-Some.form) (λ was. c.in-Ok.card.store.chains.cells) (g.B.Eeprom.chip c.args.bench.now) (g.B.Eeprom.chip c.open_card.new.bench) new c.in-Ok.ensures.opened.cells c.open_card.ensures.until.behind
+          (behind-then (run_cells c.in-Some.form) (λ was. c.in-Ok.card.store.chains.cells) (g.B.Eeprom.chip c.args.bench.now) (g.B.Eeprom.chip c.open_card.new.bench) new c.in-Ok.ensures.opened.cells c.open_card.ensures.leaves.until.behind
           (c.run_check.ensures.behind (λ was. c.in-Ok.card.store.chains.cells)))) form asked;
     }
 
@@ -435,14 +435,14 @@ returns-in-Load-clause-forms g c = λ form asked.
           Loads-opened rows seed c.run_load.result c.args.source.now old mid new _ _ (left g run (Load rows seed) asked)
           (λ told. let first = c.in-Ok.ensures.opened.begins told in (first.0, subst (λ (f : Form). Begins f old first.0) same first.1))
           (λ db opens. open-at c.in-Ok.card mid db c.in-Ok.ensures.opened.ready (at db opens))
-          (λ db opens. subst (λ (from : ℕ). LoadsTo rows seed c.run_load.result (terminal_at (start db) 0) from (g.B.Eeprom.faults c.run_load.new.bench) mid new) c.in-Ok.ensures.quiet
+          (λ db opens. subst (λ (from : ℕ). LoadsTo rows seed c.run_load.result (terminal_at (start db) 0) from (g.B.Eeprom.faults c.run_load.new.bench) mid new) c.in-Ok.ensures.leaves.quiet
           (subst (λ (n : ℕ). LoadsTo rows n c.run_load.result (terminal_at (start db) 0) (g.B.Eeprom.faults c.open_card.new.bench) (g.B.Eeprom.faults c.run_load.new.bench) mid new) same_seed
           (subst (λ (n : ℕ). LoadsTo n c.in-Load.seed c.run_load.result (terminal_at (start db) 0) (g.B.Eeprom.faults c.open_card.new.bench) (g.B.Eeprom.faults c.run_load.new.bench) mid new) same_rows (c.run_load.ensures.loads db (at db opens)))))
           (ends_load g (goal.at.returns-in-Load-clause-forms g c).After-run_load));
       migrate = λ is. (let other : Load c.in-Load.rows c.in-Load.seed ≡ Migrate = sym c.in-Load.is ∙ (same ∙ is) in absurd cc);
       behind = (let new : Chip = g.B.Eeprom.chip c.run_load.new.bench in
           asked_behind g (goal.at.returns-in-Load-clause-forms g c).After-open_card new
-          (behind-then (run_cells c.in-Some.form) (λ was. c.in-Ok.card.store.chains.cells) (g.B.Eeprom.chip c.args.bench.now) (g.B.Eeprom.chip c.open_card.new.bench) new c.in-Ok.ensures.opened.cells c.open_card.ensures.until.behind c.run_load.ensures.behind)) form asked;
+          (behind-then (run_cells c.in-Some.form) (λ was. c.in-Ok.card.store.chains.cells) (g.B.Eeprom.chip c.args.bench.now) (g.B.Eeprom.chip c.open_card.new.bench) new c.in-Ok.ensures.opened.cells c.open_card.ensures.leaves.until.behind c.run_load.ensures.behind)) form asked;
     }
 
 pub returns-in-Term-clause-forms : goal.returns-in-Term-clause-forms
@@ -469,7 +469,7 @@ returns-in-Term-clause-forms g c = λ form asked.
           Lines-opened g.B.Eeprom.chip g.B.Eeprom.faults term_lines was_refused opened Term c.answer_statements.result c.args.source.now c.answer_statements.new.source (g.S.Source.left c.args.source.now) (g.S.Source.left c.answer_statements.new.source) c.args.bench.now c.open_card.new.bench c.answer_statements.new.bench _ _
           c.answer_statements.ensures.run.status
           (λ told. let first = c.in-Ok.ensures.opened.begins told in (first.0, subst (λ (f : Form). Begins f old first.0) same first.1))
-          c.open_card.ensures.until.still c.in-Ok.ensures.quiet (left g card Term asked)
+          c.open_card.ensures.leaves.until.still c.in-Ok.ensures.leaves.quiet (left g card Term asked)
           (λ db begins. open-told mid db (open-at c.in-Ok.card mid db c.in-Ok.ensures.opened.ready (begins_at g run db asked begins)))
           c.answer_statements.ensures.run.whole c.answer_statements.ensures.run.too_long (ends_statements g run)
           (λ db begins. c.answer_statements.ensures.run.refusals db (begins_at g run db asked begins))
@@ -479,7 +479,7 @@ returns-in-Term-clause-forms g c = λ form asked.
       migrate = λ is. (let other : Term ≡ Migrate = sym c.in-Term.is ∙ (same ∙ is) in absurd cc);
       behind = (let new : Chip = g.B.Eeprom.chip c.answer_statements.new.bench in
           asked_behind g (goal.at.returns-in-Term-clause-forms g c).After-open_card new
-          (behind-then (run_cells c.in-Some.form) (λ was. c.in-Ok.card.store.chains.cells) (g.B.Eeprom.chip c.args.bench.now) (g.B.Eeprom.chip c.open_card.new.bench) new c.in-Ok.ensures.opened.cells c.open_card.ensures.until.behind c.answer_statements.ensures.run.behind)) form asked;
+          (behind-then (run_cells c.in-Some.form) (λ was. c.in-Ok.card.store.chains.cells) (g.B.Eeprom.chip c.args.bench.now) (g.B.Eeprom.chip c.open_card.new.bench) new c.in-Ok.ensures.opened.cells c.open_card.ensures.leaves.until.behind c.answer_statements.ensures.run.behind)) form asked;
     }
 
 pub returns-in-New-clause-forms : goal.returns-in-New-clause-forms
@@ -503,7 +503,7 @@ returns-in-New-clause-forms g c = λ form asked.
           Lines-opened g.B.Eeprom.chip g.B.Eeprom.faults command_lines (λ m. false) start form c.answer_commands.result c.args.source.now c.answer_commands.new.source (g.S.Source.left c.args.source.now) (g.S.Source.left c.answer_commands.new.source) c.args.bench.now c.open_card.new.bench c.answer_commands.new.bench _ _
           c.answer_commands.ensures.run.status
           (λ told. let first = c.in-Ok.ensures.opened.begins told in (first.0, subst (λ (f : Form). Begins f old first.0) same first.1))
-          c.open_card.ensures.until.still c.in-Ok.ensures.quiet (left g opened form asked)
+          c.open_card.ensures.leaves.until.still c.in-Ok.ensures.leaves.quiet (left g opened form asked)
           (λ db begins. open-told mid db (open-at c.in-Ok.card mid db c.in-Ok.ensures.opened.ready (starts g run form db asked begins)))
           c.answer_commands.ensures.run.whole c.answer_commands.ensures.run.too_long (ends_commands g run)
           (λ db begins. c.answer_commands.ensures.run.refusals (start db) (starts g run form db asked begins))
@@ -514,5 +514,5 @@ returns-in-New-clause-forms g c = λ form asked.
       migrate = λ is. absurd (no-read c.in-Some.form Migrate (same ∙ is) refl (commands-read c.in-Some.form c.in-New.is));
       behind = (let new : Chip = g.B.Eeprom.chip c.answer_commands.new.bench in
           asked_behind g (goal.at.returns-in-New-clause-forms g c).After-open_card new
-          (behind-then (run_cells c.in-Some.form) (λ was. c.in-Ok.card.store.chains.cells) (g.B.Eeprom.chip c.args.bench.now) (g.B.Eeprom.chip c.open_card.new.bench) new c.in-Ok.ensures.opened.cells c.open_card.ensures.until.behind c.answer_commands.ensures.run.behind)) form asked;
+          (behind-then (run_cells c.in-Some.form) (λ was. c.in-Ok.card.store.chains.cells) (g.B.Eeprom.chip c.args.bench.now) (g.B.Eeprom.chip c.open_card.new.bench) new c.in-Ok.ensures.opened.cells c.open_card.ensures.leaves.until.behind c.answer_commands.ensures.run.behind)) form asked;
     }

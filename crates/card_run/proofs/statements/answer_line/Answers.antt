@@ -32,24 +32,24 @@ returns-in-Some-clause-ended g c = λ sitting sits. record {
   ends = record {
     answered =
         rw (c.in-Some.is, c.heard.ensures)
-        (heard-answered (at g) (told_by g) (mark g) (chip g) (told g) sitting (Some c.in-Some.octets.now) (rows_in sitting.at (statement_of c.in-Some.octets.now)) (refusal_in sitting.at (statement_of c.in-Some.octets.now)) c.line.new.self c.line.result
+        (heard-answered (at g) (told_by g) (mark g) (chip g) (told g) sitting (Some c.in-Some.line.octets.now) (rows_in sitting.at (statement_of c.in-Some.line.octets.now)) (refusal_in sitting.at (statement_of c.in-Some.line.octets.now)) c.line.new.self c.line.result
         c.args.card.now c.line.new.link
-        (read-ends (at g) (told_by g) sitting.at c.args.terminal.now.channel c.in-Some.octets.now c.line.new.self c.line.result c.args.card.now c.line.new.link (search rules) sits.channel (c.line.ensures.ended sitting.at.machine sits.at sits.knows).ends)
-        (read-moments sitting.at c.args.terminal.now.channel (mark g c.args.card.now) c.in-Some.octets.now (chip g c.args.card.now) (chip g c.line.new.link) (search rules) sits.channel (c.line.ensures.ended sitting.at.machine sits.at sits.knows).moments)
+        (read-ends (at g) (told_by g) sitting.at c.args.terminal.now.channel c.in-Some.line.octets.now c.line.new.self c.line.result c.args.card.now c.line.new.link c.in-Some.line.short sits.channel (c.line.ensures.ended sitting.at.machine sits.at sits.knows).ends)
+        (read-moments sitting.at c.args.terminal.now.channel (mark g c.args.card.now) c.in-Some.line.octets.now (chip g c.args.card.now) (chip g c.line.new.link) c.in-Some.line.short sits.channel (c.line.ensures.ended sitting.at.machine sits.at sits.knows).moments)
         c.line.ensures.leaves.goes_on.lasts.marks);
     failed =
         rw (c.in-Some.is, c.heard.ensures)
-        (heard-failed (at g) (told_by g) (mark g) (chip g) (told g) sitting (Some c.in-Some.octets.now) (rows_in sitting.at (statement_of c.in-Some.octets.now)) (refusal_in sitting.at (statement_of c.in-Some.octets.now)) c.line.new.self c.line.result
+        (heard-failed (at g) (told_by g) (mark g) (chip g) (told g) sitting (Some c.in-Some.line.octets.now) (rows_in sitting.at (statement_of c.in-Some.line.octets.now)) (refusal_in sitting.at (statement_of c.in-Some.line.octets.now)) c.line.new.self c.line.result
         c.args.card.now c.line.new.link
-        (read-ends (at g) (told_by g) sitting.at c.args.terminal.now.channel c.in-Some.octets.now c.line.new.self c.line.result c.args.card.now c.line.new.link (search rules) sits.channel (c.line.ensures.ended sitting.at.machine sits.at sits.knows).ends)
-        (faulty-read sitting.at (statement_of c.in-Some.octets.now))
-        (read-moments sitting.at c.args.terminal.now.channel (mark g c.args.card.now) c.in-Some.octets.now (chip g c.args.card.now) (chip g c.line.new.link) (search rules) sits.channel (c.line.ensures.ended sitting.at.machine sits.at sits.knows).moments)
+        (read-ends (at g) (told_by g) sitting.at c.args.terminal.now.channel c.in-Some.line.octets.now c.line.new.self c.line.result c.args.card.now c.line.new.link c.in-Some.line.short sits.channel (c.line.ensures.ended sitting.at.machine sits.at sits.knows).ends)
+        (faulty-read sitting.at (statement_of c.in-Some.line.octets.now))
+        (read-moments sitting.at c.args.terminal.now.channel (mark g c.args.card.now) c.in-Some.line.octets.now (chip g c.args.card.now) (chip g c.line.new.link) c.in-Some.line.short sits.channel (c.line.ensures.ended sitting.at.machine sits.at sits.knows).moments)
         c.line.ensures.leaves.goes_on.lasts.marks);
   };
   refusal =
       rw (c.in-Some.is, c.heard.ensures)
-      (heard-refusal (at g) (told_by g) sitting.at.machine _ _ (refusal_in sitting.at (statement_of c.in-Some.octets.now)) c.line.new.self c.line.result c.args.card.now c.line.new.link
-      (read-ends (at g) (told_by g) sitting.at c.args.terminal.now.channel c.in-Some.octets.now c.line.new.self c.line.result c.args.card.now c.line.new.link (search rules) sits.channel (c.line.ensures.ended sitting.at.machine sits.at sits.knows).ends));
+      (heard-refusal (at g) (told_by g) sitting.at.machine _ _ (refusal_in sitting.at (statement_of c.in-Some.line.octets.now)) c.line.new.self c.line.result c.args.card.now c.line.new.link
+      (read-ends (at g) (told_by g) sitting.at c.args.terminal.now.channel c.in-Some.line.octets.now c.line.new.self c.line.result c.args.card.now c.line.new.link c.in-Some.line.short sits.channel (c.line.ensures.ended sitting.at.machine sits.at sits.knows).ends));
 }
 
 pub returns-in-Some-clause-leaves : goal.returns-in-Some-clause-leaves

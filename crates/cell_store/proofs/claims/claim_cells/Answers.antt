@@ -64,106 +64,130 @@ loop-cell-preserved g c =
       faults = search rules;
     }
 
-pub returns-then-next-clause-payload : goal.returns-then-next-clause-payload
-returns-then-next-clause-payload g c =
-    Walked-end c.args.cells c.args.first c.loop-cell.next c.loop-cell.payload.items c.loop-cell._cell longest_chain (g.B.Eeprom.chip c.args.bench.now).image (omega (arith, c.if-next.true)) c.loop-cell.invariant.walked
-
-pub returns-then-next-clause-size : goal.returns-then-next-clause-size
-returns-then-next-clause-size g c = c.loop-cell.invariant.size ∙ ap (λ (k : ℕ). 30 * k) (at-end g (goal.at.returns-then-next-clause-size g c).After-loop-cell)
-
-pub returns-in_err-next-clause-claims : goal.returns-in_err-next-clause-claims
-returns-in_err-next-clause-claims g c = record {
-  takes = search rules;
-  linked = search rules;
-  «record» = search rules;
-  octets_read = search rules;
-  most_read = reads-less 32 (cell_size * longest_chain) (g.B.Eeprom.octets_read c.args.bench.now) (g.B.Eeprom.octets_read c.claim_cell.new.bench) (omega arith) c.claim_cell.ensures.reads.octets_read;
-  bad_chain = λ refused.
-      let start : Cells = cells_from c.args.cells c.args.used.now c.args.links.now in
-      let image = (g.B.Eeprom.chip c.args.bench.now).image in
-      Claiming-taken start start image c.args.first 0 c.args.first c.requires.fits.many c.requires.covers.used_count (longer-none image c.args.cells c.args.first) (c.in_err-next.ensures.taken (search rules)) (Claiming-start start image c.args.first);
-  frame = search rules;
+pub returns-then-next : goal.returns-then-next
+returns-then-next g c = record {
+  claims = record {
+    takes =
+        let start : Cells = cells_from c.args.cells c.args.used.now c.args.links.now in
+        let now : Cells = cells_from c.args.cells c.loop-cell.used c.loop-cell.links in
+        let end = at-end g (goal.at.returns-then-next g c).After-loop-cell in
+        let short = count-short c.loop-cell.payload.items c.in-Some.count c.loop-cell.invariant.front in
+        subst (TakesChain start now c.args.first) end (Claiming-takes start now (g.B.Eeprom.chip c.args.bench.now).image c.args.first c.loop-cell._cell c.loop-cell.next c.requires.covers.links_count c.loop-cell.invariant.links c.if-next.true
+        (omega (arith, end, short.1)) c.loop-cell.invariant.claiming);
+    linked =
+        Claiming-linked (cells_from c.args.cells c.args.used.now c.args.links.now) (cells_from c.args.cells c.loop-cell.used c.loop-cell.links) (g.B.Eeprom.chip c.args.bench.now).image c.args.first c.loop-cell._cell c.loop-cell.next c.requires.covers.used_count
+        c.loop-cell.invariant.claiming;
+    «record» =
+        let start : Cells = cells_from c.args.cells c.args.used.now c.args.links.now in
+        let now : Cells = cells_from c.args.cells c.loop-cell.used c.loop-cell.links in
+        let image = (g.B.Eeprom.chip c.args.bench.now).image in
+        let at = (goal.at.returns-then-next g c).In-Some in
+        let end = at-end g (goal.at.returns-then-next g c).After-loop-cell in
+        let short = count-short c.loop-cell.payload.items c.in-Some.count c.loop-cell.invariant.front in
+        Claiming-record start now image c.args.first c.in-Some.count c.loop-cell.next c.requires.fits.many c.loop-cell.invariant.links c.requires.covers.used_count c.if-next.true short.0 (told g at)
+        (subst (λ (count : ℕ). Claiming start now image c.args.first count c.loop-cell.next) end c.loop-cell.invariant.claiming);
+    octets_read = rw (at-end g (goal.at.returns-then-next g c).After-loop-cell) at c.loop-cell.invariant.read;
+    most_read =
+        let short = count-short c.loop-cell.payload.items c.in-Some.count c.loop-cell.invariant.front in
+        reads-whole c.loop-cell._cell (cell_size * longest_chain) (g.B.Eeprom.octets_read c.args.bench.now) (g.B.Eeprom.octets_read c.loop-cell.bench) (omega (arith, at-end g (goal.at.returns-then-next g c).After-loop-cell, short.1)) c.loop-cell.invariant.read;
+    bad_chain = search rules;
+    frame = search rules;
+  };
+  payload =
+      Walked-end c.args.cells c.args.first c.loop-cell.next c.loop-cell.payload.items c.loop-cell._cell longest_chain (g.B.Eeprom.chip c.args.bench.now).image (omega (arith, c.if-next.true)) c.loop-cell.invariant.walked;
+  count = search rules;
+  size = c.loop-cell.invariant.size ∙ ap (λ (k : ℕ). 30 * k) (at-end g (goal.at.returns-then-next g c).After-loop-cell);
+  covers = search rules;
 }
 
-pub returns-in_default-clause-claims : goal.returns-in_default-clause-claims
-returns-in_default-clause-claims g c = record {
-  takes = search rules;
-  linked = search rules;
-  «record» = search rules;
-  octets_read = search rules;
-  most_read = reads-less 32 (cell_size * longest_chain) (g.B.Eeprom.octets_read c.args.bench.now) (g.B.Eeprom.octets_read c.claim_cell.new.bench) (omega arith) c.claim_cell.ensures.reads.octets_read;
-  bad_chain = λ _.
-      let start : Cells = cells_from c.args.cells c.args.used.now c.args.links.now in
-      let image = (g.B.Eeprom.chip c.args.bench.now).image in
-      no-length start image c.args.first (told-count image c.args.cells c.args.first c.claim_cell.new.payload.items _ (rw c.clear.ensures at c.in_ok-next.ensures.cell.payload) (ap record_cells (sym c.as_slice.ensures.value) ∙ (sym c.record_cells.ensures ∙ c.in_default.is)));
-  frame = search rules;
+pub returns-in_err-next : goal.returns-in_err-next
+returns-in_err-next g c = record {
+  claims = record {
+    takes = search rules;
+    linked = search rules;
+    «record» = search rules;
+    octets_read = search rules;
+    most_read = reads-less 32 (cell_size * longest_chain) (g.B.Eeprom.octets_read c.args.bench.now) (g.B.Eeprom.octets_read c.claim_cell.new.bench) (omega arith) c.claim_cell.ensures.reads.octets_read;
+    bad_chain = λ refused.
+        let start : Cells = cells_from c.args.cells c.args.used.now c.args.links.now in
+        let image = (g.B.Eeprom.chip c.args.bench.now).image in
+        Claiming-taken start start image c.args.first 0 c.args.first c.requires.fits.many c.requires.covers.used_count (longer-none image c.args.cells c.args.first) (c.in_err-next.ensures.taken (search rules)) (Claiming-start start image c.args.first);
+    frame = search rules;
+  };
+  payload = search rules;
+  count = search rules;
+  size = search rules;
+  covers = search rules;
 }
 
-pub returns-in_err-next-2-clause-claims : goal.returns-in_err-next-2-clause-claims
-returns-in_err-next-2-clause-claims g c = record {
-  takes = search rules;
-  linked = search rules;
-  «record» = search rules;
-  octets_read = search rules;
-  most_read =
-      let short = count-short c.loop-cell.payload.items c.in-Some.count c.loop-cell.invariant.front in
-      reads-then c.loop-cell._cell 32 (cell_size * longest_chain) (g.B.Eeprom.octets_read c.args.bench.now) (g.B.Eeprom.octets_read c.loop-cell.bench) (g.B.Eeprom.octets_read c.claim_cell-in-loop-cell.new.bench) (omega (arith, c.loop-cell-test.true, short.1))
-      c.loop-cell.invariant.read c.claim_cell-in-loop-cell.ensures.reads.octets_read;
-  bad_chain = λ refused.
-      let start : Cells = cells_from c.args.cells c.args.used.now c.args.links.now in
-      let now : Cells = cells_from c.args.cells c.loop-cell.used c.loop-cell.links in
-      let image = (g.B.Eeprom.chip c.args.bench.now).image in
-      let at = (goal.at.returns-in_err-next-2-clause-claims g c).In-Some in
-      Claiming-taken start now image c.args.first c.loop-cell._cell c.loop-cell.next c.requires.fits.many c.requires.covers.used_count (longer-counted image c.args.cells c.args.first c.loop-cell._cell c.in-Some.count (told g at) c.loop-cell-test.true)
-      (c.in_err-next-2.ensures.taken (search rules)) c.loop-cell.invariant.claiming;
-  frame = search rules;
+pub returns-in_default : goal.returns-in_default
+returns-in_default g c = record {
+  claims = record {
+    takes = search rules;
+    linked = search rules;
+    «record» = search rules;
+    octets_read = search rules;
+    most_read = reads-less 32 (cell_size * longest_chain) (g.B.Eeprom.octets_read c.args.bench.now) (g.B.Eeprom.octets_read c.claim_cell.new.bench) (omega arith) c.claim_cell.ensures.reads.octets_read;
+    bad_chain = λ _.
+        let start : Cells = cells_from c.args.cells c.args.used.now c.args.links.now in
+        let image = (g.B.Eeprom.chip c.args.bench.now).image in
+        no-length start image c.args.first (told-count image c.args.cells c.args.first c.claim_cell.new.payload.items _ (rw c.clear.ensures at c.in_ok-next.ensures.cell.payload) (ap record_cells (sym c.as_slice.ensures.value) ∙ (sym c.record_cells.ensures ∙ c.in_default.is)));
+    frame = search rules;
+  };
+  payload = search rules;
+  count = search rules;
+  size = search rules;
+  covers = search rules;
 }
 
-pub returns-then-next-clause-claims : goal.returns-then-next-clause-claims
-returns-then-next-clause-claims g c = record {
-  takes =
-      let start : Cells = cells_from c.args.cells c.args.used.now c.args.links.now in
-      let now : Cells = cells_from c.args.cells c.loop-cell.used c.loop-cell.links in
-      let end = at-end g (goal.at.returns-then-next-clause-claims g c).After-loop-cell in
-      let short = count-short c.loop-cell.payload.items c.in-Some.count c.loop-cell.invariant.front in
-      subst (TakesChain start now c.args.first) end (Claiming-takes start now (g.B.Eeprom.chip c.args.bench.now).image c.args.first c.loop-cell._cell c.loop-cell.next c.requires.covers.links_count c.loop-cell.invariant.links c.if-next.true
-      (omega (arith, end, short.1)) c.loop-cell.invariant.claiming);
-  linked =
-      Claiming-linked (cells_from c.args.cells c.args.used.now c.args.links.now) (cells_from c.args.cells c.loop-cell.used c.loop-cell.links) (g.B.Eeprom.chip c.args.bench.now).image c.args.first c.loop-cell._cell c.loop-cell.next c.requires.covers.used_count
-      c.loop-cell.invariant.claiming;
-  «record» =
-      let start : Cells = cells_from c.args.cells c.args.used.now c.args.links.now in
-      let now : Cells = cells_from c.args.cells c.loop-cell.used c.loop-cell.links in
-      let image = (g.B.Eeprom.chip c.args.bench.now).image in
-      let at = (goal.at.returns-then-next-clause-claims g c).In-Some in
-      let end = at-end g (goal.at.returns-then-next-clause-claims g c).After-loop-cell in
-      let short = count-short c.loop-cell.payload.items c.in-Some.count c.loop-cell.invariant.front in
-      Claiming-record start now image c.args.first c.in-Some.count c.loop-cell.next c.requires.fits.many c.loop-cell.invariant.links c.requires.covers.used_count c.if-next.true short.0 (told g at)
-      (subst (λ (count : ℕ). Claiming start now image c.args.first count c.loop-cell.next) end c.loop-cell.invariant.claiming);
-  octets_read = rw (at-end g (goal.at.returns-then-next-clause-claims g c).After-loop-cell) at c.loop-cell.invariant.read;
-  most_read =
-      let short = count-short c.loop-cell.payload.items c.in-Some.count c.loop-cell.invariant.front in
-      reads-whole c.loop-cell._cell (cell_size * longest_chain) (g.B.Eeprom.octets_read c.args.bench.now) (g.B.Eeprom.octets_read c.loop-cell.bench) (omega (arith, at-end g (goal.at.returns-then-next-clause-claims g c).After-loop-cell, short.1)) c.loop-cell.invariant.read;
-  bad_chain = search rules;
-  frame = search rules;
+pub returns-in_err-next-2 : goal.returns-in_err-next-2
+returns-in_err-next-2 g c = record {
+  claims = record {
+    takes = search rules;
+    linked = search rules;
+    «record» = search rules;
+    octets_read = search rules;
+    most_read =
+        let short = count-short c.loop-cell.payload.items c.in-Some.count c.loop-cell.invariant.front in
+        reads-then c.loop-cell._cell 32 (cell_size * longest_chain) (g.B.Eeprom.octets_read c.args.bench.now) (g.B.Eeprom.octets_read c.loop-cell.bench) (g.B.Eeprom.octets_read c.claim_cell-in-loop-cell.new.bench) (omega (arith, c.loop-cell-test.true, short.1))
+        c.loop-cell.invariant.read c.claim_cell-in-loop-cell.ensures.reads.octets_read;
+    bad_chain = λ refused.
+        let start : Cells = cells_from c.args.cells c.args.used.now c.args.links.now in
+        let now : Cells = cells_from c.args.cells c.loop-cell.used c.loop-cell.links in
+        let image = (g.B.Eeprom.chip c.args.bench.now).image in
+        let at = (goal.at.returns-in_err-next-2 g c).In-Some in
+        Claiming-taken start now image c.args.first c.loop-cell._cell c.loop-cell.next c.requires.fits.many c.requires.covers.used_count (longer-counted image c.args.cells c.args.first c.loop-cell._cell c.in-Some.count (told g at) c.loop-cell-test.true)
+        (c.in_err-next-2.ensures.taken (search rules)) c.loop-cell.invariant.claiming;
+    frame = search rules;
+  };
+  payload = search rules;
+  count = search rules;
+  size = search rules;
+  covers = search rules;
 }
 
-pub returns-else-next-clause-claims : goal.returns-else-next-clause-claims
-returns-else-next-clause-claims g c = record {
-  takes = search rules;
-  linked = search rules;
-  «record» = search rules;
-  octets_read = search rules;
-  most_read =
-      let short = count-short c.loop-cell.payload.items c.in-Some.count c.loop-cell.invariant.front in
-      reads-whole c.loop-cell._cell (cell_size * longest_chain) (g.B.Eeprom.octets_read c.args.bench.now) (g.B.Eeprom.octets_read c.loop-cell.bench) (omega (arith, at-end g (goal.at.returns-else-next-clause-claims g c).After-loop-cell, short.1)) c.loop-cell.invariant.read;
-  bad_chain = λ _.
-      let start : Cells = cells_from c.args.cells c.args.used.now c.args.links.now in
-      let now : Cells = cells_from c.args.cells c.loop-cell.used c.loop-cell.links in
-      let image = (g.B.Eeprom.chip c.args.bench.now).image in
-      let at = (goal.at.returns-else-next-clause-claims g c).In-Some in
-      let end = at-end g (goal.at.returns-else-next-clause-claims g c).After-loop-cell in
-      Claiming-on start now image c.args.first c.in-Some.count c.loop-cell.next c.requires.fits.many c.if-next.false (told g at)
-      (subst (λ (count : ℕ). Claiming start now image c.args.first count c.loop-cell.next) end c.loop-cell.invariant.claiming);
-  frame = search rules;
+pub returns-else-next : goal.returns-else-next
+returns-else-next g c = record {
+  claims = record {
+    takes = search rules;
+    linked = search rules;
+    «record» = search rules;
+    octets_read = search rules;
+    most_read =
+        let short = count-short c.loop-cell.payload.items c.in-Some.count c.loop-cell.invariant.front in
+        reads-whole c.loop-cell._cell (cell_size * longest_chain) (g.B.Eeprom.octets_read c.args.bench.now) (g.B.Eeprom.octets_read c.loop-cell.bench) (omega (arith, at-end g (goal.at.returns-else-next g c).After-loop-cell, short.1)) c.loop-cell.invariant.read;
+    bad_chain = λ _.
+        let start : Cells = cells_from c.args.cells c.args.used.now c.args.links.now in
+        let now : Cells = cells_from c.args.cells c.loop-cell.used c.loop-cell.links in
+        let image = (g.B.Eeprom.chip c.args.bench.now).image in
+        let at = (goal.at.returns-else-next g c).In-Some in
+        let end = at-end g (goal.at.returns-else-next g c).After-loop-cell in
+        Claiming-on start now image c.args.first c.in-Some.count c.loop-cell.next c.requires.fits.many c.if-next.false (told g at)
+        (subst (λ (count : ℕ). Claiming start now image c.args.first count c.loop-cell.next) end c.loop-cell.invariant.claiming);
+    frame = search rules;
+  };
+  payload = search rules;
+  count = search rules;
+  size = search rules;
+  covers = search rules;
 }

@@ -35,14 +35,6 @@ moments g c =
     (rw c.as_slice.ensures.value c.fill_run.ensures.size) c.requires.fits.room (g.met.B.Eeprom.sized c.args.bench.now) (g.met.B.Eeprom.clocked c.loop-left.bench)
     c.loop-left.invariant.placed c.loop-left.invariant.moments (rw c.cell_place.ensures at c.write.ensures.writes)
 
-pub returns-in-Err-clause-moments : goal.returns-in-Err-clause-moments
-returns-in-Err-clause-moments g c = moments g (goal.at.returns-in-Err-clause-moments g c).After-write
-
-pub returns-in-Err-clause-undone : goal.returns-in-Err-clause-undone
-returns-in-Err-clause-undone g c =
-    undone c.args.cells c.args.marks.now c.loop-left.marks c.unmark_chain.new.marks c.loop-left.left c.args.count c.loop-left.first c.args.links.now c.loop-left.links c.requires.covers.used_count c.loop-left.invariant.links c.requires.short
-    c.loop-left.invariant.laid (rw c.find_run-run.ensures.same at c.unmark_chain.ensures.unmarked)
-
 pub loop-left-preserved : goal.loop-left-preserved
 loop-left-preserved g c =
     let written = (goal.at.loop-left-preserved g c).After-write in
@@ -79,3 +71,19 @@ loop-left-preserved g c =
       told = ap (λ (image : Option (List ℕ)). is_some image) c.in_default.ensures.written ∙ (is_some-map _ mid.image ∙ c.loop-left.invariant.told);
       faults = search rules;
     })
+
+pub returns-in-Err : goal.returns-in-Err
+returns-in-Err g c = record {
+  placed = search rules;
+  laid = search rules;
+  covers = search rules;
+  undone =
+      undone c.args.cells c.args.marks.now c.loop-left.marks c.unmark_chain.new.marks c.loop-left.left c.args.count c.loop-left.first c.args.links.now c.loop-left.links c.requires.covers.used_count c.loop-left.invariant.links c.requires.short
+      c.loop-left.invariant.laid (rw c.find_run-run.ensures.same at c.unmark_chain.ensures.unmarked);
+  stay = search rules;
+  there = search rules;
+  told = search rules;
+  octets_written = search rules;
+  moments = moments g (goal.at.returns-in-Err g c).After-write;
+  cause = search rules;
+}

@@ -6,11 +6,17 @@ use Rattle.card_link.specs.Link.{IsOneOf, LeavesOpen}
 use Rattle.reader_rack.specs.Racks.{reader_at}
 use Rattle.reader_rack.specs.Statements.{IsReader}
 use Rattle.copy_run.specs.Racks.{IsCopied, LinkBecomes}
-use Rattle.copy_run.proofs.Relinking.{Relinked, becomes, copied, links-change, others-still, relinked-from, relinked-to}
+use Rattle.copy_run.proofs.Relinking.{Relinked, becomes, copied, links-change, may-lend, may-lend-too, others-still, relinked-from, relinked-to}
 use Rattle.copy_run.proofs.lending.copy_named.Goals as goal
 
-pub returns-clause-copies : goal.returns-clause-copies
-returns-clause-copies g c =
+pub take-source-requires : goal.take-source-requires
+take-source-requires g c = (search rules, may-lend g.L.CardLink.is_live c.args.rack.now.readers c.args.from c.requires.source)
+
+pub take-dest-requires : goal.take-dest-requires
+take-dest-requires g c = (search rules, may-lend-too g.L.CardLink.is_live c.args.rack.now.readers c.take-source.new.self.readers c.args.from c.args.to c.take-source.ensures.leaves.others c.requires.apart c.requires.dest)
+
+pub returns : goal.returns
+returns g c =
     let from = c.args.from in
     let to = c.args.to in
     let r0 = c.args.rack.now.readers in
@@ -37,7 +43,7 @@ returns-clause-copies g c =
           (copied g.L.CardLink.is_at g.L.CardLink.is_live g.L.CardLink.faults r0 r4 _ from to (copy_for s.machine d.machine c.args.names.now) c.copy_for-end.result state s d c.take-source.result c.copy_for-end.new.source c.take-dest.result c.copy_for-end.new.dest is_from is_to first second
           others
           rack is_s is_d
-          (λ at. (c.copy_for-end.ensures.read s.machine at).reads) (λ source_at dest_at. (c.copy_for-end.ensures.copied s.machine d.machine source_at dest_at).copies) c.copy_for-end.ensures.causes);
+          (λ at. (c.copy_for-end.ensures.read s.machine at).reads) (λ source_at dest_at. (c.copy_for-end.ensures.copied s.machine d.machine source_at dest_at).copies) c.copy_for-end.ensures.leaves.causes);
       read = becomes _ first c.copy_for-end.ensures.read;
       undone = becomes _ second c.copy_for-end.ensures.undone;
       dest_moments =
@@ -46,4 +52,5 @@ returns-clause-copies g c =
       causes = search rules;
       links = links-change first second others;
       rest = search rules;
+      shows = search rules;
     }

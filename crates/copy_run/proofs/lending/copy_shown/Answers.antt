@@ -6,11 +6,17 @@ use Rattle.card_link.specs.Link.{IsOneOf, LeavesOpen}
 use Rattle.reader_rack.specs.Racks.{reader_at}
 use Rattle.reader_rack.specs.Statements.{IsReader}
 use Rattle.copy_run.specs.Racks.{IsCopied, LinkBecomes}
-use Rattle.copy_run.proofs.Relinking.{Relinked, becomes, copied, links-change, others-still, relinked-from, relinked-to}
+use Rattle.copy_run.proofs.Relinking.{Relinked, becomes, copied, links-change, may-lend, may-lend-too, others-still, relinked-from, relinked-to}
 use Rattle.copy_run.proofs.lending.copy_shown.Goals as goal
 
-pub returns-clause-copies : goal.returns-clause-copies
-returns-clause-copies g c =
+pub take-source-requires : goal.take-source-requires
+take-source-requires g c = (search rules, may-lend g.L.CardLink.is_live c.args.rack.now.readers c.args.from c.requires.source)
+
+pub take-dest-requires : goal.take-dest-requires
+take-dest-requires g c = (search rules, may-lend-too g.L.CardLink.is_live c.args.rack.now.readers c.take-source.new.self.readers c.args.from c.args.to c.take-source.ensures.leaves.others c.requires.apart c.requires.dest)
+
+pub returns : goal.returns
+returns g c =
     let from = c.args.from in
     let to = c.args.to in
     let r0 = c.args.rack.now.readers in
@@ -46,4 +52,5 @@ returns-clause-copies g c =
       causes = search rules;
       links = links-change first second others;
       rest = search rules;
+      shows = search rules;
     }

@@ -9,7 +9,7 @@ returns-then-not-refuses-clause-fetched g c =
 
 pub returns-then-not-refuses-clause-read : goal.returns-then-not-refuses-clause-read
 returns-then-not-refuses-clause-read g c =
-    read-next (g.F.RowFeed.tells c.args.feed.now) _ c.args.place.now c.in_ok-next.next _ _ _ _ c.in_ok-next.ensures.next c.next_word-word.ensures.least c.in_ok-next.ensures.read
+    read-next (g.F.RowFeed.tells c.args.feed.now) _ c.args.place.now c.in_ok-next.next _ _ _ _ c.in_ok-next.ensures.next c.next_word-word.ensures.least c.in_ok-next.ensures.reads.read
 
 pub returns-else-not-refuses-clause-fetched : goal.returns-else-not-refuses-clause-fetched
 returns-else-not-refuses-clause-fetched g c =
@@ -17,4 +17,4 @@ returns-else-not-refuses-clause-fetched g c =
 
 pub returns-else-not-refuses-clause-read : goal.returns-else-not-refuses-clause-read
 returns-else-not-refuses-clause-read g c =
-    read-next (g.F.RowFeed.tells c.args.feed.now) _ c.args.place.now c.in_ok-next.next _ _ _ _ c.in_ok-next.ensures.next c.next_word-word.ensures.least c.in_ok-next.ensures.read
+    read-next (g.F.RowFeed.tells c.args.feed.now) _ c.args.place.now c.in_ok-next.next _ _ _ _ c.in_ok-next.ensures.next c.next_word-word.ensures.least c.in_ok-next.ensures.reads.read

@@ -1,7 +1,7 @@
 -- The user of the name, or the first refusal.
-use Rattle.std.proofs.Common.{rules, sym, ap, subst, ◌∙◌}
+use Rattle.std.proofs.Common.{rules, sym, ap, ◌∙◌}
 use Rattle.std.specs.Prelude.{option_map}
-use Rattle.record_table.specs.Making.{IsHeld}
+use Rattle.record_table.proofs.Asking.{same-held}
 use Rattle.db_access.proofs.NamedUser.{named-held}
 use Rattle.db_access.proofs.UserDeleted.{deletes, deletes-foreign, deletes-needed, deletes-none}
 use Rattle.db_access.proofs.deleting.find_to_delete.Goals as goal
@@ -11,9 +11,7 @@ returns-in_default-clause-asks g c = record {
   answers = λ db held.
       let named = named-held c.args.reader.now.store.now c.args.reader.now.side (g.B.Eeprom.chip c.args.reader.now.bench.now) db c.args.name _ held c.in_ok-user.ensures.first in
       rw c.refused.ensures (deletes-none db c.args.actor c.args.name (named ∙ ap (option_map (λ found. found.value)) c.in_default.is));
-  store = search rules;
-  side = search rules;
-  bench = search rules;
+  goes_on = search rules;
   frame = search rules;
 }
 
@@ -23,9 +21,7 @@ returns-then-not-is_owned_by-clause-asks g c = record {
       let named = named-held c.args.reader.now.store.now c.args.reader.now.side (g.B.Eeprom.chip c.args.reader.now.bench.now) db c.args.name _ held c.in_ok-user.ensures.first in
       rw c.refused-then-not-is_owned_by.ensures
       (deletes-foreign db c.args.actor c.args.name c.in-Some.user.value (named ∙ ap (option_map (λ found. found.value)) c.in-Some.is) (sym c.is_owned_by.ensures ∙ c.if-not-is_owned_by.true));
-  store = search rules;
-  side = search rules;
-  bench = search rules;
+  goes_on = search rules;
   frame = search rules;
 }
 
@@ -33,13 +29,11 @@ pub returns-then-branch-clause-asks : goal.returns-then-branch-clause-asks
 returns-then-branch-clause-asks g c = record {
   answers = λ db held.
       let named = named-held c.args.reader.now.store.now c.args.reader.now.side (g.B.Eeprom.chip c.args.reader.now.bench.now) db c.args.name _ held c.in_ok-user.ensures.first in
-      let still = subst (λ chip. IsHeld c.args.reader.now.store.now c.args.reader.now.side chip db) (sym c.in_ok-user.ensures.frame.same) held in
+      let still = same-held c.in_ok-user.ensures.goes_on c.in_ok-user.ensures.frame.same held in
       rw c.refused-then-branch.ensures
       (deletes-needed db c.args.actor c.args.name c.in-Some.user.value (named ∙ ap (option_map (λ found. found.value)) c.in-Some.is) (sym c.is_owned_by.ensures ∙ c.if-not-is_owned_by.false)
       (sym (c.in_ok-is_needed.ensures.answers db still) ∙ c.if-branch.true));
-  store = search rules;
-  side = search rules;
-  bench = search rules;
+  goes_on = search rules;
   frame = search rules;
 }
 
@@ -47,12 +41,10 @@ pub returns-clause-asks : goal.returns-clause-asks
 returns-clause-asks g c = record {
   answers = λ db held.
       let named = named-held c.args.reader.now.store.now c.args.reader.now.side (g.B.Eeprom.chip c.args.reader.now.bench.now) db c.args.name _ held c.in_ok-user.ensures.first in
-      let still = subst (λ chip. IsHeld c.args.reader.now.store.now c.args.reader.now.side chip db) (sym c.in_ok-user.ensures.frame.same) held in
+      let still = same-held c.in_ok-user.ensures.goes_on c.in_ok-user.ensures.frame.same held in
       deletes db c.args.actor c.args.name c.in-Some.user.value (named ∙ ap (option_map (λ found. found.value)) c.in-Some.is) (sym c.is_owned_by.ensures ∙ c.if-not-is_owned_by.false)
       (sym (c.in_ok-is_needed.ensures.answers db still) ∙ c.if-branch.false);
-  store = search rules;
-  side = search rules;
-  bench = search rules;
+  goes_on = search rules;
   frame = search rules;
 }
 

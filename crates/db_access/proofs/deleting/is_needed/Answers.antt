@@ -8,9 +8,7 @@ use Rattle.db_access.proofs.deleting.is_needed.Goals as goal
 pub returns-then-branch : goal.returns-then-branch
 returns-then-branch g c = record {
   answers = λ db held. needed-users db c.args.user.now (sym (c.in_ok-owns_users.ensures.answers db held) ∙ c.if-branch.true);
-  store = search rules;
-  side = search rules;
-  bench = search rules;
+  goes_on = search rules;
   frame = search rules;
 }
 
@@ -20,8 +18,6 @@ returns g c = record {
       let still = Holds-then c.in_ok-owns_users.ensures held in
       subst (λ (b : Bool). IfOk c.owns_objects.result (λ needed. needed ≡ b)) (needed-objects db c.args.user.now (sym c.is_db_o.ensures ∙ c.if-is_db_o.false) (sym (c.in_ok-owns_users.ensures.answers db held) ∙ c.if-branch.false))
       (c.owns_objects.ensures.answers db still);
-  store = search rules;
-  side = search rules;
-  bench = search rules;
+  goes_on = search rules;
   frame = search rules;
 }

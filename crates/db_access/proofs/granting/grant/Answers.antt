@@ -9,6 +9,7 @@ use Rattle.scql_model.specs.Edits.{changing, making}
 use Rattle.scql_model.specs.Granting.{grant_to, more_granted, privileges_granted}
 use Rattle.scql_model.specs.Records.{AnyRecord, of_grant}
 use Rattle.record_table.specs.Making.{IsHeld, IsValidWith}
+use Rattle.record_table.proofs.Asking.{same-slots}
 use Rattle.record_table.proofs.Asked.{Ends-of}
 use Rattle.record_table.proofs.Ending.{Ends-stopped}
 use Rattle.db_access.specs.Pairs.{pair_named}
@@ -45,11 +46,10 @@ with_more db actor privileges name grantee_name pair given more named found same
 pub returns-in-Some : goal.returns-in-Some
 returns-in-Some g c = Ended-after c.change_in_place.ensures (search rules) (search rules) (λ db held form.
     let pair = c.in_ok-pair.pair in
-    let still : g.B.Eeprom.chip c.find_pair.new.bench ≡ g.B.Eeprom.chip c.args.bench.now = search rules in
     let given = c.in-Some.found.value in
     let more : Grant = c.with_privileges-more.result in
     let found : Some given ≡ grant_to db pair.object pair.grantee =
-    pair-held c.args.tables.now.store Working (g.B.Eeprom.chip c.args.bench.now) db pair.object.stamp pair.grantee (Some given) held (rw (sym c.in_ok-held.ensures.frame.same ∙ still) at (rw c.in-Some.is at c.in_ok-held.ensures.found)) in
+    pair-held c.args.tables.now.store Working (g.B.Eeprom.chip c.args.bench.now) db pair.object.stamp pair.grantee (Some given) held (rw (same-slots c.in_ok-pair.ensures.goes_on c.in_ok-pair.ensures.frame.same) at (rw c.in-Some.is at c.in_ok-held.ensures.found)) in
     let same : more ≡ record given { privileges = bit_or given.privileges c.args.privileges } = c.with_privileges-more.ensures ∙ ap (λ (bits : ℕ). record given { privileges = bits }) c.both.ensures in
     let is = with_more db c.args.actor c.args.privileges c.args.object c.args.grantee pair given more (c.in_ok-pair.ensures.answers db held) found same in
     (valid-granted db c.args.actor c.args.privileges c.args.object c.args.grantee (changing (of_grant more) ∷ []) held.valid form.0 is, is))
@@ -57,9 +57,8 @@ returns-in-Some g c = Ended-after c.change_in_place.ensures (search rules) (sear
 pub returns-in_err-counter : goal.returns-in_err-counter
 returns-in_err-counter g c = Ended-before c.requires.open.stand (search rules) (search rules) (λ db held form.
     let pair = c.in_ok-pair.pair in
-    let still : g.B.Eeprom.chip c.find_pair.new.bench ≡ g.B.Eeprom.chip c.args.bench.now = search rules in
     let chip = g.B.Eeprom.chip c.args.bench.now in
-    let none = pair-held c.args.tables.now.store Working chip db pair.object.stamp pair.grantee None held (rw (sym c.in_ok-held.ensures.frame.same ∙ still) at (rw c.in_default.is at c.in_ok-held.ensures.found)) in
+    let none = pair-held c.args.tables.now.store Working chip db pair.object.stamp pair.grantee None held (rw (same-slots c.in_ok-pair.ensures.goes_on c.in_ok-pair.ensures.frame.same) at (rw c.in_default.is at c.in_ok-held.ensures.found)) in
     let edits = making db (of_grant (new_grant db pair c.args.privileges)) in
     Ends-stopped (Unit {0}) db _ c.from_residual-in_err-counter.result c.in_err-counter.field-0.0 _ _ _ _ c.from_residual-in_err-counter.ensures.1
     (Ends-of {T = Unit {0}} db edits _ (Err c.in_err-counter.field-0.0) c.args.tables.now.store c.args.tables.now.store chip _ (g.B.Eeprom.chip c.next_stamp.new.bench)
@@ -69,10 +68,9 @@ returns-in_err-counter g c = Ended-before c.requires.open.stand (search rules) (
 pub returns : goal.returns
 returns g c = Ended-after c.make.ensures.ended (search rules) (search rules) (λ db held form.
     let pair = c.in_ok-pair.pair in
-    let still : g.B.Eeprom.chip c.find_pair.new.bench ≡ g.B.Eeprom.chip c.args.bench.now = search rules in
     let chip = g.B.Eeprom.chip c.args.bench.now in
-    let none = pair-held c.args.tables.now.store Working chip db pair.object.stamp pair.grantee None held (rw (sym c.in_ok-held.ensures.frame.same ∙ still) at (rw c.in_default.is at c.in_ok-held.ensures.found)) in
-    let next = ap (λ counter. counter.value) c.counter.view_is ∙ c.in_ok-counter.ensures.next db (subst (λ chip. IsHeld c.args.tables.now.store Working chip db) (search rules) held) in
+    let none = pair-held c.args.tables.now.store Working chip db pair.object.stamp pair.grantee None held (rw (same-slots c.in_ok-pair.ensures.goes_on c.in_ok-pair.ensures.frame.same) at (rw c.in_default.is at c.in_ok-held.ensures.found)) in
+    let next = ap (λ counter. counter.value) c.counter.view_is ∙ c.in_ok-counter.ensures.finds.next db (subst (λ chip. IsHeld c.args.tables.now.store Working chip db) (search rules) held) in
     let is = anew db c.args.actor c.args.privileges c.args.object c.args.grantee pair (c.in_ok-pair.ensures.answers db held) none in
     let made = sym (ap (stamped pair c.args.privileges) next) in
     ((next, subst (λ r. IsValidWith db (making db r)) made (valid-granted db c.args.actor c.args.privileges c.args.object c.args.grantee _ held.valid form.0 is)), is ∙ ap (λ r. Ok (making db r)) made))

@@ -13,9 +13,7 @@ returns-in-Some g c = record {
       let other : bytes_eq c.args.name public_name ≡ false = rw c.octets.ensures.octets at (sym c.eq.ensures ∙ c.if-eq.false) in
       let named = named-held c.args.reader.now.store.now c.args.reader.now.side (g.B.Eeprom.chip c.args.reader.now.bench.now) db c.args.name _ held c.in_ok-found.ensures.first in
       grantee-found db c.args.name _ other (named ∙ ap (option_map (λ found. found.value)) c.in-Some.is);
-  store = search rules;
-  side = search rules;
-  bench = search rules;
+  goes_on = search rules;
   frame = search rules;
 }
 
@@ -25,8 +23,6 @@ returns-in-None g c = record {
       let other : bytes_eq c.args.name public_name ≡ false = rw c.octets.ensures.octets at (sym c.eq.ensures ∙ c.if-eq.false) in
       let named = named-held c.args.reader.now.store.now c.args.reader.now.side (g.B.Eeprom.chip c.args.reader.now.bench.now) db c.args.name _ held c.in_ok-found.ensures.first in
       rw c.refused.ensures (grantee-none db c.args.name other (named ∙ ap (option_map (λ found. found.value)) c.in-None.is));
-  store = search rules;
-  side = search rules;
-  bench = search rules;
+  goes_on = search rules;
   frame = search rules;
 }

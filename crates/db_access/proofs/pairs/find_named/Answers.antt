@@ -12,8 +12,6 @@ returns-in_err-object g c = record {
   answers = λ db held.
       Answers-stopped (λ object. object) (λ (p : Pair). (p.object, p.grantee)) (owned_by c.args.actor (seen_named db c.args.actor c.args.object)) (pair_named db c.args.actor c.args.object c.args.grantee) c.from_residual.result
       c.in_err-object.field-0.0 c.from_residual.ensures.1 (c.in_err-object.ensures.answers db held) (λ word is. rw is refl);
-  store = search rules;
-  side = search rules;
-  bench = search rules;
+  goes_on = search rules;
   frame = search rules;
 }

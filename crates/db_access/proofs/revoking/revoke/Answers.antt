@@ -12,6 +12,7 @@ use Rattle.scql_model.specs.Refusals.{◌>>=◌, or_refused}
 use Rattle.catalog_codec.specs.Catalog.{grant_kind, row_kind}
 use Rattle.catalog_codec.specs.KindLaws.{HaveOtherMarks-sym}
 use Rattle.catalog_codec.specs.CatalogLaws.{HaveOtherMarks-row-grant}
+use Rattle.record_table.proofs.Asking.{same-slots}
 use Rattle.row_table.proofs.Endings.{Ended-after, Ended-before, Ended-in_memory}
 use Rattle.db_access.specs.Pairs.{pair_named}
 use Rattle.db_access.specs.declared.pairs.Pair.{Pair}
@@ -27,8 +28,7 @@ returns-in_err-pair g c = Ended-before c.requires.open.stand (search rules) (sea
 pub returns-in_default : goal.returns-in_default
 returns-in_default g c = Ended-before c.requires.open.stand (search rules) (search rules) (λ db held any.
     let pair = c.in_ok-pair.pair in
-    let still : g.B.Eeprom.chip c.find_pair.new.bench ≡ g.B.Eeprom.chip c.args.bench.now = search rules in
-    let none = pair-held c.args.tables.now.store Working (g.B.Eeprom.chip c.args.bench.now) db pair.object.stamp pair.grantee None held (rw (sym c.in_ok-found.ensures.frame.same ∙ still) at (rw c.in_default.is at c.in_ok-found.ensures.found)) in
+    let none = pair-held c.args.tables.now.store Working (g.B.Eeprom.chip c.args.bench.now) db pair.object.stamp pair.grantee None held (rw (same-slots c.in_ok-pair.ensures.goes_on c.in_ok-pair.ensures.frame.same) at (rw c.in_default.is at c.in_ok-found.ensures.found)) in
     let is = revokes db c.args.actor c.args.privileges c.args.object c.args.grantee pair.object pair.grantee (c.in_ok-pair.ensures.answers db held)
     ∙ ap (λ o. or_refused o not_found >>= λ (g : Grant). Ok (less_granted g c.args.privileges)) (sym none) in
     rw c.refused.ensures (ap (λ outcome. outcome >>= with_edits db) is, refl, search rules))
@@ -43,12 +43,10 @@ pub returns-in-None : goal.returns-in-None
 returns-in-None g c =
     let chip = g.B.Eeprom.chip c.args.bench.now in
     let given = c.in-Some.found.value in
-    let still : g.B.Eeprom.chip c.find_pair.new.bench ≡ g.B.Eeprom.chip c.args.bench.now = search rules in
-    let at = rw (sym c.in_ok-found.ensures.frame.same ∙ still) at (rw c.in-Some.is at c.in_ok-found.ensures.at) in
+    let at = rw (same-slots c.in_ok-pair.ensures.goes_on c.in_ok-pair.ensures.frame.same) at (rw c.in-Some.is at c.in_ok-found.ensures.at) in
     Ended-in_memory c.requires.open.stand (search rules) (search rules) refl (λ db held any.
     let pair = c.in_ok-pair.pair in
-    let still : g.B.Eeprom.chip c.find_pair.new.bench ≡ g.B.Eeprom.chip c.args.bench.now = search rules in
-    let found = pair-held c.args.tables.now.store Working chip db pair.object.stamp pair.grantee (Some given) held (rw (sym c.in_ok-found.ensures.frame.same ∙ still) at (rw c.in-Some.is at c.in_ok-found.ensures.found)) in
+    let found = pair-held c.args.tables.now.store Working chip db pair.object.stamp pair.grantee (Some given) held (rw (same-slots c.in_ok-pair.ensures.goes_on c.in_ok-pair.ensures.frame.same) at (rw c.in-Some.is at c.in_ok-found.ensures.found)) in
     let is = found-edits db c.args.actor c.args.privileges c.args.object c.args.grantee pair given (c.in_ok-pair.ensures.answers db held) found
     ∙ ap Ok (left-none given c.args.privileges c.left_of.result c.left_of.ensures c.in-None.is) in
     (removing (of_grant given) ∷ [], is, c.take_out.ensures.makes db given chip held at c.requires.open.stand.over (valid-revoked db c.args.actor c.args.privileges c.args.object c.args.grantee (removing (of_grant given) ∷ []) held.valid is)))
@@ -59,10 +57,9 @@ returns-in-None g c =
 pub returns-in-Some-left_of : goal.returns-in-Some-left_of
 returns-in-Some-left_of g c = Ended-after c.change_in_place.ensures (search rules) (search rules) (λ db held any.
     let pair = c.in_ok-pair.pair in
-    let still : g.B.Eeprom.chip c.find_pair.new.bench ≡ g.B.Eeprom.chip c.args.bench.now = search rules in
     let given = c.in-Some.found.value in
     let less : Grant = c.with_privileges-less.result in
-    let found = pair-held c.args.tables.now.store Working (g.B.Eeprom.chip c.args.bench.now) db pair.object.stamp pair.grantee (Some given) held (rw (sym c.in_ok-found.ensures.frame.same ∙ still) at (rw c.in-Some.is at c.in_ok-found.ensures.found)) in
+    let found = pair-held c.args.tables.now.store Working (g.B.Eeprom.chip c.args.bench.now) db pair.object.stamp pair.grantee (Some given) held (rw (same-slots c.in_ok-pair.ensures.goes_on c.in_ok-pair.ensures.frame.same) at (rw c.in-Some.is at c.in_ok-found.ensures.found)) in
     let is = found-edits db c.args.actor c.args.privileges c.args.object c.args.grantee pair given (c.in_ok-pair.ensures.answers db held) found
     ∙ ap Ok (left-some given c.args.privileges c.in-Some-left_of.left c.left_of.result c.left_of.ensures c.in-Some-left_of.is) ∙ ap (λ (g : Grant). Ok (changing (of_grant g) ∷ [])) (sym c.with_privileges-less.ensures) in
     (valid-revoked db c.args.actor c.args.privileges c.args.object c.args.grantee (changing (of_grant less) ∷ []) held.valid is, is))

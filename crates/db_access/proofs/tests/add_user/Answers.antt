@@ -1,5 +1,5 @@
 -- A store whose transaction begins is over the same EEPROM.
-use Rattle.std.proofs.Common.{List, ℕ, Option, Some, None}
+use Rattle.std.proofs.Common.{rules, List, ℕ, Option, Some, None}
 use Rattle.std.specs.Prelude.{IfSome}
 use Rattle.db_access.proofs.tests.add_user.Goals as goal
 
@@ -7,8 +7,11 @@ still : (P Q : List ℕ → Type 0) (o : Option (List ℕ)) → ((image : List �
 still P Q None each there = tt
 still P Q (Some image) each there = each image there
 
-pub add-requires-clause-over : goal.add-requires-clause-over
-add-requires-clause-over g c = record {
-  room = rw c.begin.ensures.begun c.requires.over.room;
-  stands = still _ _ (g.B.Eeprom.chip c.args.bench.now).image c.begin.ensures.stands c.requires.over.stands;
+pub add-requires-clause-open : goal.add-requires-clause-open
+add-requires-clause-open g c = record {
+  begun = search rules;
+  over = record {
+    room = rw c.begin.ensures.begun c.requires.rests.over.room;
+    stands = still _ _ (g.B.Eeprom.chip c.args.bench.now).image c.begin.ensures.stands c.requires.rests.over.stands;
+  };
 }

@@ -36,7 +36,7 @@ stamped : (g : Over) (c : After-commit_in_place g) (db : Database) → IsAtRest 
 stamped g c db rest =
     stamped-held c.args.store.now Committed (g.B.Eeprom.chip c.args.bench.now) db c.args.user _ rest c.in_ok-slot.ensures.found ∙ ap (option_map (λ found. found.value)) c.in-Some.is
 
-there : (g : Over) (c : After-commit_in_place g) → IfSome (slots_of c.args.store.now Committed (g.B.Eeprom.chip c.find_stamp.new.bench)) (λ slots. Some c.in-Some.field-0.value ≡ at_slot user_kind c.in-Some.field-0.slot slots)
+there : (g : Over) (c : After-commit_in_place g) → IfSome (slots_of c.args.store.now Committed (g.B.Eeprom.chip c.find_committed.new.bench)) (λ slots. Some c.in-Some.field-0.value ≡ at_slot user_kind c.in-Some.field-0.slot slots)
 there g c = rw (sym c.in_ok-slot.ensures.frame.same) at (rw c.in-Some.is at c.in_ok-slot.ensures.at)
 
 secret : (g : Over) (c : After-commit_in_place g) → HasSecret c.in-Some.field-0.value
@@ -67,7 +67,7 @@ first g c db rest =
 
 -- The record with one try less is in the slot, and the record with all tries takes its place.
 there_lowered : (g : Over) (c : After-commit_in_place g) (db : Database) → IsAtRest c.args.store.now (g.B.Eeprom.chip c.args.bench.now) db
-    → Becomes (IsChanged user_kind (record c.in-Some.field-0.value { tries = c.in-Some.field-0.value.tries - 1 }) c.in-Some.field-0.slot) (slots_of c.args.store.now Committed (g.B.Eeprom.chip c.find_stamp.new.bench))
+    → Becomes (IsChanged user_kind (record c.in-Some.field-0.value { tries = c.in-Some.field-0.value.tries - 1 }) c.in-Some.field-0.slot) (slots_of c.args.store.now Committed (g.B.Eeprom.chip c.find_committed.new.bench))
     (slots_of c.commit_in_place.new.store Committed (g.B.Eeprom.chip c.commit_in_place.new.bench))
     → IfSome (slots_of c.commit_in_place.new.store Committed (g.B.Eeprom.chip c.commit_in_place.new.bench)) (λ slots. Some (record c.in-Some.field-0.value { tries = c.in-Some.field-0.value.tries - 1 }) ≡ at_slot user_kind c.in-Some.field-0.slot slots)
 there_lowered g c db rest changed =
@@ -80,16 +80,16 @@ valid_restored g c db rest = valid-tries db c.args.user c.in-Some.field-0.value 
 
 pub returns-in_err-slot-clause-verifies : goal.returns-in_err-slot-clause-verifies
 returns-in_err-slot-clause-verifies g c = λ db holds.
-    Verifies-failed db (verdict db c.args.user c.args.secret.now) (octets_for_verdict db c.args.user c.args.secret.now) (g.B.Eeprom.chip c.args.bench.now) c.from_residual.result c.args.store.now (g.B.Eeprom.chip c.find_stamp.new.bench)
-    c.from_residual.ensures.1 c.in_err-slot.ensures.frame.same (opens-rest c.args.store.now (g.B.Eeprom.chip c.args.bench.now) db c.requires.over holds.rest)
+    Verifies-failed db (verdict db c.args.user c.args.secret.now) (octets_for_verdict db c.args.user c.args.secret.now) (g.B.Eeprom.chip c.args.bench.now) c.from_residual.result c.args.store.now (g.B.Eeprom.chip c.find_committed.new.bench)
+    c.from_residual.ensures.1 c.in_err-slot.ensures.frame.same (opens-rest c.args.store.now (g.B.Eeprom.chip c.args.bench.now) db c.requires.rests.over holds.rest)
 
 pub returns-in_default-clause-verifies : goal.returns-in_default-clause-verifies
 returns-in_default-clause-verifies g c = λ db holds.
     let old = g.B.Eeprom.chip c.args.bench.now in
     let same = c.in_ok-slot.ensures.frame.same in
     let none = stamped-held c.args.store.now Committed old db c.args.user _ holds.rest c.in_ok-slot.ensures.found ∙ ap (option_map (λ found. found.value)) c.in_default.is in
-    Verifies-unwritten db (verdict db c.args.user c.args.secret.now) (octets_for_verdict db c.args.user c.args.secret.now) old c.args.user _ c.args.store.now (g.B.Eeprom.chip c.find_stamp.new.bench)
-    (verdict-none db c.args.user c.args.secret.now none) (subst (λ (chip : Chip). IsAtRest c.args.store.now chip db) (sym same) holds.rest) same (opens-rest c.args.store.now old db c.requires.over holds.rest)
+    Verifies-unwritten db (verdict db c.args.user c.args.secret.now) (octets_for_verdict db c.args.user c.args.secret.now) old c.args.user _ c.args.store.now (g.B.Eeprom.chip c.find_committed.new.bench)
+    (verdict-none db c.args.user c.args.secret.now none) (subst (λ (chip : Chip). IsAtRest c.args.store.now chip db) (sym same) holds.rest) same (opens-rest c.args.store.now old db c.requires.rests.over holds.rest)
 
 pub returns-then-is_empty-clause-verifies : goal.returns-then-is_empty-clause-verifies
 returns-then-is_empty-clause-verifies g c = λ db holds.
@@ -102,9 +102,9 @@ returns-then-holder-eq0-clause-verifies g c = λ db holds.
     let old = g.B.Eeprom.chip c.args.bench.now in
     let same = c.in_ok-slot.ensures.frame.same in
     let found = stamped-held c.args.store.now Committed old db c.args.user _ holds.rest c.in_ok-slot.ensures.found ∙ ap (option_map (λ found. found.value)) c.in-Some.is in
-    Verifies-unwritten db (verdict db c.args.user c.args.secret.now) (octets_for_verdict db c.args.user c.args.secret.now) old c.args.user _ c.args.store.now (g.B.Eeprom.chip c.find_stamp.new.bench)
+    Verifies-unwritten db (verdict db c.args.user c.args.secret.now) (octets_for_verdict db c.args.user c.args.secret.now) old c.args.user _ c.args.store.now (g.B.Eeprom.chip c.find_committed.new.bench)
     (verdict-blocked db c.args.user c.args.secret.now c.in-Some.field-0.value found c.if-holder-eq0.true) (subst (λ (chip : Chip). IsAtRest c.args.store.now chip db) (sym same) holds.rest) same
-    (opens-rest c.args.store.now old db c.requires.over holds.rest)
+    (opens-rest c.args.store.now old db c.requires.rests.over holds.rest)
 
 -- the first commit stopped
 pub returns-in_err-commit_in_place-clause-verifies : goal.returns-in_err-commit_in_place-clause-verifies
@@ -126,10 +126,10 @@ returns-in_err-commit_in_place-clause-rows g c = λ no_fault.
     let w = (goal.at.returns-in_err-commit_in_place-clause-rows g c).After-commit_in_place in
     rw (sym c.in_ok-slot.ensures.frame.same)
     (refused-on c.from_residual-in_err-commit_in_place.result c.commit_in_place.result c.in_err-commit_in_place.field-0.0 c.from_residual-in_err-commit_in_place.ensures.1 c.in_err-commit_in_place.was no_fault
-    (λ word is. KeepsRows-same (slots_of c.args.store.now Committed (g.B.Eeprom.chip c.find_stamp.new.bench)) _ (c.commit_in_place.ensures.refused word is)))
+    (λ word is. KeepsRows-same (slots_of c.args.store.now Committed (g.B.Eeprom.chip c.find_committed.new.bench)) _ (c.commit_in_place.ensures.refused word is)))
 
 -- the rows after the first commit
-rows_lowered : (g : Over) (c : After-commit_in_place g) → Becomes (IsChanged user_kind (record c.in-Some.field-0.value { tries = c.in-Some.field-0.value.tries - 1 }) c.in-Some.field-0.slot) (slots_of c.args.store.now Committed (g.B.Eeprom.chip c.find_stamp.new.bench))
+rows_lowered : (g : Over) (c : After-commit_in_place g) → Becomes (IsChanged user_kind (record c.in-Some.field-0.value { tries = c.in-Some.field-0.value.tries - 1 }) c.in-Some.field-0.slot) (slots_of c.args.store.now Committed (g.B.Eeprom.chip c.find_committed.new.bench))
     (slots_of c.commit_in_place.new.store Committed (g.B.Eeprom.chip c.commit_in_place.new.bench))
     → KeepsRows (slots_of c.args.store.now Committed (g.B.Eeprom.chip c.args.bench.now)) (slots_of c.commit_in_place.new.store Committed (g.B.Eeprom.chip c.commit_in_place.new.bench))
 rows_lowered g c changed =

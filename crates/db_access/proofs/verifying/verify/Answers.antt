@@ -27,7 +27,7 @@ returns-in-Ok-clause-octets_written g c = λ db holds. (rw c.in-Ok.is at (c.try_
 pub returns-in-Ok-clause-rows : goal.returns-in-Ok-clause-rows
 returns-in-Ok-clause-rows g c = λ side.
     let goes_on = c.in-Ok.ensures.goes_on (λ wrong. cc) in
-    KeepsRows-idle c.args.store.now c.try_secret.new.store (g.B.Eeprom.chip c.args.bench.now) (g.B.Eeprom.chip c.try_secret.new.bench) side c.requires.idle (goes_on.begun ∙ c.requires.idle) (c.in-Ok.ensures.rows (λ wrong. cc))
+    KeepsRows-idle c.args.store.now c.try_secret.new.store (g.B.Eeprom.chip c.args.bench.now) (g.B.Eeprom.chip c.try_secret.new.bench) side c.requires.rests.idle (goes_on.begun ∙ c.requires.rests.idle) (c.in-Ok.ensures.rows (λ wrong. cc))
 
 pub returns-in-Ok-clause-holds : goal.returns-in-Ok-clause-holds
 returns-in-Ok-clause-holds g c = λ db rest. c.in-Ok.ensures.holds db rest (λ wrong. cc)
@@ -57,7 +57,7 @@ returns-in-Err-clause-moments g c = λ db holds. (c.try_secret.ensures.verifies 
 pub returns-in-Err-clause-rows : goal.returns-in-Err-clause-rows
 returns-in-Err-clause-rows g c = λ side. IfOk-stop_answer c.in-Err.stop c.answer.result _ c.answer.ensures (λ word is.
     let goes_on = c.in-Err.ensures.goes_on (λ wrong. cc) in
-    KeepsRows-idle c.args.store.now c.try_secret.new.store (g.B.Eeprom.chip c.args.bench.now) (g.B.Eeprom.chip c.try_secret.new.bench) side c.requires.idle (goes_on.begun ∙ c.requires.idle) (c.in-Err.ensures.rows (λ wrong. cc)))
+    KeepsRows-idle c.args.store.now c.try_secret.new.store (g.B.Eeprom.chip c.args.bench.now) (g.B.Eeprom.chip c.try_secret.new.bench) side c.requires.rests.idle (goes_on.begun ∙ c.requires.rests.idle) (c.in-Err.ensures.rows (λ wrong. cc)))
 
 pub returns-in-Err-clause-holds : goal.returns-in-Err-clause-holds
 returns-in-Err-clause-holds g c = λ db rest. IfOk-stop_answer c.in-Err.stop c.answer.result _ c.answer.ensures (λ word is. c.in-Err.ensures.holds db rest (λ wrong. cc))

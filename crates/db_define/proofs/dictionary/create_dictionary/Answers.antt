@@ -13,18 +13,18 @@ returns-then-not-makes_objects-clause-ended g c = Ended-before c.requires.open.s
     rw c.refused.ensures (creates-not db c.args.actor c.args.name (Dictionary c.args.subject) (sym c.makes_objects.ensures ∙ c.if-not-makes_objects.true), refl, refl))
 
 pub returns-in_err-counter-clause-ended : goal.returns-in_err-counter-clause-ended
-returns-in_err-counter-clause-ended g c = Ended-before c.requires.open.stand c.in_err-counter.ensures.frame.same (search rules) (λ db held may.
+returns-in_err-counter-clause-ended g c = Ended-before c.requires.open.stand c.in_err-counter.ensures.finds.frame.same (search rules) (λ db held may.
     let is = creates db c.args.actor c.args.name (Dictionary c.args.subject) (sym c.makes_objects.ensures ∙ c.if-not-makes_objects.false) in
     rw (sym is) (Ends-stopped (Unit {0}) db _ c.from_residual.result c.in_err-counter.field-0.0 _ _ _ _ c.from_residual.ensures.1
     (c.in_err-counter.ensures.refused db (new_object db c.args.actor c.args.name (Dictionary c.args.subject)) held refl)))
 
 pub returns-clause-ended : goal.returns-clause-ended
-returns-clause-ended g c = Ended-after c.make.ensures.ended c.in_ok-counter.ensures.frame.same c.in_ok-counter.ensures.frame.counts.1 (λ db held may.
+returns-clause-ended g c = Ended-after c.make.ensures.ended c.in_ok-counter.ensures.finds.frame.same c.in_ok-counter.ensures.finds.frame.counts.1 (λ db held may.
     let asked = new_object db c.args.actor c.args.name (Dictionary c.args.subject) in
-    let next = ap (λ counter. counter.value) c.counter.view_is ∙ c.in_ok-counter.ensures.next db held in
+    let next = ap (λ counter. counter.value) c.counter.view_is ∙ c.in_ok-counter.ensures.finds.next db held in
     let same = c.new_dictionary-dictionary.ensures.dictionary ∙ ap (λ stamp. record { stamp = stamp; name = c.args.name; owner = actor_stamp c.args.actor; kind = Dictionary c.args.subject }) next in
     of-anew db (object_created db c.args.actor c.args.name (Dictionary c.args.subject)) asked c.new_dictionary-dictionary.result (creates db c.args.actor c.args.name (Dictionary c.args.subject) (sym c.makes_objects.ensures ∙ c.if-not-makes_objects.false))
     (c.in_ok-counter.ensures.free db held) refl same (λ edits is. valid-dictionary db c.args.actor c.args.name c.args.subject edits held.valid may.0 may.1 is))
 
 pub returns-clause-rows : goal.returns-clause-rows
-returns-clause-rows g c = rw c.in_ok-counter.ensures.frame.same at c.make.ensures.rows
+returns-clause-rows g c = rw c.in_ok-counter.ensures.finds.frame.same at c.make.ensures.rows

@@ -16,7 +16,7 @@ returns-in_err-table g c = Ended-before c.requires.open.stand (search rules) (se
 pub returns : goal.returns
 returns g c = Ended-after c.make_row.ensures (search rules) (search rules) (λ db held may.
     let is = c.in_ok-table.ensures.answers db held in
-    let next = ap (λ counter. counter.value) c.counter.view_is ∙ c.in_ok-counter.ensures.next db (subst (λ chip. IsHeld c.args.tables.now.store Working chip db) (search rules) held) in
+    let next = ap (λ counter. counter.value) c.counter.view_is ∙ c.in_ok-counter.ensures.finds.next db (subst (λ chip. IsHeld c.args.tables.now.store Working chip db) (search rules) held) in
     let same = ap of_row (c.new_record-record.ensures.record ∙ ap (λ stamp. record { stamp = stamp; table = c.in_ok-table.table; row = c.args.row.now }) next) in (
       (
         ap (λ r. r.stamp) c.new_record-record.ensures.record ∙ next,

@@ -16,7 +16,7 @@ stands g c =
     let table = c.in_ok-find_table.ensures in
     let chip = g.B.Eeprom.chip c.args.bench.now in
     indexed-row c.args.tables.now.index c.args.tables.now.store chip _ c.in-Some.stamp c.in-Some-find.slot c.find.result (Some c.row_in.new.room.row) (c.find.ensures.value chip c.requires.stand.over c.requires.stand.index)
-    c.requires.stand.index c.in-Some-find.is (rw (table.reads.goes_on.store, table.reads.goes_on.side, table.reads.frame.same, c.if-not-branch-2.false) at c.in_ok-row_in.ensures.value)
+    c.requires.stand.index c.in-Some-find.is (rw (table.reads.goes_on.store, table.reads.goes_on.side, table.reads.frame.same, c.if-not-branch-2.false) at c.in_ok-row_in.ensures.row)
 
 pub returns-in_default-find-clause-finds : goal.returns-in_default-find-clause-finds
 returns-in_default-find-clause-finds g c = λ db held.
@@ -31,7 +31,7 @@ returns-then-not-branch-2-clause-finds g c = λ db held.
     let chip = g.B.Eeprom.chip c.args.bench.now in
     finds-none _ c.in-Some.stamp None held (table.found db held (c.requires.chosen db held)) c.if-not-branch.false (sym c.stamp_at.ensures ∙ c.in-Some.is)
     (indexed-row c.args.tables.now.index c.args.tables.now.store chip _ c.in-Some.stamp c.in-Some-find.slot c.find.result None (c.find.ensures.value chip c.requires.stand.over c.requires.stand.index) c.requires.stand.index
-    c.in-Some-find.is (rw (table.reads.goes_on.store, table.reads.goes_on.side, table.reads.frame.same, c.if-not-branch-2.true) at c.in_ok-row_in.ensures.value)) tt
+    c.in-Some-find.is (rw (table.reads.goes_on.store, table.reads.goes_on.side, table.reads.frame.same, c.if-not-branch-2.true) at c.in_ok-row_in.ensures.row)) tt
 
 pub returns-then-not-is_row_reached-clause-finds : goal.returns-then-not-is_row_reached-clause-finds
 returns-then-not-is_row_reached-clause-finds g c = λ db held.

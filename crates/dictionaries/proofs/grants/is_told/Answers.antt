@@ -10,7 +10,7 @@ use Rattle.record_table.proofs.ReadingCosts.{FindsStampInto-reads, ReadsSide-non
 
 pub returns-clause-told : goal.returns-clause-told
 returns-clause-told g c = λ db held.
-    c.of.ensures ∙ ap (tells_of c.args.owner) (c.owner_of.ensures ∙ object-owned c.args.store.now c.args.side (g.B.Eeprom.chip c.args.bench.now) db c.args.grant.now.object c.find_stamp_into.new.place held c.in_ok-find_stamp_into.ensures.found)
+    c.of.ensures ∙ ap (tells_of c.args.owner) (c.owner_of.ensures ∙ object-owned c.args.reader.now.store.now c.args.reader.now.side (g.B.Eeprom.chip c.args.reader.now.bench.now) db c.args.grant.now.object c.find_stamp_into.new.place held c.in_ok-find_stamp_into.ensures.found)
 
 pub returns-then-all-clause-reads : goal.returns-then-all-clause-reads
 returns-then-all-clause-reads g c = ReadsSide-none

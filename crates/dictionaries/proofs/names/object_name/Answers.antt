@@ -9,7 +9,7 @@ use Rattle.record_table.proofs.TaggedSearches.{tagged-fewer}
 use Rattle.record_table.proofs.ReadingCosts.{FindsStampInto-reads, ReadsSide-told}
 
 pub returns-clause-name : goal.returns-clause-name
-returns-clause-name g c = λ db held. ap name_or_none c.name_of_object.ensures ∙ object-named c.args.store.now c.args.side (g.B.Eeprom.chip c.args.bench.now) db c.args.stamp c.find_stamp_into.new.place held c.in_ok-find_stamp_into.ensures.found
+returns-clause-name g c = λ db held. ap name_or_none c.name_of_object.ensures ∙ object-named c.args.reader.now.store.now c.args.reader.now.side (g.B.Eeprom.chip c.args.reader.now.bench.now) db c.args.stamp c.find_stamp_into.new.place held c.in_ok-find_stamp_into.ensures.found
 
 pub returns-clause-reads : goal.returns-clause-reads
 returns-clause-reads g c = ReadsSide-told (FindsStampInto-reads c.in_ok-find_stamp_into.ensures) (tagged-fewer object_kind (Some (Stamp c.args.stamp)))

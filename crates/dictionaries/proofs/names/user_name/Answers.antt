@@ -9,7 +9,7 @@ use Rattle.record_table.proofs.TaggedSearches.{tagged-fewer}
 use Rattle.record_table.proofs.ReadingCosts.{FindsStamp-reads, ReadsSide-told}
 
 pub returns-clause-name : goal.returns-clause-name
-returns-clause-name g c = λ db held. ap name_or_none c.name_of_user.ensures ∙ user-named c.args.store.now c.args.side (g.B.Eeprom.chip c.args.bench.now) db c.args.stamp _ held c.in_ok-found.ensures.found
+returns-clause-name g c = λ db held. ap name_or_none c.name_of_user.ensures ∙ user-named c.args.reader.now.store.now c.args.reader.now.side (g.B.Eeprom.chip c.args.reader.now.bench.now) db c.args.stamp _ held c.in_ok-found.ensures.found
 
 pub returns-clause-reads : goal.returns-clause-reads
 returns-clause-reads g c = ReadsSide-told (FindsStamp-reads c.in_ok-found.ensures) (tagged-fewer user_kind (Some (Stamp c.args.stamp)))

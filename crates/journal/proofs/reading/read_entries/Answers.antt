@@ -13,10 +13,11 @@ loop-left-preserved g c =
     let count : length more ≡ length entries + few = c.in_ok-read_more.ensures.count in
     record {
       count = search rules;
-      entries = read-on (g.B.Eeprom.chip c.args.bench.now).image (journal_place c.args.cells + 2) few entries more c.loop-left.invariant.entries
-          (subst (λ (chip : Chip). IfSome chip.image (λ image. more ≡ entries ++ entries_at image (journal_place c.args.cells + 2 + 4 * length entries) few)) c.loop-left.invariant.same c.in_ok-read_more.ensures.entries)
+      entries = read-on (g.B.Eeprom.chip c.args.bench.now.bench.now).image (journal_place c.args.bench.now.cells + 2) few entries more c.loop-left.invariant.entries
+          (subst (λ (chip : Chip). IfSome chip.image (λ image. more ≡ entries ++ entries_at image (journal_place c.args.bench.now.cells + 2 + 4 * length entries) few)) c.loop-left.invariant.same (rw (c.loop-left.invariant.stays.cells) at c.in_ok-read_more.ensures.entries))
           count;
       same = c.read_more.ensures.reads.frame.same ∙ c.loop-left.invariant.same;
       read = search rules;
       faults = search rules;
+      stays = search rules;
     }

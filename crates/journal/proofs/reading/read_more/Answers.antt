@@ -5,5 +5,5 @@ use Rattle.journal.proofs.reading.read_more.Goals as goal
 
 pub returns-clause-entries : goal.returns-clause-entries
 returns-clause-entries g c =
-    more-read (g.B.Eeprom.chip c.args.bench.now).image c.read.new.into c.args.entries.now.items c.push_entries.new.entries.items _ (journal_place c.args.cells + 2 + 4 * length c.args.entries.now.items) c.args.count _
+    more-read (g.B.Eeprom.chip c.args.bench.now.bench.now).image c.read.new.into c.args.entries.now.items c.push_entries.new.entries.items _ (journal_place c.args.bench.now.cells + 2 + 4 * length c.args.entries.now.items) c.args.count _
     c.in_ok-read.ensures.octets (search rules) (search rules) c.push_entries.ensures.entries

@@ -8,10 +8,10 @@ use Rattle.journal.proofs.Running.{octets-more}
 use Rattle.journal.proofs.writing.write_journal.Goals.{After-go_to}
 use Rattle.journal.proofs.writing.write_journal.Goals as goal
 
-moments : (g : _) (c : After-go_to g) → LeavesOf (SameOutside (journal_place c.args.cells) (front_size c.args.cells)) (g.B.Eeprom.chip c.args.bench.now) (g.B.Eeprom.chip c.go_to.new.bench)
+moments : (g : _) (c : After-go_to g) → LeavesOf (SameOutside (journal_place c.args.bench.now.cells) (front_size c.args.bench.now.cells)) (g.B.Eeprom.chip c.args.bench.now.bench.now) (g.B.Eeprom.chip c.go_to.new.bench)
 moments g c =
-    outside-leaves (journal_place c.args.cells) (front_size c.args.cells) (g.B.Eeprom.chip c.args.bench.now) (g.B.Eeprom.chip c.loop-entry.bench) (g.B.Eeprom.chip c.go_to.new.bench) c.loop-entry.invariant.still c.loop-entry.invariant.moments
-    (outside-wider (place_of c.loop-entry.run) (end_of c.loop-entry.run) (journal_place c.args.cells) (front_size c.args.cells) (g.B.Eeprom.chip c.loop-entry.bench) (g.B.Eeprom.chip c.go_to.new.bench)
+    outside-leaves (journal_place c.args.bench.now.cells) (front_size c.args.bench.now.cells) (g.B.Eeprom.chip c.args.bench.now.bench.now) (g.B.Eeprom.chip c.loop-entry.bench.bench.now) (g.B.Eeprom.chip c.go_to.new.bench) c.loop-entry.invariant.still c.loop-entry.invariant.moments
+    (outside-wider (place_of c.loop-entry.run) (end_of c.loop-entry.run) (journal_place c.args.bench.now.cells) (front_size c.args.bench.now.cells) (g.B.Eeprom.chip c.loop-entry.bench.bench.now) (g.B.Eeprom.chip c.go_to.new.bench)
     (omega (arith, c.loop-entry.invariant.behind)) (omega (arith, c.loop-entry.invariant.next, c.loop-entry.invariant.place, c.loop-entry-test.true, c.requires.entries.few)) c.go_to.ensures.rewrites.moments)
 
 pub returns-in_err-go_to : goal.returns-in_err-go_to
@@ -23,6 +23,7 @@ returns-in_err-go_to g c = record {
   octets_written = search rules;
   octets_read = search rules;
   cause = search rules;
+  stays = search rules;
 }
 
 pub loop-entry-preserved : goal.loop-entry-preserved
@@ -42,30 +43,32 @@ loop-entry-preserved g c =
       next = omega (arith, next, pushed, index);
       place = omega arith;
       bound = omega arith;
-      written = begun-more c.args.cells (length c.args.entries.now) i c.loop-entry.index _ c.args.entries.now c.loop-entry.run mid c.push-in-loop-entry.new.self c.push-in-loop-entry-2.new.self
-          (g.B.Eeprom.chip c.args.bench.now).image (g.B.Eeprom.chip c.loop-entry.bench).image (g.B.Eeprom.chip c.go_to.new.bench).image c.loop-entry-test.true place
+      written = begun-more c.args.bench.now.cells (length c.args.entries.now) i c.loop-entry.index _ c.args.entries.now c.loop-entry.run mid c.push-in-loop-entry.new.self c.push-in-loop-entry-2.new.self
+          (g.B.Eeprom.chip c.args.bench.now.bench.now).image (g.B.Eeprom.chip c.loop-entry.bench.bench.now).image (g.B.Eeprom.chip c.go_to.new.bench).image c.loop-entry-test.true place
           c.loop-entry.invariant.written c.in_ok-go_to.ensures.rewrites.done next slot c.push-in-loop-entry.ensures.index first c.push-in-loop-entry-2.ensures.index;
       told = c.in_ok-go_to.ensures.rewrites.told ∙ c.loop-entry.invariant.told;
       still = c.go_to.ensures.rewrites.still ∙ c.loop-entry.invariant.still;
       moments = moments g (goal.at.loop-entry-preserved g c).After-go_to;
-      octets = octets-more (g.B.Eeprom.chip c.args.bench.now).written (g.B.Eeprom.chip c.loop-entry.bench).written (g.B.Eeprom.chip c.go_to.new.bench).written _ _ _ 4 (2 + 4 * i) (2 + 4 * (i + 1))
+      octets = octets-more (g.B.Eeprom.chip c.args.bench.now.bench.now).written (g.B.Eeprom.chip c.loop-entry.bench.bench.now).written (g.B.Eeprom.chip c.go_to.new.bench).written _ _ _ 4 (2 + 4 * i) (2 + 4 * (i + 1))
           pushed (omega arith) c.loop-entry.invariant.octets c.in_ok-go_to.ensures.rewrites.octets_written;
       read = c.go_to.ensures.rewrites.octets_read ∙ c.loop-entry.invariant.read;
       faults = c.in_ok-go_to.ensures.rewrites.cause.1 ∙ c.loop-entry.invariant.faults;
+      stays = search rules;
     }
 
 pub returns : goal.returns
 returns g c = record {
   done = on_ok_weaker c.write.result (λ last.
-      journal-written c.args.cells c.loop-entry.entry-index c.args.entries.now c.loop-entry.run (g.B.Eeprom.chip c.args.bench.now) (g.B.Eeprom.chip c.loop-entry.bench) (g.B.Eeprom.chip c.write.new.bench)
-      c.requires.fits.room (g.met.B.Eeprom.sized c.args.bench.now) c.requires.entries.few c.requires.entries.range c.loop-entry-test.false c.loop-entry.invariant.written last) c.write.ensures.done;
+      journal-written c.args.bench.now.cells c.loop-entry.entry-index c.args.entries.now c.loop-entry.run (g.B.Eeprom.chip c.args.bench.now.bench.now) (g.B.Eeprom.chip c.loop-entry.bench.bench.now) (g.B.Eeprom.chip c.write.new.bench)
+      c.args.bench.now.fits.room (g.met.B.Eeprom.sized c.args.bench.now.bench.now) c.requires.entries.few c.requires.entries.range c.loop-entry-test.false c.loop-entry.invariant.written last) c.write.ensures.done;
   told = search rules;
   still = c.write.ensures.still ∙ c.loop-entry.invariant.still;
   moments =
-      outside-leaves (journal_place c.args.cells) (front_size c.args.cells) (g.B.Eeprom.chip c.args.bench.now) (g.B.Eeprom.chip c.loop-entry.bench) (g.B.Eeprom.chip c.write.new.bench) c.loop-entry.invariant.still c.loop-entry.invariant.moments
-      (outside-wider (place_of c.loop-entry.run) (end_of c.loop-entry.run) (journal_place c.args.cells) (front_size c.args.cells) (g.B.Eeprom.chip c.loop-entry.bench) (g.B.Eeprom.chip c.write.new.bench)
+      outside-leaves (journal_place c.args.bench.now.cells) (front_size c.args.bench.now.cells) (g.B.Eeprom.chip c.args.bench.now.bench.now) (g.B.Eeprom.chip c.loop-entry.bench.bench.now) (g.B.Eeprom.chip c.write.new.bench) c.loop-entry.invariant.still c.loop-entry.invariant.moments
+      (outside-wider (place_of c.loop-entry.run) (end_of c.loop-entry.run) (journal_place c.args.bench.now.cells) (front_size c.args.bench.now.cells) (g.B.Eeprom.chip c.loop-entry.bench.bench.now) (g.B.Eeprom.chip c.write.new.bench)
       (omega (arith, c.loop-entry.invariant.behind)) (omega (arith, c.loop-entry.invariant.next, c.loop-entry.invariant.place, c.requires.entries.few, c.loop-entry.invariant.bound)) c.write.ensures.moments);
   octets_written = search rules;
   octets_read = search rules;
   cause = search rules;
+  stays = search rules;
 }

@@ -1,5 +1,5 @@
 -- Where a line feed is found it ends the first line, and else that is all there is.
-use Rattle.std.proofs.Common.{◌≡◌, ℕ, ◌+◌, true, List, ◌∷◌, [], take, drop, refl, sym, ap, ◌∙◌, append_assoc}
+use Rattle.std.proofs.Common.{ℕ, ◌+◌, true, List, ◌∷◌, [], take, drop, refl, sym, ap, ◌∙◌, append_assoc}
 use Rattle.std.proofs.lemmas.List.{take_rest}
 use Rattle.scql_model.specs.Lines.{lines}
 use Rattle.line_input.proofs.CutLines.{lines-first, lines-last}

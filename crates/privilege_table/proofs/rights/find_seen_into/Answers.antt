@@ -7,9 +7,11 @@ use Rattle.record_store.specs.Tags.{name_tag}
 use Rattle.record_store.specs.declared.tags.Tag.TheVariants.{Name}
 use Rattle.scql_base.specs.declared.words.Actor.{Actor}
 use Rattle.catalog_codec.specs.Catalog.{object_kind}
+use Rattle.record_table.specs.Asking.{slots_asked}
 use Rattle.object_table.specs.Named.{has_name}
-use Rattle.record_table.specs.Listed.{in_slots, slots_of}
+use Rattle.record_table.specs.Listed.{in_slots}
 use Rattle.record_table.specs.Tagged.{cells_tagged}
+use Rattle.record_table.proofs.Asking.{same-held, same-slots}
 use Rattle.record_table.proofs.ReadingCosts.{falls-both, reads-both, reads-one}
 use Rattle.privilege_table.specs.Granted.{cells_granted_on}
 use Rattle.privilege_table.proofs.Seen.{found-granted, seen-held}
@@ -27,42 +29,45 @@ returns-in_default g c = record {
   there = search rules;
   at = search rules;
   both = search rules;
-  seen = λ db held. rw c.in_default.is (seen-held c.args.store.now c.args.side (g.B.Eeprom.chip c.args.bench.now) db c.args.actor c.args.name None held (rw c.in_default.is at c.in_ok-slot.ensures.found));
-  octets_read = reads-one (named c.args.name) (on_found c.args.actor c.args.name) (slots_of c.args.store.now c.args.side (g.B.Eeprom.chip c.args.bench.now)) _ _ c.in_ok-slot.ensures.octets_read;
+  seen = λ db held. rw c.in_default.is (seen-held c.args.reader.now.store.now c.args.reader.now.side (g.B.Eeprom.chip c.args.reader.now.bench.now) db c.args.actor c.args.name None held (rw c.in_default.is at c.in_ok-slot.ensures.found));
+  octets_read = reads-one (named c.args.name) (on_found c.args.actor c.args.name) (slots_asked c.args.reader.now) _ _ c.in_ok-slot.ensures.octets_read;
   rises = c.in_ok-slot.ensures.rises;
+  goes_on = c.in_ok-slot.ensures.goes_on;
   frame = search rules;
 }
 
 pub returns-then-see : goal.returns-then-see
 returns-then-see g c =
     let o = c.in-Some.object in
-    let slots : Option Slots = slots_of c.args.store.now c.args.side (g.B.Eeprom.chip c.args.bench.now) in
+    let slots : Option Slots = slots_asked c.args.reader.now in
     record {
       there = search rules;
       at = search rules;
       both = search rules;
       seen = λ db held.
-          let there = (c.in_ok-rights_on.ensures.rights db (rw (sym c.in_ok-slot.ensures.frame.same) at held)).appears ∙ (sym c.see.ensures ∙ c.if-see.true) in
-          sym (ap (λ b. cond b (Some o) None) there) ∙ seen-held c.args.store.now c.args.side (g.B.Eeprom.chip c.args.bench.now) db c.args.actor c.args.name (Some o) held (rw c.in-Some.is at c.in_ok-slot.ensures.found);
+          let there = (c.in_ok-rights_on.ensures.rights db (same-held c.in_ok-slot.ensures.goes_on c.in_ok-slot.ensures.frame.same held)).appears ∙ (sym c.see.ensures ∙ c.if-see.true) in
+          sym (ap (λ b. cond b (Some o) None) there) ∙ seen-held c.args.reader.now.store.now c.args.reader.now.side (g.B.Eeprom.chip c.args.reader.now.bench.now) db c.args.actor c.args.name (Some o) held (rw c.in-Some.is at c.in_ok-slot.ensures.found);
       octets_read = reads-both (named c.args.name) (on_found c.args.actor c.args.name) slots _ _ _ c.in_ok-slot.ensures.octets_read
-          (found-granted c.args.actor c.args.name o slots _ _ (rw c.in-Some.is at c.in_ok-slot.ensures.first) (rw c.in_ok-slot.ensures.frame.same at c.in_ok-rights_on.ensures.reads.octets_read));
-      rises = falls-both slots _ _ _ c.in_ok-slot.ensures.rises (rw c.in_ok-slot.ensures.frame.same at c.in_ok-rights_on.ensures.reads.rises);
+          (found-granted c.args.actor c.args.name o slots _ _ (rw c.in-Some.is at c.in_ok-slot.ensures.first) (rw (same-slots c.in_ok-slot.ensures.goes_on c.in_ok-slot.ensures.frame.same) at c.in_ok-rights_on.ensures.reads.octets_read));
+      rises = falls-both slots _ _ _ c.in_ok-slot.ensures.rises (rw (same-slots c.in_ok-slot.ensures.goes_on c.in_ok-slot.ensures.frame.same) at c.in_ok-rights_on.ensures.reads.rises);
+      goes_on = search rules;
       frame = search rules;
     }
 
 pub returns : goal.returns
 returns g c =
     let o = c.in-Some.object in
-    let slots : Option Slots = slots_of c.args.store.now c.args.side (g.B.Eeprom.chip c.args.bench.now) in
+    let slots : Option Slots = slots_asked c.args.reader.now in
     record {
       there = search rules;
       at = search rules;
       both = search rules;
       seen = λ db held.
-          let there = (c.in_ok-rights_on.ensures.rights db (rw (sym c.in_ok-slot.ensures.frame.same) at held)).appears ∙ (sym c.see.ensures ∙ c.if-see.false) in
-          sym (ap (λ b. cond b (Some o) None) there) ∙ seen-held c.args.store.now c.args.side (g.B.Eeprom.chip c.args.bench.now) db c.args.actor c.args.name (Some o) held (rw c.in-Some.is at c.in_ok-slot.ensures.found);
+          let there = (c.in_ok-rights_on.ensures.rights db (same-held c.in_ok-slot.ensures.goes_on c.in_ok-slot.ensures.frame.same held)).appears ∙ (sym c.see.ensures ∙ c.if-see.false) in
+          sym (ap (λ b. cond b (Some o) None) there) ∙ seen-held c.args.reader.now.store.now c.args.reader.now.side (g.B.Eeprom.chip c.args.reader.now.bench.now) db c.args.actor c.args.name (Some o) held (rw c.in-Some.is at c.in_ok-slot.ensures.found);
       octets_read = reads-both (named c.args.name) (on_found c.args.actor c.args.name) slots _ _ _ c.in_ok-slot.ensures.octets_read
-          (found-granted c.args.actor c.args.name o slots _ _ (rw c.in-Some.is at c.in_ok-slot.ensures.first) (rw c.in_ok-slot.ensures.frame.same at c.in_ok-rights_on.ensures.reads.octets_read));
-      rises = falls-both slots _ _ _ c.in_ok-slot.ensures.rises (rw c.in_ok-slot.ensures.frame.same at c.in_ok-rights_on.ensures.reads.rises);
+          (found-granted c.args.actor c.args.name o slots _ _ (rw c.in-Some.is at c.in_ok-slot.ensures.first) (rw (same-slots c.in_ok-slot.ensures.goes_on c.in_ok-slot.ensures.frame.same) at c.in_ok-rights_on.ensures.reads.octets_read));
+      rises = falls-both slots _ _ _ c.in_ok-slot.ensures.rises (rw (same-slots c.in_ok-slot.ensures.goes_on c.in_ok-slot.ensures.frame.same) at c.in_ok-rights_on.ensures.reads.rises);
+      goes_on = search rules;
       frame = search rules;
     }

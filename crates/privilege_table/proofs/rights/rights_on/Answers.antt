@@ -9,7 +9,7 @@ returns-then-is_owned_by-clause-rights g c = λ db held. owned-rights db c.args.
 
 pub returns-clause-rights : goal.returns-clause-rights
 returns-clause-rights g c = λ db held.
-    let given = held-granted c.args.store.now c.args.side (g.B.Eeprom.chip c.args.bench.now) db c.args.object.now.stamp _ c.in_ok-bits.bits held c.in_ok-bits.ensures.held in
+    let given = held-granted c.args.reader.now.store.now c.args.reader.now.side (g.B.Eeprom.chip c.args.reader.now.bench.now) db c.args.object.now.stamp _ c.in_ok-bits.bits held c.in_ok-bits.ensures.held in
     granted-rights db c.args.actor c.args.object.now c.in_ok-bits.bits (sym c.is_owned_by.ensures ∙ c.if-is_owned_by.false) (rw c.actor_stamp.ensures at given)
 
 pub returns-then-is_owned_by-clause-reads : goal.returns-then-is_owned_by-clause-reads

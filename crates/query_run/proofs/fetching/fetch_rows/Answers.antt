@@ -19,27 +19,25 @@ loop-step-init g c = record {
   rest = rest-same g.L.CardLink.mark g.L.CardLink.keeps g.L.CardLink.goes_on c.args.link.now (g.met.L.CardLink.keeps_same c.args.link.now) (g.met.L.CardLink.goes_on_same c.args.link.now);
 }
 
-pub returns-in-Done-clause-over : goal.returns-in-Done-clause-over
-returns-in-Done-clause-over g c = λ m last closing all gives. record {
-  fetches = fetching-ended g.L.CardLink.is_at m closing last all c.loop-step.rows.items c.loop-step.plan c.loop-step.step c.in-Done.closing c.fetched.result c.loop-step.link c.in-Done.is c.fetched.ensures
-      (c.loop-step.invariant.fetches m last closing all gives);
-  moments = c.loop-step.invariant.still m last closing all gives;
+pub returns-in-Done : goal.returns-in-Done
+returns-in-Done g c = record {
+  over = λ m last closing all gives. record {
+    fetches = fetching-ended g.L.CardLink.is_at m closing last all c.loop-step.rows.items c.loop-step.plan c.loop-step.step c.in-Done.closing c.fetched.result c.loop-step.link c.in-Done.is c.fetched.ensures
+        (c.loop-step.invariant.fetches m last closing all gives);
+    moments = c.loop-step.invariant.still m last closing all gives;
+  };
+  leaves = record {
+    ends = ends-closed g.L.CardLink.is_live g.L.CardLink.faults c.args.link.now c.loop-step.link c.in-Done.closing c.fetched.result c.fetched.ensures c.loop-step.invariant.answers;
+    rest = c.loop-step.invariant.rest;
+  };
+  shows =
+      let count : c.len-count.result ≡ length c.loop-step.rows.items = omega (arith, c.len-count.ensures, c.loop-step.rows.ok) in
+      record {
+        count = c.len-count.result;
+        counted = counted-fetched c.fetched.result c.loop-step.rows.items c.len-count.result count;
+        shows = count-ended g.P.Person.lost g.P.Person.shown words each c.len-count.result _ c.len-count.result c.args.person.now c.loop-step.person c.end.new.person refl (sym count) c.loop-step.invariant.shown c.end.ensures;
+      };
 }
-
-pub returns-in-Done-clause-leaves : goal.returns-in-Done-clause-leaves
-returns-in-Done-clause-leaves g c = record {
-  ends = ends-closed g.L.CardLink.is_live g.L.CardLink.faults c.args.link.now c.loop-step.link c.in-Done.closing c.fetched.result c.fetched.ensures c.loop-step.invariant.answers;
-  rest = c.loop-step.invariant.rest;
-}
-
-pub returns-in-Done-clause-shows : goal.returns-in-Done-clause-shows
-returns-in-Done-clause-shows g c =
-    let count : c.len-count.result ≡ length c.loop-step.rows.items = omega (arith, c.len-count.ensures, c.loop-step.rows.ok) in
-    record {
-      count = c.len-count.result;
-      counted = counted-fetched c.fetched.result c.loop-step.rows.items c.len-count.result count;
-      shows = count-ended g.P.Person.lost g.P.Person.shown words each c.len-count.result _ c.len-count.result c.args.person.now c.loop-step.person c.end.new.person refl (sym count) c.loop-step.invariant.shown c.end.ensures;
-    }
 
 pub returns-in-Err : goal.returns-in-Err
 returns-in-Err g c =

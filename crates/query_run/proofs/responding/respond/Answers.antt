@@ -14,4 +14,4 @@ returns-clause-hears g c = λ asking r.
     }
 
 pub returns-clause-told : goal.returns-clause-told
-returns-clause-told g c = told-then g.N.Person.lost g.N.Person.shown c.args.notices.now c.before-2.new.person c.behind.new.person c.before-2.ensures c.behind.ensures
+returns-clause-told g c = told-then g.N.Person.lost g.N.Person.shown c.args.notices.now c.tell.new.person c.tell-2.new.person c.tell.ensures c.tell-2.ensures

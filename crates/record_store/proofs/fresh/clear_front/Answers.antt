@@ -1,4 +1,4 @@
-use Rattle.std.proofs.Common.{◌≡◌, ℕ, ◌≤◌, List, Option, Some, None, take, drop, arith, slice_range, refl, sym, ap, subst, ◌∙◌}
+use Rattle.std.proofs.Common.{◌≡◌, ℕ, ◌≤◌, List, Option, Some, None, take, drop, arith, slice_range, refl, sym, ap, subst, ◌∙◌, rules}
 use Rattle.std.specs.Prelude.{IfSome}
 use Rattle.std.proofs.lemmas.Slice.Eq.{bytes_eq-Decides}
 use Rattle.eeprom.specs.Chip.{Chip, Keeps}
@@ -21,20 +21,28 @@ moments g c =
     (begins (g.B.Eeprom.chip c.args.bench.now).image (g.B.Eeprom.chip c.read.new.self).image c.read.new.into (ap (λ (chip : Chip). chip.image) same) front c.in_ok-read.ensures.octets)
     (g.met.B.Eeprom.clocked c.read.new.self) c.write.ensures.writes)
 
-pub returns-in_err-write-clause-moments : goal.returns-in_err-write-clause-moments
-returns-in_err-write-clause-moments g c = moments g (goal.at.returns-in_err-write-clause-moments g c).After-write
-
-pub returns-in_ok-write-clause-moments : goal.returns-in_ok-write-clause-moments
-returns-in_ok-write-clause-moments g c = moments g (goal.at.returns-in_ok-write-clause-moments g c).After-write
-
 behind : (g : _) (c : After-write g) (limit : ℕ) → 4 ≤ limit → Keeps (drop limit) (g.B.Eeprom.chip c.args.bench.now) (g.B.Eeprom.chip c.write.new.self)
 behind g c limit inside =
     let same = c.in_ok-read.ensures.frame.same in
     subst (λ (chip : Chip). Keeps (drop limit) chip (g.B.Eeprom.chip c.write.new.self)) same
     (behind-write 0 limit _ (g.B.Eeprom.chip c.read.new.self) (g.B.Eeprom.chip c.write.new.self) inside (omega (arith, c.requires.room, ap (λ (chip : Chip). chip.still.size) same)) (g.met.B.Eeprom.sized c.read.new.self) (g.met.B.Eeprom.clocked c.read.new.self) c.write.ensures.writes)
 
-pub returns-in_err-write-clause-behind : goal.returns-in_err-write-clause-behind
-returns-in_err-write-clause-behind g c = λ limit inside. behind g (goal.at.returns-in_err-write-clause-behind g c).After-write limit inside
+pub returns-in_err-write : goal.returns-in_err-write
+returns-in_err-write g c = record {
+  cleared = search rules;
+  rest = search rules;
+  still = search rules;
+  moments = moments g (goal.at.returns-in_err-write g c).After-write;
+  behind = λ limit inside. behind g (goal.at.returns-in_err-write g c).After-write limit inside;
+  cause = search rules;
+}
 
-pub returns-in_ok-write-clause-behind : goal.returns-in_ok-write-clause-behind
-returns-in_ok-write-clause-behind g c = λ limit inside. behind g (goal.at.returns-in_ok-write-clause-behind g c).After-write limit inside
+pub returns-in_ok-write : goal.returns-in_ok-write
+returns-in_ok-write g c = record {
+  cleared = search rules;
+  rest = search rules;
+  still = search rules;
+  moments = moments g (goal.at.returns-in_ok-write g c).After-write;
+  behind = λ limit inside. behind g (goal.at.returns-in_ok-write g c).After-write limit inside;
+  cause = search rules;
+}

@@ -14,7 +14,7 @@ returns g c =
       within = rw (named, spelled) at c.in_ok-put.ensures.within;
       full = search rules;
       unchanged = search rules;
-      over = over-told c.args.store.now c.put.new.self (g.B.Eeprom.chip c.args.bench.now) (g.B.Eeprom.chip c.put.new.bench) c.requires.over c.in_ok-put.ensures.cells c.put.ensures.moments.still
+      over = over-told c.args.store.now c.put.new.self (g.B.Eeprom.chip c.args.bench.now) (g.B.Eeprom.chip c.put.new.bench) c.requires.open.over c.in_ok-put.ensures.cells c.put.ensures.moments.still
           (stands-put c.args.store.now c.put.new.self c.in_ok-put.field-0 c.as_slice.result.now (g.B.Eeprom.chip c.args.bench.now).image (g.B.Eeprom.chip c.put.new.bench).image c.in_ok-put.ensures.put);
       told = c.in_ok-put.ensures.told;
       begun = c.in_ok-put.ensures.begun;

@@ -1,5 +1,5 @@
 -- The record is changed in a transaction of its own, and the store holds the database with it.
-use Rattle.std.proofs.Common.{◌≡◌, [], ◌∷◌, Some, Ok, refl, sym, ◌∙◌}
+use Rattle.std.proofs.Common.{rules, ◌≡◌, [], ◌∷◌, Some, Ok, refl, sym, ◌∙◌}
 use Rattle.std.specs.Prelude.{IfSome}
 use Rattle.record_store.specs.declared.side.Side.TheVariants.{Committed, Working}
 use Rattle.scql_model.specs.Database.{Database, IsValid}
@@ -12,8 +12,11 @@ use Rattle.record_table.proofs.committing.commit_in_place.Given.{Over}
 use Rattle.record_table.proofs.committing.commit_in_place.Goals as goal
 use Rattle.record_table.proofs.committing.commit_in_place.Goals.{After-change_in_place}
 
-pub change_in_place-requires-clause-over : goal.change_in_place-requires-clause-over
-change_in_place-requires-clause-over g c = over-begun c.args.store.now c.begin.new.self (g.B.Eeprom.chip c.args.bench.now) (g.B.Eeprom.chip c.args.bench.now) c.requires.over refl c.begin.ensures.begun c.begin.ensures.stands
+pub change_in_place-requires-clause-open : goal.change_in_place-requires-clause-open
+change_in_place-requires-clause-open g c = record {
+  begun = search rules;
+  over = over-begun c.args.store.now c.begin.new.self (g.B.Eeprom.chip c.args.bench.now) (g.B.Eeprom.chip c.args.bench.now) c.requires.rests.over refl c.begin.ensures.begun c.begin.ensures.stands;
+}
 
 -- the slots with which the transaction begins are those that are committed
 begun_slots : (g : Over) (c : After-change_in_place g) → slots_of c.args.store.now Committed (g.B.Eeprom.chip c.args.bench.now) ≡ slots_of c.begin.new.self Working (g.B.Eeprom.chip c.args.bench.now)
@@ -36,8 +39,8 @@ returns-in_ok-commit-in-Ok-clause-replaces g c = λ db was rest there key room v
     let mid = g.B.Eeprom.chip c.change_in_place.new.bench in
     let edits = changing (g.R.Editable.any c.args.value.now) ∷ [] in
     let makes = made-edits db edits (Ok edits) c.begin.new.self c.change_in_place.new.store old mid refl (rw c.in-Ok.is at (ended g w db was rest there key valid)) in
-    Replaces-done _ db edits c.args.store.now c.begin.new.self c.change_in_place.new.store old mid c.requires.over rest c.begin.ensures.begun c.begin.ensures.committed c.change_in_place.ensures.moments makes
-    (c.in-Ok.ensures.goes_on (λ wrong. cc)) (g.B.Eeprom.chip c.commit.new.bench) c.commit.ensures.moments _ c.commit.new.self c.in_ok-commit-in-Ok.ensures.done c.in_ok-commit-in-Ok.ensures.told c.in_ok-commit-in-Ok.ensures.cells
+    Replaces-done _ db edits c.args.store.now c.begin.new.self c.change_in_place.new.store old mid c.requires.rests.over rest c.begin.ensures.begun c.begin.ensures.committed c.change_in_place.ensures.leaves.moments makes
+    (c.in-Ok.ensures.leaves.goes_on (λ wrong. cc)) (g.B.Eeprom.chip c.commit.new.bench) c.commit.ensures.moments _ c.commit.new.self c.in_ok-commit-in-Ok.ensures.done c.in_ok-commit-in-Ok.ensures.told c.in_ok-commit-in-Ok.ensures.cells
     c.in_ok-commit-in-Ok.ensures.rows c.begin.ensures.no_entries c.in_ok-commit-in-Ok.ensures.octets_written
 
 pub returns-in_err-commit-in-Ok-clause-replaces : goal.returns-in_err-commit-in-Ok-clause-replaces
@@ -48,8 +51,8 @@ returns-in_err-commit-in-Ok-clause-replaces g c = λ db was rest there key room 
     let edits = changing (g.R.Editable.any c.args.value.now) ∷ [] in
     let makes = made-edits db edits (Ok edits) c.begin.new.self c.change_in_place.new.store old mid refl (rw c.in-Ok.is at (ended g w db was rest there key valid)) in
     Replaces-fault db (applied db edits) (octets_for edits) c.from_residual.result c.commit.new.self old (g.B.Eeprom.chip c.commit.new.bench) c.from_residual.ensures.1
-    (Replaces-half _ db edits c.args.store.now c.begin.new.self c.change_in_place.new.store old mid c.requires.over rest c.begin.ensures.begun c.begin.ensures.committed c.change_in_place.ensures.moments makes
-    (c.in-Ok.ensures.goes_on (λ wrong. cc)) (g.B.Eeprom.chip c.commit.new.bench) c.commit.ensures.moments c.commit.new.self)
+    (Replaces-half _ db edits c.args.store.now c.begin.new.self c.change_in_place.new.store old mid c.requires.rests.over rest c.begin.ensures.begun c.begin.ensures.committed c.change_in_place.ensures.leaves.moments makes
+    (c.in-Ok.ensures.leaves.goes_on (λ wrong. cc)) (g.B.Eeprom.chip c.commit.new.bench) c.commit.ensures.moments c.commit.new.self)
 
 pub returns-in-Err-Refused-clause-replaces : goal.returns-in-Err-Refused-clause-replaces
 returns-in-Err-Refused-clause-replaces g c = λ db was rest there key room valid.
@@ -58,13 +61,13 @@ returns-in-Err-Refused-clause-replaces g c = λ db was rest there key room valid
 
 pub returns-in-Err-Fault-clause-replaces : goal.returns-in-Err-Fault-clause-replaces
 returns-in-Err-Fault-clause-replaces g c = λ db was rest there key room valid.
-    Replaces-failed _ db (changing (g.R.Editable.any c.args.value.now) ∷ []) c.args.store.now c.begin.new.self c.change_in_place.new.store (g.B.Eeprom.chip c.args.bench.now) (g.B.Eeprom.chip c.change_in_place.new.bench) c.requires.over rest
-    c.begin.ensures.begun c.begin.ensures.committed c.change_in_place.ensures.moments c.change_in_place.new.store
+    Replaces-failed _ db (changing (g.R.Editable.any c.args.value.now) ∷ []) c.args.store.now c.begin.new.self c.change_in_place.new.store (g.B.Eeprom.chip c.args.bench.now) (g.B.Eeprom.chip c.change_in_place.new.bench) c.requires.rests.over rest
+    c.begin.ensures.begun c.begin.ensures.committed c.change_in_place.ensures.leaves.moments c.change_in_place.new.store
 
 pub returns-in_ok-commit-in-Ok-clause-changed : goal.returns-in_ok-commit-in-Ok-clause-changed
 returns-in_ok-commit-in-Ok-clause-changed g c =
     let w = (goal.at.returns-in_ok-commit-in-Ok-clause-changed g c).After-change_in_place in
-    let stays = slots-committed c.change_in_place.new.store c.commit.new.self (g.B.Eeprom.chip c.change_in_place.new.bench) (g.B.Eeprom.chip c.commit.new.bench) (c.in-Ok.ensures.goes_on (λ wrong. cc)).over
+    let stays = slots-committed c.change_in_place.new.store c.commit.new.self (g.B.Eeprom.chip c.change_in_place.new.bench) (g.B.Eeprom.chip c.commit.new.bench) (c.in-Ok.ensures.leaves.goes_on (λ wrong. cc)).over
     c.in_ok-commit-in-Ok.ensures.done c.in_ok-commit-in-Ok.ensures.told in
     rw (begun_slots g w, stays) (c.in-Ok.ensures.changed)
 
@@ -72,9 +75,14 @@ pub returns-in-Err-Refused-clause-refused : goal.returns-in-Err-Refused-clause-r
 returns-in-Err-Refused-clause-refused g c = λ word is.
     let old = g.B.Eeprom.chip c.args.bench.now in
     same-slots c.rollback.new.self c.change_in_place.new.store Committed Committed (g.B.Eeprom.chip c.change_in_place.new.bench) c.rollback.ensures.committed
-    ∙ (c.in-Err-Refused.ensures.committed (λ wrong. cc) ∙ same-slots c.begin.new.self c.args.store.now Committed Committed old c.begin.ensures.committed)
+    ∙ (c.in-Err-Refused.ensures.leaves.committed (λ wrong. cc) ∙ same-slots c.begin.new.self c.args.store.now Committed Committed old c.begin.ensures.committed)
 
 pub returns-in_err-commit-in-Ok-clause-behind : goal.returns-in_err-commit-in-Ok-clause-behind
 returns-in_err-commit-in-Ok-clause-behind g c =
     behind-changed (g.B.Eeprom.chip c.args.bench.now) (g.B.Eeprom.chip c.args.bench.now) (g.B.Eeprom.chip c.change_in_place.new.bench) (g.B.Eeprom.chip c.commit.new.bench) c.args.store.now c.begin.new.self c.change_in_place.new.store
-    refl c.begin.ensures.begun (c.in-Ok.ensures.goes_on (λ wrong. cc)).cells c.change_in_place.ensures.behind c.commit.ensures.behind
+    refl c.begin.ensures.begun (c.in-Ok.ensures.leaves.goes_on (λ wrong. cc)).cells c.change_in_place.ensures.leaves.behind c.commit.ensures.behind
+
+pub returns-in_ok-commit-in-Ok-clause-behind : goal.returns-in_ok-commit-in-Ok-clause-behind
+returns-in_ok-commit-in-Ok-clause-behind g c =
+    behind-changed (g.B.Eeprom.chip c.args.bench.now) (g.B.Eeprom.chip c.args.bench.now) (g.B.Eeprom.chip c.change_in_place.new.bench) (g.B.Eeprom.chip c.commit.new.bench) c.args.store.now c.begin.new.self c.change_in_place.new.store
+    refl c.begin.ensures.begun (c.in-Ok.ensures.leaves.goes_on (λ wrong. cc)).cells c.change_in_place.ensures.leaves.behind c.commit.ensures.behind

@@ -1,6 +1,6 @@
 -- At most one record has a stamp where the list rises.
 use Rattle.std.proofs.Common.{◌∙◌}
-use Rattle.record_table.specs.Listed.{slots_of}
+use Rattle.record_table.specs.Asking.{slots_asked}
 use Rattle.record_table.proofs.ListedSearches.{stamped-listed}
 use Rattle.record_table.proofs.Scan.{stronger}
 use Rattle.record_table.proofs.finding.find_stamp_into.Goals as goal
@@ -10,9 +10,10 @@ returns g c = record {
   there = c.find_into.ensures.there;
   at = c.find_into.ensures.at;
   both = c.find_into.ensures.both;
-  found = stronger c.find_into.result (slots_of c.args.store.now c.args.side (g.B.Eeprom.chip c.args.bench.now)) _ _
+  found = stronger c.find_into.result (slots_asked c.args.reader.now) _ _
       (λ found slots first rises. first ∙ stamped-listed g.R.Record.kind c.args.stamp slots rises) c.find_into.ensures.first;
   octets_read = c.find_into.ensures.octets_read;
   rises = c.find_into.ensures.rises;
+  goes_on = c.find_into.ensures.goes_on;
   frame = c.find_into.ensures.frame;
 }

@@ -1,5 +1,5 @@
 -- The slot is changed, and the slots hold the database with its record in the other's place.
-use Rattle.std.proofs.Common.{◌≡◌, ◌<◌, ◌≤◌, [], ◌∷◌, Some, Ok, Err, refl, sym, ap, subst, ◌∙◌, arith}
+use Rattle.std.proofs.Common.{rules, ◌≡◌, ◌<◌, ◌≤◌, [], ◌∷◌, Some, Ok, Err, refl, sym, ap, subst, ◌∙◌, arith}
 use Rattle.std.specs.Prelude.{IfSome}
 use Rattle.record_store.specs.Put.{weight_with}
 use Rattle.record_store.specs.declared.refusal.StoreRefusal.TheVariants.{Full}
@@ -38,12 +38,6 @@ unchanged g c side full =
     let same = c.change.ensures.unchanged (c.in_err-change.was ∙ ap (λ e. Err e) full) in
     slots-same c.args.store.now c.change.new.store side (g.B.Eeprom.chip c.args.bench.now) (g.B.Eeprom.chip c.change.new.bench) same.0 (ap g.B.Eeprom.chip same.1)
 
-pub returns-in_err-change-clause-refused : goal.returns-in_err-change-clause-refused
-returns-in_err-change-clause-refused g c = λ word is. unchanged g c Working (full-store c.from_residual.result c.in_err-change.field-0.0 c.from_residual.ensures.1 (not_fault c.from_residual.result word is))
-
-pub returns-in_err-change-clause-committed : goal.returns-in_err-change-clause-committed
-returns-in_err-change-clause-committed g c = λ no_fault. unchanged g c Committed (full-store c.from_residual.result c.in_err-change.field-0.0 c.from_residual.ensures.1 no_fault)
-
 pub returns-clause-ends : goal.returns-clause-ends
 returns-clause-ends g c = λ db was held there same with.
     let kind = g.R.Record.kind in
@@ -81,11 +75,28 @@ pub returns-clause-rows : goal.returns-clause-rows
 returns-clause-rows g c = λ was apart there.
     let kind = g.R.Record.kind in
     KeepsRows-one kind c.args.slot was (IsChanged kind c.args.value.now c.args.slot) _ _ g.met.R.Record.lawful apart there (λ a b is. (Some (kind.form.spell c.args.value.now), is, g.met.R.Record.lawful.begins c.args.value.now))
-    (slots-told (IsChanged kind c.args.value.now c.args.slot) c.args.store.now c.change.new.store (g.B.Eeprom.chip c.args.bench.now) (g.B.Eeprom.chip c.change.new.bench) c.requires.over.stands c.in_ok-change.ensures.put)
-
-pub returns-clause-committed : goal.returns-clause-committed
-returns-clause-committed g c = λ no_fault. committed-stays _ c.args.store.now c.change.new.store (g.B.Eeprom.chip c.args.bench.now) (g.B.Eeprom.chip c.change.new.bench) c.in_ok-change.ensures.told c.in_ok-change.ensures.put
+    (slots-told (IsChanged kind c.args.value.now c.args.slot) c.args.store.now c.change.new.store (g.B.Eeprom.chip c.args.bench.now) (g.B.Eeprom.chip c.change.new.bench) c.requires.open.over.stands c.in_ok-change.ensures.put)
 
 pub returns-clause-changed : goal.returns-clause-changed
 returns-clause-changed g c =
-    slots-told (IsChanged g.R.Record.kind c.args.value.now c.args.slot) c.args.store.now c.change.new.store (g.B.Eeprom.chip c.args.bench.now) (g.B.Eeprom.chip c.change.new.bench) c.requires.over.stands c.in_ok-change.ensures.put
+    slots-told (IsChanged g.R.Record.kind c.args.value.now c.args.slot) c.args.store.now c.change.new.store (g.B.Eeprom.chip c.args.bench.now) (g.B.Eeprom.chip c.change.new.bench) c.requires.open.over.stands c.in_ok-change.ensures.put
+
+pub returns-in_err-change-clause-leaves : goal.returns-in_err-change-clause-leaves
+returns-in_err-change-clause-leaves g c = record {
+  goes_on = search rules;
+  refused = λ word is. unchanged g c Working (full-store c.from_residual.result c.in_err-change.field-0.0 c.from_residual.ensures.1 (not_fault c.from_residual.result word is));
+  committed = λ no_fault. unchanged g c Committed (full-store c.from_residual.result c.in_err-change.field-0.0 c.from_residual.ensures.1 no_fault);
+  moments = search rules;
+  behind = search rules;
+  cause = search rules;
+}
+
+pub returns-clause-leaves : goal.returns-clause-leaves
+returns-clause-leaves g c = record {
+  goes_on = search rules;
+  refused = search rules;
+  committed = λ no_fault. committed-stays _ c.args.store.now c.change.new.store (g.B.Eeprom.chip c.args.bench.now) (g.B.Eeprom.chip c.change.new.bench) c.in_ok-change.ensures.told c.in_ok-change.ensures.put;
+  moments = search rules;
+  behind = search rules;
+  cause = search rules;
+}

@@ -3,8 +3,8 @@ use Rattle.script.proofs.Closing.{opens, plain, doubled, ended, over, first}
 use Rattle.script.proofs.token.closed.Goals as goal
 use Rattle.script.proofs.token.closed.Goals.{then-octet-eq39+then-behind, then-octet-eq39+else-behind, else-octet-eq39+else-behind-2}
 
-pub returns-then-behind-2-clause-value : goal.returns-then-behind-2-clause-value
-returns-then-behind-2-clause-value c =
+pub returns-then-behind-2 : goal.returns-then-behind-2
+returns-then-behind-2 c =
     sym (ended c.loop-i.behind c.loop-i.i c.loop-i.len c.args.rest.now (omega arith) c.if-behind-2.true (c.loop-i.invariant.behind c.if-behind-2.true) c.if-octet-eq39.false)
     ∙ (c.loop-i.invariant.ends ∙ first c.args.rest.now)
 
@@ -16,7 +16,6 @@ loop-i-preserved c =
           record {
             ends = rw (now, w.len-is) (sym (opens c.loop-i.behind c.loop-i.i c.loop-i.len c.args.rest.now (omega arith) w.if-behind.true w.if-octet-eq39.true) ∙ c.loop-i.invariant.ends);
             behind = λ _. omega (arith, w.len-is);
-            within = omega (arith, w.len-is);
           }
       | then-octet-eq39+else-behind w ↦
           let now : c.if-octet-eq39.behind ≡ false = w.behind-is ∙ ap not w.if-behind.false in
@@ -24,18 +23,16 @@ loop-i-preserved c =
           record {
             ends = rw (now, w.len-is) (sym (doubled c.loop-i.behind c.loop-i.i c.loop-i.len c.args.rest.now (omega arith) w.if-behind.false last w.if-octet-eq39.true) ∙ c.loop-i.invariant.ends);
             behind = λ other. absurd (cc);
-            within = omega (arith, w.len-is);
           }
       | else-octet-eq39+else-behind-2 w ↦
           let now : c.if-octet-eq39.behind ≡ false = w.behind-is ∙ w.if-behind-2.false in
           record {
             ends = rw (w.behind-is, w.len-is) (sym (plain c.loop-i.behind c.loop-i.i c.loop-i.len c.args.rest.now (omega arith) w.if-behind-2.false w.if-octet-eq39.false) ∙ c.loop-i.invariant.ends);
             behind = λ other. absurd (cc);
-            within = omega (arith, w.len-is, c.loop-i.invariant.within);
           }
     ]
 
-pub returns-clause-value : goal.returns-clause-value
-returns-clause-value c =
+pub returns : goal.returns
+returns c =
     sym (over c.loop-i.behind c.loop-i.i c.loop-i.len c.args.rest.now (omega arith) c.loop-i.invariant.behind)
     ∙ (c.loop-i.invariant.ends ∙ first c.args.rest.now)

@@ -30,37 +30,31 @@ loop-fetching-init g c = record {
   dest_rest = record { marked = refl; kept = g.met.D.CardLink.keeps_same c.args.dest.now; goes = g.met.D.CardLink.goes_on_same c.args.dest.now };
 }
 
-pub returns-in-Done-clause-turns : goal.returns-in-Done-clause-turns
-returns-in-Done-clause-turns g c = λ s d count total together.
-    rw (counted-done c.loop-fetching.rows c.loop-fetching.fetching.step c.in-Done.closing c.goes_on.result c.counted.result c.in-Done.is c.goes_on.ensures c.counted.ensures)
-    (filled g.S.CardLink.is_at g.D.CardLink.is_at s d count c.loop-fetching.rows c.args.table.now total c.loop-fetching.fetching.plan c.in-Done.closing c.loop-fetching.source c.loop-fetching.dest (rw c.in-Done.is at (c.loop-fetching.invariant.turns s d count total together)))
-
-pub returns-in-Done-clause-reads : goal.returns-in-Done-clause-reads
-returns-in-Done-clause-reads g c = λ s fetching.
-    let f = c.loop-fetching.invariant.reads s fetching in
-    record {
-      reads = reads-stayed g.S.CardLink.is_at s c.counted.result c.loop-fetching.source (gives-stays g.S.CardLink.is_at s f.last f.closing f.rows c.loop-fetching.fetching.plan c.loop-fetching.fetching.step c.loop-fetching.source f.gives);
-      still = c.loop-fetching.invariant.still s fetching;
-    }
-
-pub returns-in-Done-clause-fills : goal.returns-in-Done-clause-fills
-returns-in-Done-clause-fills g c = λ d filling. record { fills = λ _. c.loop-fetching.invariant.fills d filling; moments = c.loop-fetching.invariant.moments d filling }
-
-pub returns-in-Done-clause-leaves : goal.returns-in-Done-clause-leaves
-returns-in-Done-clause-leaves g c = record {
-  ends =
+pub returns-in-Done : goal.returns-in-Done
+returns-in-Done g c = record {
+  turns = λ s d count total together.
       rw (counted-done c.loop-fetching.rows c.loop-fetching.fetching.step c.in-Done.closing c.goes_on.result c.counted.result c.in-Done.is c.goes_on.ensures c.counted.ensures)
-      (fetched-goes g.S.CardLink.is_live g.S.CardLink.faults g.D.CardLink.is_live g.D.CardLink.faults c.loop-fetching.rows c.in-Done.closing c.args.source.now c.loop-fetching.source c.args.dest.now c.loop-fetching.dest c.loop-fetching.invariant.source
-      c.loop-fetching.invariant.dest);
-  source_rest = c.loop-fetching.invariant.source_rest;
-  dest_rest = c.loop-fetching.invariant.dest_rest;
-}
-
-pub returns-in-Done-clause-shows : goal.returns-in-Done-clause-shows
-returns-in-Done-clause-shows g c = record {
-  rows = c.loop-fetching.rows;
-  counted = rw (counted-done c.loop-fetching.rows c.loop-fetching.fetching.step c.in-Done.closing c.goes_on.result c.counted.result c.in-Done.is c.goes_on.ensures c.counted.ensures) (fetched-counted c.loop-fetching.rows c.in-Done.closing);
-  shows = count-ended g.P.Person.lost g.P.Person.shown words each c.from.result c.loop-fetching.rows c.loop-fetching.rows c.args.person.now c.loop-fetching.person c.end.new.person c.from.ensures refl c.loop-fetching.invariant.shown c.end.ensures;
+      (filled g.S.CardLink.is_at g.D.CardLink.is_at s d count c.loop-fetching.rows c.args.table.now total c.loop-fetching.fetching.plan c.in-Done.closing c.loop-fetching.source c.loop-fetching.dest (rw c.in-Done.is at (c.loop-fetching.invariant.turns s d count total together)));
+  reads = λ s fetching.
+      let f = c.loop-fetching.invariant.reads s fetching in
+      record {
+        reads = reads-stayed g.S.CardLink.is_at s c.counted.result c.loop-fetching.source (gives-stays g.S.CardLink.is_at s f.last f.closing f.rows c.loop-fetching.fetching.plan c.loop-fetching.fetching.step c.loop-fetching.source f.gives);
+        still = c.loop-fetching.invariant.still s fetching;
+      };
+  fills = λ d filling. record { fills = λ _. c.loop-fetching.invariant.fills d filling; moments = c.loop-fetching.invariant.moments d filling };
+  leaves = record {
+    ends =
+        rw (counted-done c.loop-fetching.rows c.loop-fetching.fetching.step c.in-Done.closing c.goes_on.result c.counted.result c.in-Done.is c.goes_on.ensures c.counted.ensures)
+        (fetched-goes g.S.CardLink.is_live g.S.CardLink.faults g.D.CardLink.is_live g.D.CardLink.faults c.loop-fetching.rows c.in-Done.closing c.args.source.now c.loop-fetching.source c.args.dest.now c.loop-fetching.dest c.loop-fetching.invariant.source
+        c.loop-fetching.invariant.dest);
+    source_rest = c.loop-fetching.invariant.source_rest;
+    dest_rest = c.loop-fetching.invariant.dest_rest;
+  };
+  shows = record {
+    rows = c.loop-fetching.rows;
+    counted = rw (counted-done c.loop-fetching.rows c.loop-fetching.fetching.step c.in-Done.closing c.goes_on.result c.counted.result c.in-Done.is c.goes_on.ensures c.counted.ensures) (fetched-counted c.loop-fetching.rows c.in-Done.closing);
+    shows = count-ended g.P.Person.lost g.P.Person.shown words each c.from.result c.loop-fetching.rows c.loop-fetching.rows c.args.person.now c.loop-fetching.person c.end.new.person c.from.ensures refl c.loop-fetching.invariant.shown c.end.ensures;
+  };
 }
 
 pub turn-requires : goal.turn-requires
@@ -93,48 +87,42 @@ loop-fetching-preserved g c = record {
       (g.met.D.CardLink.goes_on_then c.args.dest.now c.loop-fetching.dest c.turn.new.dest) c.loop-fetching.invariant.dest_rest c.turn.ensures.leaves.dest_rest;
 }
 
-pub returns-in-Err-clause-turns : goal.returns-in-Err-clause-turns
-returns-in-Err-clause-turns g c = λ s d count total together.
-    turns-ended (λ _. Together g.S.CardLink.is_at g.D.CardLink.is_at s d count (with_row (has_row c.loop-fetching.fetching.step) c.loop-fetching.rows) c.args.table.now total c.turn.new.fetching.plan c.turn.new.fetching.step c.turn.new.source c.turn.new.dest)
-    (λ number. IsFilled g.D.CardLink.is_at d count total number c.turn.new.dest) total c.in-Err.end (c.in-Err.ensures.turns s d count c.loop-fetching.rows total (c.loop-fetching.invariant.turns s d count total together))
-
-pub returns-in-Err-clause-reads : goal.returns-in-Err-clause-reads
-returns-in-Err-clause-reads g c = λ s fetching. record {
-  reads =
-      reads-ended (Unit {0}) ℕ g.S.CardLink.is_at s (IsFetching g.S.CardLink.is_at s c.turn.new.fetching.plan c.turn.new.fetching.step c.turn.new.source) (StaysAt g.S.CardLink.is_at s c.turn.new.source) c.turn.new.source c.in-Err.end
-      (c.in-Err.ensures.reads s (c.loop-fetching.invariant.reads s fetching)).reads;
-  still =
-      holds-both g.S.CardLink.chip g.S.CardLink.mark s.committed c.args.source.now c.loop-fetching.source c.turn.new.source c.loop-fetching.invariant.source_rest.marked (c.loop-fetching.invariant.still s fetching)
-      (c.turn.ensures.reads s (c.loop-fetching.invariant.reads s fetching)).still;
-}
-
-pub returns-in-Err-clause-fills : goal.returns-in-Err-clause-fills
-returns-in-Err-clause-fills g c = λ d filling. record {
-  fills = λ heard. (c.in-Err.ensures.fills d (c.loop-fetching.invariant.fills d filling)).fills (heard-ended c.in-Err.end (Err c.in-Err.end) refl heard _ refl);
-  moments =
-      holds-both g.D.CardLink.chip g.D.CardLink.mark d.committed c.args.dest.now c.loop-fetching.dest c.turn.new.dest c.loop-fetching.invariant.dest_rest.marked (c.loop-fetching.invariant.moments d filling)
-      (c.turn.ensures.fills d (c.loop-fetching.invariant.fills d filling)).moments;
-}
-
-pub returns-in-Err-clause-leaves : goal.returns-in-Err-clause-leaves
-returns-in-Err-clause-leaves g c = record {
-  ends =
-      goes-then g.S.CardLink.is_live g.S.CardLink.faults g.D.CardLink.is_live g.D.CardLink.faults c.args.source.now c.loop-fetching.source c.turn.new.source c.args.dest.now c.loop-fetching.dest c.turn.new.dest
-      c.loop-fetching.invariant.source c.loop-fetching.invariant.dest {A = ℕ} (Err c.in-Err.end)
-      (goes-of (Unit {0}) ℕ g.S.CardLink.is_live g.S.CardLink.faults g.D.CardLink.is_live g.D.CardLink.faults c.in-Err.end c.loop-fetching.source c.turn.new.source c.loop-fetching.dest c.turn.new.dest c.in-Err.ensures.leaves.ends);
-  source_rest =
-      rest-both g.S.CardLink.mark g.S.CardLink.keeps g.S.CardLink.goes_on c.args.source.now c.loop-fetching.source c.turn.new.source (g.met.S.CardLink.keeps_then c.args.source.now c.loop-fetching.source c.turn.new.source)
-      (g.met.S.CardLink.goes_on_then c.args.source.now c.loop-fetching.source c.turn.new.source) c.loop-fetching.invariant.source_rest c.turn.ensures.leaves.source_rest;
-  dest_rest =
-      rest-both g.D.CardLink.mark g.D.CardLink.keeps g.D.CardLink.goes_on c.args.dest.now c.loop-fetching.dest c.turn.new.dest (g.met.D.CardLink.keeps_then c.args.dest.now c.loop-fetching.dest c.turn.new.dest)
-      (g.met.D.CardLink.goes_on_then c.args.dest.now c.loop-fetching.dest c.turn.new.dest) c.loop-fetching.invariant.dest_rest c.turn.ensures.leaves.dest_rest;
-}
-
-pub returns-in-Err-clause-shows : goal.returns-in-Err-clause-shows
-returns-in-Err-clause-shows g c = record {
-  rows = c.loop-fetching.rows;
-  counted = tt;
-  shows = count-ended g.P.Person.lost g.P.Person.shown words each c.from-in-Err.result c.loop-fetching.rows c.loop-fetching.rows c.args.person.now c.loop-fetching.person c.end-in-Err.new.person c.from-in-Err.ensures refl c.loop-fetching.invariant.shown c.end-in-Err.ensures;
+pub returns-in-Err : goal.returns-in-Err
+returns-in-Err g c = record {
+  turns = λ s d count total together.
+      turns-ended (λ _. Together g.S.CardLink.is_at g.D.CardLink.is_at s d count (with_row (has_row c.loop-fetching.fetching.step) c.loop-fetching.rows) c.args.table.now total c.turn.new.fetching.plan c.turn.new.fetching.step c.turn.new.source c.turn.new.dest)
+      (λ number. IsFilled g.D.CardLink.is_at d count total number c.turn.new.dest) total c.in-Err.end (c.in-Err.ensures.turns s d count c.loop-fetching.rows total (c.loop-fetching.invariant.turns s d count total together));
+  reads = λ s fetching. record {
+    reads =
+        reads-ended (Unit {0}) ℕ g.S.CardLink.is_at s (IsFetching g.S.CardLink.is_at s c.turn.new.fetching.plan c.turn.new.fetching.step c.turn.new.source) (StaysAt g.S.CardLink.is_at s c.turn.new.source) c.turn.new.source c.in-Err.end
+        (c.in-Err.ensures.reads s (c.loop-fetching.invariant.reads s fetching)).reads;
+    still =
+        holds-both g.S.CardLink.chip g.S.CardLink.mark s.committed c.args.source.now c.loop-fetching.source c.turn.new.source c.loop-fetching.invariant.source_rest.marked (c.loop-fetching.invariant.still s fetching)
+        (c.turn.ensures.reads s (c.loop-fetching.invariant.reads s fetching)).still;
+  };
+  fills = λ d filling. record {
+    fills = λ heard. (c.in-Err.ensures.fills d (c.loop-fetching.invariant.fills d filling)).fills (heard-ended c.in-Err.end (Err c.in-Err.end) refl heard _ refl);
+    moments =
+        holds-both g.D.CardLink.chip g.D.CardLink.mark d.committed c.args.dest.now c.loop-fetching.dest c.turn.new.dest c.loop-fetching.invariant.dest_rest.marked (c.loop-fetching.invariant.moments d filling)
+        (c.turn.ensures.fills d (c.loop-fetching.invariant.fills d filling)).moments;
+  };
+  leaves = record {
+    ends =
+        goes-then g.S.CardLink.is_live g.S.CardLink.faults g.D.CardLink.is_live g.D.CardLink.faults c.args.source.now c.loop-fetching.source c.turn.new.source c.args.dest.now c.loop-fetching.dest c.turn.new.dest
+        c.loop-fetching.invariant.source c.loop-fetching.invariant.dest {A = ℕ} (Err c.in-Err.end)
+        (goes-of (Unit {0}) ℕ g.S.CardLink.is_live g.S.CardLink.faults g.D.CardLink.is_live g.D.CardLink.faults c.in-Err.end c.loop-fetching.source c.turn.new.source c.loop-fetching.dest c.turn.new.dest c.in-Err.ensures.leaves.ends);
+    source_rest =
+        rest-both g.S.CardLink.mark g.S.CardLink.keeps g.S.CardLink.goes_on c.args.source.now c.loop-fetching.source c.turn.new.source (g.met.S.CardLink.keeps_then c.args.source.now c.loop-fetching.source c.turn.new.source)
+        (g.met.S.CardLink.goes_on_then c.args.source.now c.loop-fetching.source c.turn.new.source) c.loop-fetching.invariant.source_rest c.turn.ensures.leaves.source_rest;
+    dest_rest =
+        rest-both g.D.CardLink.mark g.D.CardLink.keeps g.D.CardLink.goes_on c.args.dest.now c.loop-fetching.dest c.turn.new.dest (g.met.D.CardLink.keeps_then c.args.dest.now c.loop-fetching.dest c.turn.new.dest)
+        (g.met.D.CardLink.goes_on_then c.args.dest.now c.loop-fetching.dest c.turn.new.dest) c.loop-fetching.invariant.dest_rest c.turn.ensures.leaves.dest_rest;
+  };
+  shows = record {
+    rows = c.loop-fetching.rows;
+    counted = tt;
+    shows = count-ended g.P.Person.lost g.P.Person.shown words each c.from-in-Err.result c.loop-fetching.rows c.loop-fetching.rows c.args.person.now c.loop-fetching.person c.end-in-Err.new.person c.from-in-Err.ensures refl c.loop-fetching.invariant.shown c.end-in-Err.ensures;
+  };
 }
 
 pub overflow_add-with_row : goal.overflow_add-with_row

@@ -40,6 +40,7 @@ pub returns-then-not-branch-clause-reads : goal.returns-then-not-branch-clause-r
 returns-then-not-branch-clause-reads g c = record {
   octets_read = λ db held. rw c.in-View.is (c.in_ok-descend-in-View.ensures.reads.octets_read db held);
   rises = c.in_ok-descend-in-View.ensures.reads.rises;
+  goes_on = search rules;
   frame = search rules;
 }
 
@@ -47,6 +48,7 @@ pub returns-else-not-branch-clause-reads : goal.returns-else-not-branch-clause-r
 returns-else-not-branch-clause-reads g c = record {
   octets_read = λ db held. rw c.in-View.is (c.in_ok-descend-in-View.ensures.reads.octets_read db held);
   rises = c.in_ok-descend-in-View.ensures.reads.rises;
+  goes_on = search rules;
   frame = search rules;
 }
 

@@ -25,7 +25,7 @@ last c place octets same fit limit formed ends taken =
     reads_as c place limit octets (a_command c) same (last-read operations limit c place formed fit ends (HasLine-operations (kind_of c.operation)) taken)
 
 pub returns-clause-part : goal.returns-clause-part
-returns-clause-part c = part c.args.self.now c.args.part c.write_at.new.out.items c.write_at.ensures c.requires.fits
+returns-clause-part c = part c.args.self.now c.args.part c.write.new.out.items c.write.ensures c.requires.fits
 
 pub returns-clause-last : goal.returns-clause-last
-returns-clause-last c = last c.args.self.now c.args.part c.write_at.new.out.items c.write_at.ensures c.requires.fits
+returns-clause-last c = last c.args.self.now c.args.part c.write.new.out.items c.write.ensures c.requires.fits

@@ -36,40 +36,43 @@ free {chip = chip} {m = m} {card = card} {told = told} c at says is = told-waiti
 pub returns-then-keeps_waiting-clause-carries : goal.returns-then-keeps_waiting-clause-carries
 returns-then-keeps_waiting-clause-carries g c =
     let chip = g.B.Eeprom.chip c.args.bench.now in
-    CarriesOut-as (λ m at. (ap (answered m) (carried_out-waits m c.args.command.now (told-waiting c.args.self.now chip m c.args.command.now c.keeps_waiting.result true at.held c.keeps_waiting.ensures c.if-keeps_waiting.true)), refl)) c.requires.empty
-    (CarriesOut-unwritten c.requires.ready refl (λ m at. record { reply = refl; held = at.held }) c.requires.ready (omega arith, refl) refl)
+    CarriesOut-as (λ m at. (ap (answered m) (carried_out-waits m c.args.command.now (told-waiting c.args.self.now chip m c.args.command.now c.keeps_waiting.result true at.held c.keeps_waiting.ensures c.if-keeps_waiting.true)), refl)) c.without_body.ensures
+    (CarriesOut-unwritten c.requires.asked.ready.stands refl (λ m at. record { reply = refl; held = at.held }) c.requires.asked.ready.stands (omega arith, refl) refl)
 
 pub returns-in-Begin-clause-carries : goal.returns-in-Begin-clause-carries
 returns-in-Begin-clause-carries g c =
-    CarriesOut-as (λ m at. (ap (answered m) (carried_out-arm m c.args.command.now Begin c.in-Begin.is (free c.args.command.now at c.keeps_waiting.ensures c.if-keeps_waiting.false) refl), refl)) c.requires.empty
-    (CarriesOut-at_once c.requires.ready c.begin.ensures)
+    CarriesOut-as (λ m at. (ap (answered m) (carried_out-arm m c.args.command.now Begin c.in-Begin.is (free c.args.command.now at c.keeps_waiting.ensures c.if-keeps_waiting.false) refl), refl)) c.without_body.ensures
+    (CarriesOut-at_once c.requires.asked.ready.stands c.begin.ensures)
 
 pub returns-in-Commit-clause-carries : goal.returns-in-Commit-clause-carries
 returns-in-Commit-clause-carries g c =
     CarriesOut-as (λ m at. (let goes = free c.args.command.now at c.keeps_waiting.ensures c.if-keeps_waiting.false in
-    (ap (answered m) (carried_out-arm m c.args.command.now Commit c.in-Commit.is goes refl), ap or_nothing (octets-arm m c.args.command.now Commit c.in-Commit.is goes)))) c.requires.empty c.commit.ensures
+    (ap (answered m) (carried_out-arm m c.args.command.now Commit c.in-Commit.is goes refl), ap or_nothing (octets-arm m c.args.command.now Commit c.in-Commit.is goes)))) c.without_body.ensures c.commit.ensures
 
 pub returns-in-Rollback-clause-carries : goal.returns-in-Rollback-clause-carries
 returns-in-Rollback-clause-carries g c =
-    CarriesOut-as (λ m at. (ap (answered m) (carried_out-arm m c.args.command.now Rollback c.in-Rollback.is (free c.args.command.now at c.keeps_waiting.ensures c.if-keeps_waiting.false) refl), refl)) c.requires.empty
-    (CarriesOut-at_once c.requires.ready c.roll_back.ensures)
+    CarriesOut-as (λ m at. (ap (answered m) (carried_out-arm m c.args.command.now Rollback c.in-Rollback.is (free c.args.command.now at c.keeps_waiting.ensures c.if-keeps_waiting.false) refl), refl)) c.without_body.ensures
+    (CarriesOut-at_once c.requires.asked.ready.stands c.roll_back.ensures)
 
-pub present_user-requires-clause-closed : goal.present_user-requires-clause-closed
-present_user-requires-clause-closed g c =
-    any-none c.args.self.now.transaction c.args.command.now.channel
-    (subst (λ (operation : Operation). keeps_waiting (waits (kind_of operation)) c.args.self.now.transaction c.args.command.now.channel ≡ false) c.in-PresentUser.is (sym c.keeps_waiting.ensures ∙ c.if-keeps_waiting.false))
+pub present_user-requires : goal.present_user-requires
+present_user-requires g c = record {
+  ready = c.requires.asked.ready.stands;
+  closed =
+      any-none c.args.self.now.transaction c.args.command.now.channel
+      (subst (λ (operation : Operation). keeps_waiting (waits (kind_of operation)) c.args.self.now.transaction c.args.command.now.channel ≡ false) c.in-PresentUser.is (sym c.keeps_waiting.ensures ∙ c.if-keeps_waiting.false));
+}
 
 pub returns-in-PresentUser-clause-carries : goal.returns-in-PresentUser-clause-carries
 returns-in-PresentUser-clause-carries g c =
     CarriesOut-as (λ m at. (let goes = free c.args.command.now at c.keeps_waiting.ensures c.if-keeps_waiting.false in
     let presents : carried_out m c.args.command.now ≡ user_presented m c.args.command.now.channel c.copy.result = rw c.copy.ensures (carried_out-arm m c.args.command.now (PresentUser c.in-PresentUser.name) c.in-PresentUser.is goes refl) in
-    (ap (answered m) presents, refl))) c.requires.empty
+    (ap (answered m) presents, refl))) c.without_body.ensures
     (CarriesOut-within c.present_user.ensures)
 
 pub returns-in-OpenChannel-clause-carries : goal.returns-in-OpenChannel-clause-carries
 returns-in-OpenChannel-clause-carries g c =
     CarriesOut-as (λ m at. (ap (answered m) (carried_out-arm m c.args.command.now (OpenChannel c.in-OpenChannel.number) c.in-OpenChannel.is (free c.args.command.now at c.keeps_waiting.ensures c.if-keeps_waiting.false) refl), refl)) refl
-    (CarriesOut-at_once c.requires.ready c.open_channel.ensures)
+    (CarriesOut-at_once c.requires.asked.ready.stands c.open_channel.ensures)
 
 pub returns-in-CloseChannel-clause-carries : goal.returns-in-CloseChannel-clause-carries
 returns-in-CloseChannel-clause-carries g c =
@@ -77,8 +80,8 @@ returns-in-CloseChannel-clause-carries g c =
       ap (answered m) (carried_out-arm m c.args.command.now (CloseChannel c.in-CloseChannel.number) c.in-CloseChannel.is (free c.args.command.now at c.keeps_waiting.ensures c.if-keeps_waiting.false) refl
           ∙ ap (channel_closed m c.args.command.now.channel) (sym c.channel_meant-number.ensures)),
       refl,
-    )) c.requires.empty
-    (CarriesOut-at_once c.requires.ready c.close_channel.ensures)
+    )) c.without_body.ensures
+    (CarriesOut-at_once c.requires.asked.ready.stands c.close_channel.ensures)
 
 -- what is left changes the database
 none : (g : _) (c : In_default g) → IsNoneOfThose c.args.command.now.operation
@@ -101,8 +104,6 @@ others-wait g c = subst (λ (w : Waits). keeps_waiting w c.args.self.now.transac
 
 pub change-requires : goal.change-requires
 change-requires g c = record {
-  ready = c.requires.ready;
-  found = c.requires.found;
   mine = others-wait g (goal.at.change-requires g c).In_default;
   asked = c.requires.asked;
 }
@@ -114,13 +115,16 @@ returns-in_default-clause-carries g c =
     let le = c.args.command.now.le in
     let changes = changes-others operation (none g (goal.at.returns-in_default-clause-carries g c).In_default) in
     CarriesOut-as (λ m at. (let goes = free c.args.command.now at c.keeps_waiting.ensures c.if-keeps_waiting.false in
-    (ap (answered m) (carried_out-changes m channel operation le changes c.in_default.not-DeleteUser goes), ap or_nothing (octets-carried_out m channel operation le changes goes)))) c.requires.empty c.change.ensures.carries
+    (ap (answered m) (carried_out-changes m channel operation le changes c.in_default.not-DeleteUser goes), ap or_nothing (octets-carried_out m channel operation le changes goes)))) c.without_body.ensures c.change.ensures.carries
 
 -- VERIFY and DELETE USER wait for any transaction, so none is open.
-pub verify-requires-clause-closed : goal.verify-requires-clause-closed
-verify-requires-clause-closed g c =
-    any-none c.args.self.now.transaction c.args.command.now.channel
-    (subst (λ (operation : Operation). keeps_waiting (waits (kind_of operation)) c.args.self.now.transaction c.args.command.now.channel ≡ false) c.in-Verify.is (sym c.keeps_waiting.ensures ∙ c.if-keeps_waiting.false))
+pub verify-requires : goal.verify-requires
+verify-requires g c = record {
+  ready = c.requires.asked.ready.stands;
+  closed =
+      any-none c.args.self.now.transaction c.args.command.now.channel
+      (subst (λ (operation : Operation). keeps_waiting (waits (kind_of operation)) c.args.self.now.transaction c.args.command.now.channel ≡ false) c.in-Verify.is (sym c.keeps_waiting.ensures ∙ c.if-keeps_waiting.false));
+}
 
 pub returns-in-Verify-clause-carries : goal.returns-in-Verify-clause-carries
 returns-in-Verify-clause-carries g c =
@@ -128,7 +132,7 @@ returns-in-Verify-clause-carries g c =
     let carried : carried_out m c.args.command.now ≡ verified m c.args.command.now.channel c.as_slice.result.now = rw c.as_slice.ensures.octets (carried_out-arm m c.args.command.now (Verify _) c.in-Verify.is goes refl) in
     let most : octets_carried_out m c.args.command.now ≡ octets_verified m c.args.command.now.channel c.as_slice.result.now = rw c.as_slice.ensures.octets (octets-arm m c.args.command.now (Verify _) c.in-Verify.is goes) in
     (ap (answered m) carried, ap or_nothing most)))
-    c.requires.empty c.verify.ensures.carries
+    c.without_body.ensures c.verify.ensures.carries
 
 pub delete_user-requires-clause-closed : goal.delete_user-requires-clause-closed
 delete_user-requires-clause-closed g c =
@@ -140,7 +144,7 @@ returns-in-DeleteUser-clause-carries g c =
     let command = c.args.command.now in
     CarriesOut-as (λ m at. (let goes = free command at c.keeps_waiting.ensures c.if-keeps_waiting.false in
     let deletes : carried_out m command ≡ user_and_sessions_deleted m command.channel c.copy-in-DeleteUser.result = rw c.copy-in-DeleteUser.ensures (carried_out-arm m command (DeleteUser c.in-DeleteUser.name) c.in-DeleteUser.is goes refl) in
-    (ap (answered m) deletes, ap or_nothing (octets-carried_out m command.channel command.operation command.le (rw c.in-DeleteUser.is refl) goes)))) c.requires.empty c.delete_user.ensures
+    (ap (answered m) deletes, ap or_nothing (octets-carried_out m command.channel command.operation command.le (rw c.in-DeleteUser.is refl) goes)))) c.without_body.ensures c.delete_user.ensures
 
 -- VERIFY alone commits a second database.
 not_twice : (m : Machine) (c : Command) (result : Result StatusWord EepromFault) (old new : Chip) → ((secret : List ℕ) → c.operation ≡ Verify secret → ⊥) → OnOk result (LeavesFirstOfTwo (answered m (carried_out m c)) old new)

@@ -16,7 +16,7 @@ returns-then-channel-eq0 c = record {
 pub returns-else-channel-eq0 : goal.returns-else-channel-eq0
 returns-else-channel-eq0 c = record {
   step = λ chip m at.
-      subst (λ (body : List ℕ). HoldsAnswer (answered m (channel_opened m c.args.asking.number c.args.channel.number)) (replied body c.open_named.result) c.open_named.new.self chip) (sym c.requires.empty)
+      subst (λ (body : List ℕ). HoldsAnswer (answered m (channel_opened m c.args.asking.number c.args.channel.number)) (replied body c.open_named.result) c.open_named.new.self chip) (sym c.without_body.ensures)
       (c.open_named.ensures.step chip m at);
   ready = c.open_named.ensures.ready;
   cells = c.open_named.ensures.cells;

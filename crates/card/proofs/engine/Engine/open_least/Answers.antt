@@ -15,7 +15,7 @@ returns c = record {
   step = λ chip m at.
       let number = c.in-Some.channel.number in
       let asking = c.args.asking.number in
-      let body : c.push.new.self.items ≡ number ∷ [] = c.push.ensures.items ∙ ap (λ (octets : List ℕ). octets ++ number ∷ []) (ap (λ (sent : Reply). sent.body) c.reply.view_is ∙ c.requires.empty) in
+      let body : c.push.new.self.items ≡ number ∷ [] = c.push.ensures.items ∙ ap (λ (octets : List ℕ). octets ++ number ∷ []) (ap (λ (sent : Reply). sent.body) c.reply.view_is ∙ c.without_body.ensures) in
       subst (λ (body : List ℕ). HoldsAnswer (answered m (channel_opened m asking 0)) (replied body done) c.drop_pending.new.self chip) (sym body)
       (HoldsAnswer-least c.args.self.now chip m asking at.held c.drop_pending.new.self number (sym c.in-Some.ensures.least)
       (c.drop_pending.ensures ∙ ap (λ (kept : Kept). changing_session without_pending kept asking) c.set_user.ensures));

@@ -75,10 +75,10 @@ set-there g c user =
     c.in-Some.session c.read.new.session (now g c) (view g c) (λ chain. reads-so c.read.new.session c.in-Some.session user chain) (session-there g c))
 
 pub returns-in_err-actor-clause-carries : goal.returns-in_err-actor-clause-carries
-returns-in_err-actor-clause-carries g c = CarriesOut-unwritten c.requires.ready.stands c.in_err-actor.ensures.frame.same (λ m from. err-ok _ _ c.from_residual.result c.from_residual.ensures.1) (err-on _ _ c.from_residual.result c.from_residual.ensures.1) (search rules) (err-on _ _ c.from_residual.result c.from_residual.ensures.1)
+returns-in_err-actor-clause-carries g c = CarriesOut-unwritten c.requires.asked.ready.stands c.in_err-actor.ensures.frame.same (λ m from. err-ok _ _ c.from_residual.result c.from_residual.ensures.1) (err-on _ _ c.from_residual.result c.from_residual.ensures.1) (search rules) (err-on _ _ c.from_residual.result c.from_residual.ensures.1)
 
 pub returns-in_err-word-clause-carries : goal.returns-in_err-word-clause-carries
-returns-in_err-word-clause-carries g c = CarriesOut-unwritten c.requires.ready.stands (search rules) (λ m from. err-ok _ _ c.from_residual-in_err-word.result c.from_residual-in_err-word.ensures.1) (err-on _ _ c.from_residual-in_err-word.result c.from_residual-in_err-word.ensures.1) (search rules) (err-on _ _ c.from_residual-in_err-word.result c.from_residual-in_err-word.ensures.1)
+returns-in_err-word-clause-carries g c = CarriesOut-unwritten c.requires.asked.ready.stands (search rules) (λ m from. err-ok _ _ c.from_residual-in_err-word.result c.from_residual-in_err-word.ensures.1) (err-on _ _ c.from_residual-in_err-word.result c.from_residual-in_err-word.ensures.1) (search rules) (err-on _ _ c.from_residual-in_err-word.result c.from_residual-in_err-word.ensures.1)
 
 pub unreachable-requires : goal.unreachable-requires
 unreachable-requires g c =
@@ -97,7 +97,7 @@ returns-clause-carries g c = record {
       let after = c.read.new.session in
       let w = (goal.at.returns-clause-carries g c).After-read in
       let db = base m channel in
-      let held = IsHeld-base args old m channel c.requires.ready.stands from in
+      let held = IsHeld-base args old m channel c.requires.asked.ready.stands from in
       let at = HoldsMachine-found args c.actor_reading.new.self.found old m from.held in
       let seen = reading-card (now g w) old m c.self.inside.sessions.value c.self.inside.chains.value channel session at (ap (λ (kept : Kept). kept.sessions) (sym (view g w))) (c.self.invariant.0 ∙ sym c.self.invariant.1) (session-there g w) in
       let who = actor-at args old m channel (proved_user (session_on args.sessions channel)) from.held refl ∙ sym (c.in_ok-actor.ensures.actor db held) in
@@ -106,7 +106,7 @@ returns-clause-carries g c = record {
       let moves = c.in_ok-word.ensures.moves db (held-there g w db held) cursors (right-there g w db held) in
       let kept : Kept = record { store = c.self.inside.tables.store; index = c.self.inside.tables.index; sessions = sessions_of (slice_set c.self.inside.sessions.value c.from.result (Some after)) c.self.inside.chains.value; transaction = c.self.inside.transaction; found = c.self.inside.found.value; live = c.self.inside.live } in
       rw (c.deref_mut.ensures.value, c.deref_mut-4.ensures.value) (Performs-found m _ _ c.read.new.reply.body c.in_ok-word.word kept _ old _
-      (Performs-unwritten args kept old _ m _ _ c.read.new.reply.body (Ok c.in_ok-word.word) c.requires.ready.stands from (search rules)
+      (Performs-unwritten args kept old _ m _ _ c.read.new.reply.body (Ok c.in_ok-word.word) c.requires.asked.ready.stands from (search rules)
       (subst (λ (chip : Chip). HoldsAnswer (answered m (carried_out m command)) (replied c.read.new.reply.body c.in_ok-word.word) kept chip) (search rules)
       (HoldsAnswer-read (now g w) kept old m command reads.0 c.read.new.reply.body c.in_ok-word.word (reading_in after) at reads.1
       (move-there db db c.in_ok-actor.actor (actor m channel) (reading_in session) (reading_of m channel) reads.0 (move_to c.read.new.reply.body c.in_ok-word.word after.cursor after.pending) refl who seen (moves reads.0 reads.1))
@@ -121,7 +121,7 @@ returns-clause-carries g c = record {
       let found : Found = record { last = Some (record { channel = channel; actor = c.in_ok-actor.actor }); scan = c.read.new.scan } in
       let kept : Kept = record { store = c.self.inside.tables.store; index = c.self.inside.tables.index; sessions = sessions_of (slice_set c.self.inside.sessions.value c.from.result (Some after)) c.self.inside.chains.value; transaction = c.self.inside.transaction; found = c.self.inside.found.value; live = c.self.inside.live } in
       rw (c.deref_mut.ensures.value, c.deref_mut-4.ensures.value) (subst (λ (chip : Chip). IsReady (record kept { found = found }) chip) (search rules) (subst (λ (kept : Kept). IsReady (record kept { found = found }) old) (sym (set-there g w c.in_ok-word.ensures.user))
-      (IsReady-read (now g w) old channel (reading_in after) c.in_ok-actor.actor c.read.new.scan (StandsOver-found args c.actor_reading.new.self.found old c.requires.ready.stands)
+      (IsReady-read (now g w) old channel (reading_in after) c.in_ok-actor.actor c.read.new.scan (StandsOver-found args c.actor_reading.new.self.found old c.requires.asked.ready.stands)
       (λ db held. c.in_ok-actor.ensures.actor db held) (λ db held. c.in_ok-word.ensures.right db (held-there g w db held) (right-there g w db held))))));
   cause = search rules;
   cells = search rules;
@@ -144,7 +144,7 @@ returns-clause-octets_read g c = λ m from asked is.
     let a : Option ℕ = g.B.Eeprom.octets_read c.args.bench.now in
     let b : Option ℕ = g.B.Eeprom.octets_read c.actor_reading.new.bench in
     let d : Option ℕ = g.B.Eeprom.octets_read c.read.new.reader.bench.now in
-    let held = IsHeld-base args old m channel c.requires.ready.stands from in
+    let held = IsHeld-base args old m channel c.requires.asked.ready.stands from in
     let at = HoldsMachine-found args c.actor_reading.new.self.found old m from.held in
     let seen = reading-card (now g w) old m c.self.inside.sessions.value c.self.inside.chains.value channel session at (ap (λ (kept : Kept). kept.sessions) (sym (view g w))) (c.self.invariant.0 ∙ sym c.self.invariant.1) (session-there g w) in
     let who = actor-at args old m channel (proved_user (session_on args.sessions channel)) from.held refl ∙ sym (c.in_ok-actor.ensures.actor db held) in

@@ -60,11 +60,11 @@ at-taken g c m at =
 
 -- nothing is written for what is no command, nor said
 unwritten : (g : _) (c : After-take g) (m : Machine) (answer : Answer) (word : StatusWord) (after : Kept) → IsAt c.args.self.now (g.B.Eeprom.chip c.args.bench.now) m
-    → answered (taken_at m (form g c)) (outcome_of (taken_at m (form g c)) (form g c)) ≡ answer → HoldsAnswer answer (said word) after (g.B.Eeprom.chip c.args.bench.now) → c.args.reply.now.body ≡ []
-    → Performs m (step m c.args.octets.now) (octets_bound m c.args.octets.now) c.args.reply.now.body (Ok word) after (g.B.Eeprom.chip c.args.bench.now) (g.B.Eeprom.chip c.args.bench.now)
+    → answered (taken_at m (form g c)) (outcome_of (taken_at m (form g c)) (form g c)) ≡ answer → HoldsAnswer answer (said word) after (g.B.Eeprom.chip c.args.bench.now) → c.without_body.new.reply.body ≡ []
+    → Performs m (step m c.args.octets.now) (octets_bound m c.args.octets.now) c.without_body.new.reply.body (Ok word) after (g.B.Eeprom.chip c.args.bench.now) (g.B.Eeprom.chip c.args.bench.now)
 unwritten g c m answer word after at is says empty =
     let chip = g.B.Eeprom.chip c.args.bench.now in
-    subst (λ (answer : Answer). Performs m answer (octets_bound m c.args.octets.now) c.args.reply.now.body (Ok word) after chip chip) (sym (steps g c m at ∙ is))
+    subst (λ (answer : Answer). Performs m answer (octets_bound m c.args.octets.now) c.without_body.new.reply.body (Ok word) after chip chip) (sym (steps g c m at ∙ is))
     (subst (λ (body : List ℕ). Performs m answer (octets_bound m c.args.octets.now) body (Ok word) after chip chip) (sym empty)
     (Performs-unwritten c.args.self.now after chip chip m answer (octets_bound m c.args.octets.now) [] (Ok word) c.requires.ready.stands at refl says))
 
@@ -79,8 +79,9 @@ ready-taken g c =
     (λ channel. parts-unseen (λ (s : machine.Session). s.reading.cursor) (λ chain next s. refl) c.self.inside.sessions.value c.self.inside.chains.value c.take.new.self channel same)
     (subst (λ (kept : Kept). IsReady kept chip) (sym c.self.view_is) c.requires.ready)
 
-pub carry_out-requires-clause-asked : goal.carry_out-requires-clause-asked
-carry_out-requires-clause-asked g c = record {
+pub carry_out-requires : goal.carry_out-requires
+carry_out-requires g c = record {
+  ready = ready-taken g (goal.at.carry_out-requires g c).After-take;
   formed = search rules;
   fits = subst (λ (limit : ℕ). FitsCard limit c.take.new.command.operation)
       (rows c.row_limit.result _ c.row_limit.ensures.most c.row_limit.ensures.limit)
@@ -89,9 +90,6 @@ carry_out-requires-clause-asked g c = record {
       (c.open_channels-channels.ensures ∙ ap (λ (kept : Kept). map (λ (s : Option Session). is_some s) kept.sessions) (sym c.self.view_is)) (rw c.deref_mut.ensures.value at c.take.ensures.chains) ((rw c.deref_mut.ensures.value at c.take.ensures.whole) c.in-Whole.is);
 }
 
-pub carry_out-requires-clause-ready : goal.carry_out-requires-clause-ready
-carry_out-requires-clause-ready g c = ready-taken g (goal.at.carry_out-requires-clause-ready g c).After-take
-
 -- Nothing is committed by what is no command.
 pub returns-in-Refused-clause-carries : goal.returns-in-Refused-clause-carries
 returns-in-Refused-clause-carries g c = record {
@@ -99,7 +97,7 @@ returns-in-Refused-clause-carries g c = record {
       let w = (goal.at.returns-in-Refused-clause-carries g c).After-take in
       let next = taken_at m (form g w) in
       unwritten g w m (answered next (Err c.in-Refused.word)) c.in-Refused.word (after_take g w) at (ap (answered next) (taken-refused next (form g w) c.in-Refused.word (sym c.in-Refused.is ∙ (rw c.deref_mut.ensures.value at c.take.ensures.taken))))
-      (record { reply = refl; held = (at-taken g w m at).held }) c.requires.empty;
+      (record { reply = refl; held = (at-taken g w m at).held }) c.without_body.ensures;
   ready = ready-taken g (goal.at.returns-in-Refused-clause-carries g c).After-take;
   cause = search rules;
   cells = search rules;
@@ -121,11 +119,11 @@ returns-in-Kept-clause-carries g c = record {
       let next = taken_at m (form g w) in
       let channel = channel_named c.args.octets.now in
       let chip = g.B.Eeprom.chip c.args.bench.now in
-      subst (λ (kept : Kept). Performs m (step m c.args.octets.now) (octets_bound m c.args.octets.now) c.args.reply.now.body (Ok done) (record kept { found = c.forget.new.self }) chip chip) (sym c.self-in-Kept.view_is)
-      (Performs-found m _ _ c.args.reply.now.body done c.drop_pending.new.self c.forget.new.self chip chip
+      subst (λ (kept : Kept). Performs m (step m c.args.octets.now) (octets_bound m c.args.octets.now) c.without_body.new.reply.body (Ok done) (record kept { found = c.forget.new.self }) chip chip) (sym c.self-in-Kept.view_is)
+      (Performs-found m _ _ c.without_body.new.reply.body done c.drop_pending.new.self c.forget.new.self chip chip
       (unwritten g w m (done_with next channel []) done c.drop_pending.new.self at
       (ap (answered next) (taken-kept next c.args.octets.now (form g w) (named-taken c.args.octets.now c.open_channels-channels.result (chain_on c.self.inside.chains.value) (min c.row_limit.result 1020)) (sym c.in-Kept.is ∙ (rw c.deref_mut.ensures.value at c.take.ensures.taken))))
-      (HoldsAnswer-done (after_take g w) c.drop_pending.new.self chip next channel [] (at-taken g w m at).held (rw (sym c.channel_named.ensures) c.drop_pending.ensures)) c.requires.empty));
+      (HoldsAnswer-done (after_take g w) c.drop_pending.new.self chip next channel [] (at-taken g w m at).held (rw (sym c.channel_named.ensures) c.drop_pending.ensures)) c.without_body.ensures));
   ready = (let chip = g.B.Eeprom.chip c.args.bench.now in
       let w = (goal.at.returns-in-Kept-clause-carries g c).After-take in
       subst (λ (kept : Kept). IsReady (record kept { found = c.forget.new.self }) chip) (sym c.self-in-Kept.view_is)

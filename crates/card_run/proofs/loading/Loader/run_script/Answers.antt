@@ -93,7 +93,7 @@ returns-clause-counted g c = λ state sits.
     let in_changed = c.in_ok-changed.ensures.ended.carried.at at_filled in_filled in
     let in_deleted = c.in_ok-deleted.ensures.ended.carried.at at_changed in_changed in
     let counted = all.refused state sits in
-    let refused : c.carry_out-3.new.self.refused ≡ refused_in state (load_script c.args.rows c.args.seed) = omega (arith, counted, c.requires.fresh) in
+    let refused : c.carry_out-3.new.self.refused ≡ refused_in state (load_script c.args.rows c.args.seed) = omega (arith, counted, c.requires.few) in
     counts-are state c.args.rows c.args.seed c.in_ok-rows.rows c.in_ok-changed.changed c.in_ok-deleted.deleted c.carry_out-3.new.self.refused (c.in_ok-rows.ensures.number at_deleted in_deleted) (c.in_ok-changed.ensures.number at_filled in_filled)
     (c.in_ok-deleted.ensures.number at_changed in_changed) refused
 

@@ -1,4 +1,4 @@
-use Rattle.std.proofs.Common.{ap, sym, ◌∙◌}
+use Rattle.std.proofs.Common.{ap, sym, ◌∙◌, rules}
 use Rattle.eeprom.specs.Recorded.{replayed}
 use Rattle.eeprom.specs.declared.recording.Event.TheVariants.{Give}
 use Rattle.eeprom.proofs.Replayed.{behind, replays-given, fits-given, tells-given}
@@ -14,9 +14,12 @@ invariant_of-self-2 c =
       fits = fits-given _ events c.push_reserved.new.self.items c.len-from.result c.len.result c.args.self.now.fits more;
     }
 
-pub returns-clause-ok : goal.returns-clause-ok
-returns-clause-ok c =
+pub returns : goal.returns
+returns c =
     let events = c.args.self.now.events.items in
     let more = behind events c.reserve.new.self.items c.push_reserved.new.self.items (Give c.len-from.result c.len.result) c.reserve.ensures.items c.push_reserved.ensures.items in
-    tells-given c.args.self.now.first.items c.args.self.now.image.items c.args.self.now.output.items c.extend_from_slice.new.self.items c.args.octets.now events c.push_reserved.new.self.items c.len-from.result c.len.result
-    c.args.self.now.replays (c.len-from.ensures ∙ c.args.self.now.output.ok.0) (c.len.ensures ∙ c.extend_from_slice.new.self.ok.0) c.in_ok-extend_from_slice.ensures.items more
+    record {
+      ok = tells-given c.args.self.now.first.items c.args.self.now.image.items c.args.self.now.output.items c.extend_from_slice.new.self.items c.args.octets.now events c.push_reserved.new.self.items c.len-from.result c.len.result
+          c.args.self.now.replays (c.len-from.ensures ∙ c.args.self.now.output.ok.0) (c.len.ensures ∙ c.extend_from_slice.new.self.ok.0) c.in_ok-extend_from_slice.ensures.items more;
+      err = search rules;
+    }

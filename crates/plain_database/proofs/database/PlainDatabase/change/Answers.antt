@@ -13,17 +13,21 @@ ends c =
     let decided = rw (c.in_ok-change.was, c.as_valid.ensures) at c.decided.ensures in
     rw (← decided-change c.args.self.now c.args.actor c.args.cursor.now c.args.operation.now (edits_for c.args.self.now c.in_ok-change.change) decided) c.make.ensures
 
-pub returns-in_err-change-clause-ends : goal.returns-in_err-change-clause-ends
-returns-in_err-change-clause-ends c =
+pub returns-in_err-change : goal.returns-in_err-change
+returns-in_err-change c =
     let p = err_from_is_err_and c.from_residual.result c.from_residual.ensures.1 in
     let refused = decided-refusal c.args.self.now c.args.actor c.args.cursor.now c.args.operation.now c.in_err-change.field-0.0 (rw (c.in_err-change.was, c.as_valid.ensures) at c.decided.ensures) in
-    rw (p.1, p.2) (record { ended = refused; same = refl })
+    record {
+      ends = rw (p.1, p.2) (record { ended = refused; same = refl });
+      cells = refl;
+      valid = λ _ _ _. c.requires.valid;
+    }
 
-pub returns-clause-ends : goal.returns-clause-ends
-returns-clause-ends c = ends (goal.at.returns-clause-ends c).After-make
-
-pub returns-clause-cells : goal.returns-clause-cells
-returns-clause-cells c = same-cells c.args.self.now c.make.new.self c.args.actor c.args.cursor.now c.args.operation.now c.make.result (ends (goal.at.returns-clause-cells c).After-make)
-
-pub returns-clause-valid : goal.returns-clause-valid
-returns-clause-valid c = stays-valid c.args.self.now c.make.new.self c.args.actor c.args.cursor.now c.args.operation.now c.make.result (ends (goal.at.returns-clause-valid c).After-make) c.requires.valid
+pub returns : goal.returns
+returns c =
+    let ended = ends (goal.at.returns c).After-make in
+    record {
+      ends = ended;
+      cells = same-cells c.args.self.now c.make.new.self c.args.actor c.args.cursor.now c.args.operation.now c.make.result ended;
+      valid = stays-valid c.args.self.now c.make.new.self c.args.actor c.args.cursor.now c.args.operation.now c.make.result ended c.requires.valid;
+    }

@@ -12,22 +12,22 @@ all-pass [] = refl
 all-pass (x ∷ xs) = ap (λ rest. x ∷ rest) (all-pass xs)
 
 pub returns-in-First : goal.returns-in-First
-returns-in-First g c = rw c.in-First.is (all-pass c.args.records.now)
+returns-in-First g c = rw c.in-First.is (all-pass c.args.rising.now.records.now)
 
 pub returns-in-Behind : goal.returns-in-Behind
 returns-in-Behind g c =
     let key = g.R.Stamped.stamp_of in
-    let parted = IsPartitionedBy-leb key _ c.in-Behind.stamp (keys-rise key c.args.records.now c.requires.rises) in
+    let parted = IsPartitionedBy-leb key _ c.in-Behind.stamp (keys-rise key c.args.rising.now.records.now c.args.rising.now.rises) in
     let point = IsPartitionPoint-from_clause (λ y. leb (key y) c.in-Behind.stamp) _ _ c.partition_point-from.ensures.partitioned parted (λ a r q k. search rules) in
     rw c.in-Behind.is
-    (take_rest c.args.records.now c.partition_point-from.result ∙ drop-behind key c.in-Behind.stamp c.args.records.now c.partition_point-from.result c.partition_point-from.ensures.bound point)
+    (take_rest c.args.rising.now.records.now c.partition_point-from.result ∙ drop-behind key c.in-Behind.stamp c.args.rising.now.records.now c.partition_point-from.result c.partition_point-from.ensures.bound point)
 
 pub returns-in-Some : goal.returns-in-Some
 returns-in-Some g c =
     let one : c.in-Some.place + 1 - c.in-Some.place ≡ 1 = omega arith in
-    rw (c.in-At.is, one) (has-there g.R.Stamped.stamp_of c.in-At.stamp c.args.records.now c.in-Some.place c.requires.rises c.in-Some.ensures.place c.in-Some.ensures.within)
+    rw (c.in-At.is, one) (has-there g.R.Stamped.stamp_of c.in-At.stamp c.args.rising.now.records.now c.in-Some.place c.args.rising.now.rises c.in-Some.ensures.place c.in-Some.ensures.within)
 
 pub returns-in-None : goal.returns-in-None
 returns-in-None g c =
     let key = g.R.Stamped.stamp_of in
-    rw c.in-At.is (sym (filter-has key c.in-At.stamp c.args.records.now c.requires.rises ∙ ap option_to_list (find-no_place (has key c.in-At.stamp) c.args.records.now c.in-None.ensures.place)))
+    rw c.in-At.is (sym (filter-has key c.in-At.stamp c.args.rising.now.records.now c.args.rising.now.rises ∙ ap option_to_list (find-no_place (has key c.in-At.stamp) c.args.rising.now.records.now c.in-None.ensures.place)))

@@ -19,7 +19,7 @@ use Rattle.plain_database.proofs.valid.ValidDatabase.find_record.Goals as goal
 is-sought : (c : After-find_among) → option_copied c.find_among.result ≡ find (is_sought c.args.resolved.now c.args.cursor.now.conditions c.args.sought) c.args.self.now.rows
 is-sought c =
     c.find_among.ensures
-    ∙ (rw (c.admitted-rows.ensures, c.rows.ensures, c.database.ensures.same, c.as_slice.ensures.conditions) (find-admitted c.args.resolved.now c.args.cursor.now.conditions c.args.sought c.args.self.now.rows))
+    ∙ (rw (c.admitted.ensures, c.rows.ensures, c.database.ensures.same, c.as_slice.ensures.conditions) (find-admitted c.args.resolved.now c.args.cursor.now.conditions c.args.sought c.args.self.now.rows))
 
 pub returns-clause-shown : goal.returns-clause-shown
 returns-clause-shown c =

@@ -1,5 +1,5 @@
 -- Octets are taken by the sessions, and then they are a refusal, a part that is kept, or a command.
-use Rattle.std.proofs.Common.{ap, sym, ◌∙◌}
+use Rattle.std.proofs.Common.{rules, ap, sym, ◌∙◌}
 use Rattle.scql_model.specs.Machine.{Machine}
 use Rattle.plain_machine.proofs.TakenMachines.{Taking, done-whole, kept-step, limit-most, open-whole, refused-step, refused-whole, valid-next}
 use Rattle.plain_machine.proofs.engine.Engine.step.Goals.{After-take}
@@ -20,12 +20,15 @@ taking c = record {
   takes = c.take.ensures.sessions;
 }
 
-pub carry_out-requires-clause-served : goal.carry_out-requires-clause-served
-carry_out-requires-clause-served c =
-    let taken = taking (goal.at.carry_out-requires-clause-served c).After-take in
+pub carry_out-requires : goal.carry_out-requires
+carry_out-requires c =
+    let taken = taking (goal.at.carry_out-requires c).After-take in
     record {
-      is_open = open-whole c.args.self.now c.args.octets.now taken c.take.new.command (c.take.ensures.whole c.in-Whole.is);
-      valid = valid-next c.args.self.now c.args.octets.now taken c.requires;
+      formed = search rules;
+      served = record {
+        is_open = open-whole c.args.self.now c.args.octets.now taken c.take.new.command (c.take.ensures.whole c.in-Whole.is);
+        valid = valid-next c.args.self.now c.args.octets.now taken c.requires;
+      };
     }
 
 pub returns-in-Refused : goal.returns-in-Refused

@@ -18,8 +18,11 @@ cursors c =
     (found-reading c.self.inside.channels c.self.inside.chains c.args.self.now c.place-place.result c.index-self-place.result c.self.invariant c.place-place.ensures.few c.self.view_is c.index-self-place.is c.in-Some.session c.in-Some.is) in
     ap (λ (reading : machine.Reading). reading.cursor) reads ∙ ap (λ (s : Session). s.reading.cursor) (sym c.session.view_is)
 
-pub change-requires-clause-cursor : goal.change-requires-clause-cursor
-change-requires-clause-cursor c = subst (λ (cursor : Option Cursor). IfSome cursor (IsCursorOf c.args.database.now)) (cursors c) c.requires.reads.cursor
+pub change-requires : goal.change-requires
+change-requires c = record {
+  valid = c.requires.valid;
+  cursor = subst (λ (cursor : Option Cursor). IfSome cursor (IsCursorOf c.args.database.now)) (cursors c) c.requires.reads.cursor;
+}
 
 pub returns-clause-ends : goal.returns-clause-ends
 returns-clause-ends c = record {

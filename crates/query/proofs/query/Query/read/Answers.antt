@@ -11,22 +11,22 @@ part : (line : List ℕ) (r : Result Asked ScriptFault) (P : Asked → Type 0) �
 part line r P is of = rw is (IfOk-weaker (query_of line) (IsRead line) P of (query_of-read line))
 
 pub returns-clause-objects : goal.returns-clause-objects
-returns-clause-objects c = part c.args.line.now _ _ c.read_query.ensures (λ q is. is.sound.objects)
+returns-clause-objects c = part c.args.line.octets.now _ _ c.read_query.ensures (λ q is. is.sound.objects)
 
 pub returns-clause-different : goal.returns-clause-different
-returns-clause-different c = part c.args.line.now _ _ c.read_query.ensures (λ q is. is.sound.different)
+returns-clause-different c = part c.args.line.octets.now _ _ c.read_query.ensures (λ q is. is.sound.different)
 
 pub returns-clause-sendable : goal.returns-clause-sendable
-returns-clause-sendable c = part c.args.line.now _ _ c.read_query.ensures (λ q is. is.sound.sendable)
+returns-clause-sendable c = part c.args.line.octets.now _ _ c.read_query.ensures (λ q is. is.sound.sendable)
 
 pub returns-clause-selected : goal.returns-clause-selected
-returns-clause-selected c = part c.args.line.now _ _ c.read_query.ensures (λ q is. is.sound.selected)
+returns-clause-selected c = part c.args.line.octets.now _ _ c.read_query.ensures (λ q is. is.sound.selected)
 
 pub returns-clause-equalities : goal.returns-clause-equalities
-returns-clause-equalities c = part c.args.line.now _ _ c.read_query.ensures (λ q is. is.sound.equalities)
+returns-clause-equalities c = part c.args.line.octets.now _ _ c.read_query.ensures (λ q is. is.sound.equalities)
 
 pub returns-clause-order : goal.returns-clause-order
-returns-clause-order c = part c.args.line.now _ _ c.read_query.ensures (λ q is. is.sound.order)
+returns-clause-order c = part c.args.line.octets.now _ _ c.read_query.ensures (λ q is. is.sound.order)
 
 pub returns-clause-names : goal.returns-clause-names
-returns-clause-names c = part c.args.line.now _ _ c.read_query.ensures (λ q is. is.names)
+returns-clause-names c = part c.args.line.octets.now _ _ c.read_query.ensures (λ q is. is.names)

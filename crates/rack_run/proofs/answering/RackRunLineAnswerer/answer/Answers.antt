@@ -1,5 +1,6 @@
-use Rattle.std.proofs.Common.{Bor, List, ℕ, refl, ◌∙◌}
+use Rattle.std.proofs.Common.{refl, ◌∙◌}
 use Rattle.std.specs.Prelude.{option_map}
+use Rattle.taken_line.specs.declared.TakenLine.{TakenLine}
 use Rattle.guide.proofs.Told.{told-then}
 use Rattle.rack_run.proofs.Lines.{if-err, is-err, line-carried, line-stopped, not-err, prompt-shown}
 use Rattle.rack_run.proofs.answering.RackRunLineAnswerer.answer.Goals as goal
@@ -11,7 +12,7 @@ returns-in_err-add-clause-stopped g c = if-err c.from_residual.result _ (
     refl,
     refl,
   ),
-  (c.before-2.ensures, refl),
+  (c.tell.ensures, refl),
 )
 
 pub returns-clause-answered : goal.returns-clause-answered
@@ -19,10 +20,10 @@ returns-clause-answered g c = (
   (
     line-carried g.R.LineRack.is_at g.R.LineRack.is_live g.R.LineRack.faults _ c.carry_out-end.result _ _ (g.met.R.LineRack.is_reader c.args.self.now.rack.now)
         (λ same. not-err c.add.result _ c.in_ok-add.was (c.add.ensures.stops.1 same)) c.carry_out-end.ensures.ends c.carry_out-end.ensures.does c.add.ensures.added,
-    prompt-shown g.P.Person.lost g.P.Person.shown (option_map (λ (octets : Bor (List ℕ)). octets.now) c.args.line) (g.R.LineRack.current c.args.self.now.rack.now) c.current_reader.result _ _
+    prompt-shown g.P.Person.lost g.P.Person.shown (option_map (λ (line : TakenLine). line.octets.now) c.args.line) (g.R.LineRack.current c.args.self.now.rack.now) c.current_reader.result _ _
         (c.current_reader.ensures.current ∙ c.carry_out-end.ensures.does.selects) c.show_prompt.ensures,
     refl,
     refl,
   ),
-  (told-then g.N.Person.lost g.N.Person.shown _ _ _ c.before-2.ensures c.behind.ensures, refl),
+  (told-then g.N.Person.lost g.N.Person.shown _ _ _ c.tell.ensures c.tell-2.ensures, refl),
 )

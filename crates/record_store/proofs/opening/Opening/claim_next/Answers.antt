@@ -28,19 +28,6 @@ takes-first : (g : _) (at : After-claim_slot g) (new : Cells) (octets : List ℕ
     → TakesSlot (g.B.Eeprom.chip at.args.bench.now).image (mine g at).chains new (get_or (mine g at).firsts (mine g at).claimed 0) octets count
 takes-first g at new octets count takes = subst (λ (first : ℕ). TakesSlot (g.B.Eeprom.chip at.args.bench.now).image (mine g at).chains new first octets count) (first g at) takes
 
-pub returns-in_err-count-clause-not_a_card : goal.returns-in_err-count-clause-not_a_card
-returns-in_err-count-clause-not_a_card g c = λ refused.
-    let at = (goal.at.returns-in_err-count-clause-not_a_card g c).After-claim_slot in
-    store-refused (mine g at) (g.B.Eeprom.chip c.args.bench.now).image c.self.invariant.3 (left g at)
-    (rw (first g at) at (c.in_err-count.ensures.bad_chain (search rules)).0) (rw (first g at) at (c.in_err-count.ensures.bad_chain (search rules)).1) (stands g at)
-
-pub returns-then-weight-cells-clause-not_a_card : goal.returns-then-weight-cells-clause-not_a_card
-returns-then-weight-cells-clause-not_a_card g c = λ _.
-    let at = (goal.at.returns-then-weight-cells-clause-not_a_card g c).After-claim_slot in
-    let takes = takes-first g at c.claim_slot.new.chains c.claim_slot.new.out.items c.in_ok-count.count c.in_ok-count.ensures.takes in
-    store-over (mine g at) c.claim_slot.new.chains c.in_ok-count.count c.claim_slot.new.out.items (g.B.Eeprom.chip c.args.bench.now).image c.self.invariant.3 (left g at) takes
-    (omega (arith, c.if-weight-cells.true, c.cells.ensures.number, takes.chain.cells)) (stands g at)
-
 -- the octet is kept for a cell
 pub keep_octet-requires : goal.keep_octet-requires
 keep_octet-requires g c = record {
@@ -62,24 +49,73 @@ invariant_of-result g c =
     let kept = kept-now g (goal.at.invariant_of-result g c).After-keep_octet in
     (c.self.invariant.0, c.found.ensures.working ∙ (ap (λ (tags : SideTags). with_tags tags c.self.inside.claimed c.as_slice-2.result.now) c.self.invariant.1 ∙ sym c.found.ensures.committed), subst (λ (cells : ℕ). HasMemory cells c.self.inside.touched (vec_capacity c.self.inside.entries) c.self.inside.common_runs) (sym takes.chain.cells) c.self.invariant.2, held-same IsSoundSoFar c.claim_slot.new.chains c.self.inside.row_limit c.self.inside.committed.items (c.self.inside.claimed + 1) (c.self.inside.weight + c.in_ok-count.count) _ _ _ _ kept (tags-now g (goal.at.invariant_of-result g c).After-found) (sound-next (mine g at) c.claim_slot.new.chains c.in_ok-count.count c.claim_slot.new.out.items c.self.invariant.3 (left g at) takes.chain (omega (arith, c.if-weight-cells.false, c.cells.ensures.number, takes.chain.cells))))
 
-pub returns-clause-slots : goal.returns-clause-slots
-returns-clause-slots g c =
-    let at = (goal.at.returns-clause-slots g c).After-claim_slot in
-    let takes = takes-first g at c.claim_slot.new.chains c.claim_slot.new.out.items c.in_ok-count.count c.in_ok-count.ensures.takes in
-    let image = (g.B.Eeprom.chip c.args.bench.now).image in
-    let octets = c.claim_slot.new.out.items in
-    subst (λ (held : HeldSoFar). IfSome image (λ image. slots_so_far (with_slot (mine g at) c.claim_slot.new.chains c.in_ok-count.count octets) image ≡ option_map (λ slots. slots ++ slot_with octets ∷ []) (slots_so_far held image))) c.self.view_is
-    (slots-next (mine g at) c.claim_slot.new.chains c.in_ok-count.count octets image c.self.invariant.3 (left g at) takes
-    (omega (arith, c.if-weight-cells.false, c.cells.ensures.number, takes.chain.cells)) (stands g at))
+pub returns-in_err-count : goal.returns-in_err-count
+returns-in_err-count g c = record {
+  slots = search rules;
+  over = search rules;
+  claimed = search rules;
+  weight = search rules;
+  few = search rules;
+  cells = search rules;
+  rows = search rules;
+  octets_read = search rules;
+  most_read = search rules;
+  no_memory_taken = search rules;
+  not_a_card = λ refused.
+      let at = (goal.at.returns-in_err-count g c).After-claim_slot in
+      store-refused (mine g at) (g.B.Eeprom.chip c.args.bench.now).image c.self.invariant.3 (left g at)
+      (rw (first g at) at (c.in_err-count.ensures.bad_chain (search rules)).0) (rw (first g at) at (c.in_err-count.ensures.bad_chain (search rules)).1) (stands g at);
+  frame = search rules;
+}
 
-pub returns-clause-over : goal.returns-clause-over
-returns-clause-over g c =
-    let at = (goal.at.returns-clause-over g c).After-claim_slot in
-    let takes = takes-first g at c.claim_slot.new.chains c.claim_slot.new.out.items c.in_ok-count.count c.in_ok-count.ensures.takes in
-    let kept = kept-now g (goal.at.returns-clause-over g c).After-keep_octet in
-    let cells : (mine g at).chains.cells ≡ c.args.self.chains.cells = ap (λ (held : HeldSoFar). held.chains.cells) c.self.view_is in
-    record {
-      room = omega (arith, takes.chain.cells, cells, c.requires.over.room);
-      stands = held-same (λ (held : HeldSoFar). IfSome (g.B.Eeprom.chip c.args.bench.now).image (StandsSoFar held)) c.claim_slot.new.chains c.self.inside.row_limit c.self.inside.committed.items (c.self.inside.claimed + 1) (c.self.inside.weight + c.in_ok-count.count) _ _ _ _ kept (tags-now g (goal.at.returns-clause-over g c).After-found) (stands-next (mine g at) c.claim_slot.new.chains c.in_ok-count.count c.claim_slot.new.out.items (g.B.Eeprom.chip c.args.bench.now).image c.self.invariant.3 (left g at) takes
-          c.in_ok-count.ensures.linked (omega (arith, c.if-weight-cells.false, c.cells.ensures.number, takes.chain.cells)) (stands g at));
-    }
+pub returns-then-weight-cells : goal.returns-then-weight-cells
+returns-then-weight-cells g c = record {
+  slots = search rules;
+  over = search rules;
+  claimed = search rules;
+  weight = search rules;
+  few = search rules;
+  cells = search rules;
+  rows = search rules;
+  octets_read = search rules;
+  most_read = search rules;
+  no_memory_taken = search rules;
+  not_a_card = λ _.
+      let at = (goal.at.returns-then-weight-cells g c).After-claim_slot in
+      let takes = takes-first g at c.claim_slot.new.chains c.claim_slot.new.out.items c.in_ok-count.count c.in_ok-count.ensures.takes in
+      store-over (mine g at) c.claim_slot.new.chains c.in_ok-count.count c.claim_slot.new.out.items (g.B.Eeprom.chip c.args.bench.now).image c.self.invariant.3 (left g at) takes
+      (omega (arith, c.if-weight-cells.true, c.cells.ensures.number, takes.chain.cells)) (stands g at);
+  frame = search rules;
+}
+
+pub returns : goal.returns
+returns g c = record {
+  slots =
+      let at = (goal.at.returns g c).After-claim_slot in
+      let takes = takes-first g at c.claim_slot.new.chains c.claim_slot.new.out.items c.in_ok-count.count c.in_ok-count.ensures.takes in
+      let image = (g.B.Eeprom.chip c.args.bench.now).image in
+      let octets = c.claim_slot.new.out.items in
+      subst (λ (held : HeldSoFar). IfSome image (λ image. slots_so_far (with_slot (mine g at) c.claim_slot.new.chains c.in_ok-count.count octets) image ≡ option_map (λ slots. slots ++ slot_with octets ∷ []) (slots_so_far held image))) c.self.view_is
+      (slots-next (mine g at) c.claim_slot.new.chains c.in_ok-count.count octets image c.self.invariant.3 (left g at) takes
+      (omega (arith, c.if-weight-cells.false, c.cells.ensures.number, takes.chain.cells)) (stands g at));
+  over =
+      let at = (goal.at.returns g c).After-claim_slot in
+      let takes = takes-first g at c.claim_slot.new.chains c.claim_slot.new.out.items c.in_ok-count.count c.in_ok-count.ensures.takes in
+      let kept = kept-now g (goal.at.returns g c).After-keep_octet in
+      let cells : (mine g at).chains.cells ≡ c.args.self.chains.cells = ap (λ (held : HeldSoFar). held.chains.cells) c.self.view_is in
+      record {
+        room = omega (arith, takes.chain.cells, cells, c.requires.over.room);
+        stands = held-same (λ (held : HeldSoFar). IfSome (g.B.Eeprom.chip c.args.bench.now).image (StandsSoFar held)) c.claim_slot.new.chains c.self.inside.row_limit c.self.inside.committed.items (c.self.inside.claimed + 1) (c.self.inside.weight + c.in_ok-count.count) _ _ _ _ kept (tags-now g (goal.at.returns g c).After-found) (stands-next (mine g at) c.claim_slot.new.chains c.in_ok-count.count c.claim_slot.new.out.items (g.B.Eeprom.chip c.args.bench.now).image c.self.invariant.3 (left g at) takes
+            c.in_ok-count.ensures.linked (omega (arith, c.if-weight-cells.false, c.cells.ensures.number, takes.chain.cells)) (stands g at));
+      };
+  claimed = search rules;
+  weight = search rules;
+  few = search rules;
+  cells = search rules;
+  rows = search rules;
+  octets_read = search rules;
+  most_read = search rules;
+  no_memory_taken = search rules;
+  not_a_card = search rules;
+  frame = search rules;
+}

@@ -28,59 +28,163 @@ invariant_of-result g c =
 cells : (g : _) (c : In_ok-chains g) → c.in_ok-chains.chains.cells ≡ c.in_ok-header.header.cells
 cells g c = ap (λ (store : Cells). store.cells) c.in_ok-chains.ensures
 
-pub returns-clause-over : goal.returns-clause-over
-returns-clause-over g c =
-    let size : (g.B.Eeprom.chip c.read_directory.new.bench).still.size ≡ (g.B.Eeprom.chip c.args.bench.now).still.size =
-    ap (λ chip. chip.still.size) c.read_directory.ensures.reads.frame.same ∙ (ap (λ still. still.size) c.close_gate.ensures.frame.store.keeps.still ∙ ap (λ chip. chip.still.size) c.read_header.ensures.reads.frame.same) in record {
-      room = omega (arith, cells g c, c.in_ok-header.ensures.range.room, size);
-      stands = rw (c.read_directory.ensures.reads.frame.same) (stands-begun c.in_ok-header.header c.in_ok-committed.committed.items _ _ c.in_ok-chains.chains (g.B.Eeprom.chip c.close_gate.new.bench).image c.in_ok-chains.ensures
-          c.in_ok-close_gate.ensures.header c.in_ok-committed.ensures.directory);
-    }
-
-pub returns-clause-octets_read : goal.returns-clause-octets_read
-returns-clause-octets_read g c =
-    front-read c.in_ok-header.header c.in_ok-chains.chains.cells (g.B.Eeprom.chip c.args.bench.now).image (g.B.Eeprom.octets_read c.args.bench.now) (g.B.Eeprom.octets_read c.read_header.new.bench)
-    (g.B.Eeprom.octets_read c.close_gate.new.bench) (g.B.Eeprom.octets_read c.read_directory.new.bench) (cells g c) c.in_ok-header.ensures.header c.in_ok-header.ensures.octets_read c.in_ok-close_gate.ensures.octets_read
-    c.in_ok-committed.ensures.octets_read
-
 -- by then no record was read
 front : (g : _) (c : After-read_directory g) → ReadsFront c.in_ok-header.header.cells (g.B.Eeprom.chip c.args.bench.now).image (g.B.Eeprom.octets_read c.args.bench.now) (g.B.Eeprom.octets_read c.read_directory.new.bench)
 front g c =
     reads-front c.in_ok-header.header _ (g.B.Eeprom.chip c.args.bench.now).image (g.B.Eeprom.octets_read c.args.bench.now) (g.B.Eeprom.octets_read c.read_header.new.bench) (g.B.Eeprom.octets_read c.close_gate.new.bench)
     (g.B.Eeprom.octets_read c.read_directory.new.bench) c.in_ok-header.ensures.range c.in_ok-header.ensures.header c.read_header.ensures.reads.octets_read c.close_gate.ensures.most_read c.close_gate.ensures.octets_read c.read_directory.ensures.reads.octets_read
 
-pub returns-in_err-close_gate-clause-no_memory : goal.returns-in_err-close_gate-clause-no_memory
-returns-in_err-close_gate-clause-no_memory g c = λ _. (
-  c.in_ok-header.header.cells,
-  reads-front c.in_ok-header.header _ (g.B.Eeprom.chip c.args.bench.now).image (g.B.Eeprom.octets_read c.args.bench.now) (g.B.Eeprom.octets_read c.read_header.new.bench) (g.B.Eeprom.octets_read c.close_gate.new.bench)
-      (g.B.Eeprom.octets_read c.close_gate.new.bench) c.in_ok-header.ensures.range c.in_ok-header.ensures.header c.read_header.ensures.reads.octets_read c.close_gate.ensures.most_read c.close_gate.ensures.octets_read (reads-nothing _ _),
-)
+pub returns : goal.returns
+returns g c = record {
+  begins = search rules;
+  weight = search rules;
+  over =
+      let size : (g.B.Eeprom.chip c.read_directory.new.bench).still.size ≡ (g.B.Eeprom.chip c.args.bench.now).still.size =
+      ap (λ chip. chip.still.size) c.read_directory.ensures.reads.frame.same ∙ (ap (λ still. still.size) c.close_gate.ensures.frame.store.keeps.still ∙ ap (λ chip. chip.still.size) c.read_header.ensures.reads.frame.same) in record {
+        room = omega (arith, cells g c, c.in_ok-header.ensures.range.room, size);
+        stands = rw (c.read_directory.ensures.reads.frame.same) (stands-begun c.in_ok-header.header c.in_ok-committed.committed.items _ _ c.in_ok-chains.chains (g.B.Eeprom.chip c.close_gate.new.bench).image c.in_ok-chains.ensures
+            c.in_ok-close_gate.ensures.header c.in_ok-committed.ensures.directory);
+      };
+  told = search rules;
+  octets_read =
+      front-read c.in_ok-header.header c.in_ok-chains.chains.cells (g.B.Eeprom.chip c.args.bench.now).image (g.B.Eeprom.octets_read c.args.bench.now) (g.B.Eeprom.octets_read c.read_header.new.bench)
+      (g.B.Eeprom.octets_read c.close_gate.new.bench) (g.B.Eeprom.octets_read c.read_directory.new.bench) (cells g c) c.in_ok-header.ensures.header c.in_ok-header.ensures.octets_read c.in_ok-close_gate.ensures.octets_read
+      c.in_ok-committed.ensures.octets_read;
+  reads_front =
+      subst (λ (n : ℕ). ReadsFront n (g.B.Eeprom.chip c.args.bench.now).image (g.B.Eeprom.octets_read c.args.bench.now) (g.B.Eeprom.octets_read c.read_directory.new.bench)) (sym (cells g (goal.at.returns g c).In_ok-chains))
+      (front g (goal.at.returns g c).After-read_directory);
+  most_read = search rules;
+  no_memory = search rules;
+  not_a_card = search rules;
+  frame = search rules;
+}
 
-pub returns-clause-reads_front : goal.returns-clause-reads_front
-returns-clause-reads_front g c =
-    subst (λ (n : ℕ). ReadsFront n (g.B.Eeprom.chip c.args.bench.now).image (g.B.Eeprom.octets_read c.args.bench.now) (g.B.Eeprom.octets_read c.read_directory.new.bench)) (sym (cells g (goal.at.returns-clause-reads_front g c).In_ok-chains))
-    (front g (goal.at.returns-clause-reads_front g c).After-read_directory)
+pub returns-in_err-close_gate : goal.returns-in_err-close_gate
+returns-in_err-close_gate g c = record {
+  begins = search rules;
+  weight = search rules;
+  over = search rules;
+  told = search rules;
+  octets_read = search rules;
+  reads_front = search rules;
+  most_read = search rules;
+  no_memory = λ _. (
+    c.in_ok-header.header.cells,
+    reads-front c.in_ok-header.header _ (g.B.Eeprom.chip c.args.bench.now).image (g.B.Eeprom.octets_read c.args.bench.now) (g.B.Eeprom.octets_read c.read_header.new.bench) (g.B.Eeprom.octets_read c.close_gate.new.bench)
+        (g.B.Eeprom.octets_read c.close_gate.new.bench) c.in_ok-header.ensures.range c.in_ok-header.ensures.header c.read_header.ensures.reads.octets_read c.close_gate.ensures.most_read c.close_gate.ensures.octets_read (reads-nothing _ _),
+  );
+  not_a_card = search rules;
+  frame = search rules;
+}
 
-pub returns-in_err-committed-clause-no_memory : goal.returns-in_err-committed-clause-no_memory
-returns-in_err-committed-clause-no_memory g c = λ _. (c.in_ok-header.header.cells, front g (goal.at.returns-in_err-committed-clause-no_memory g c).After-read_directory)
+pub returns-in_err-committed : goal.returns-in_err-committed
+returns-in_err-committed g c = record {
+  begins = search rules;
+  weight = search rules;
+  over = search rules;
+  told = search rules;
+  octets_read = search rules;
+  reads_front = search rules;
+  most_read = search rules;
+  no_memory = λ _. (c.in_ok-header.header.cells, front g (goal.at.returns-in_err-committed g c).After-read_directory);
+  not_a_card = search rules;
+  frame = search rules;
+}
 
-pub returns-in_err-working-clause-no_memory : goal.returns-in_err-working-clause-no_memory
-returns-in_err-working-clause-no_memory g c = λ _. (c.in_ok-header.header.cells, front g (goal.at.returns-in_err-working-clause-no_memory g c).After-read_directory)
+pub returns-in_err-working : goal.returns-in_err-working
+returns-in_err-working g c = record {
+  begins = search rules;
+  weight = search rules;
+  over = search rules;
+  told = search rules;
+  octets_read = search rules;
+  reads_front = search rules;
+  most_read = search rules;
+  no_memory = λ _. (c.in_ok-header.header.cells, front g (goal.at.returns-in_err-working g c).After-read_directory);
+  not_a_card = search rules;
+  frame = search rules;
+}
 
-pub returns-in_err-first_octets-clause-no_memory : goal.returns-in_err-first_octets-clause-no_memory
-returns-in_err-first_octets-clause-no_memory g c = λ _. (c.in_ok-header.header.cells, front g (goal.at.returns-in_err-first_octets-clause-no_memory g c).After-read_directory)
+pub returns-in_err-first_octets : goal.returns-in_err-first_octets
+returns-in_err-first_octets g c = record {
+  begins = search rules;
+  weight = search rules;
+  over = search rules;
+  told = search rules;
+  octets_read = search rules;
+  reads_front = search rules;
+  most_read = search rules;
+  no_memory = λ _. (c.in_ok-header.header.cells, front g (goal.at.returns-in_err-first_octets g c).After-read_directory);
+  not_a_card = search rules;
+  frame = search rules;
+}
 
-pub returns-in_err-tags-clause-no_memory : goal.returns-in_err-tags-clause-no_memory
-returns-in_err-tags-clause-no_memory g c = λ _. (c.in_ok-header.header.cells, front g (goal.at.returns-in_err-tags-clause-no_memory g c).After-read_directory)
+pub returns-in_err-tags : goal.returns-in_err-tags
+returns-in_err-tags g c = record {
+  begins = search rules;
+  weight = search rules;
+  over = search rules;
+  told = search rules;
+  octets_read = search rules;
+  reads_front = search rules;
+  most_read = search rules;
+  no_memory = λ _. (c.in_ok-header.header.cells, front g (goal.at.returns-in_err-tags g c).After-read_directory);
+  not_a_card = search rules;
+  frame = search rules;
+}
 
-pub returns-in_err-touched-clause-no_memory : goal.returns-in_err-touched-clause-no_memory
-returns-in_err-touched-clause-no_memory g c = λ _. (c.in_ok-header.header.cells, front g (goal.at.returns-in_err-touched-clause-no_memory g c).After-read_directory)
+pub returns-in_err-touched : goal.returns-in_err-touched
+returns-in_err-touched g c = record {
+  begins = search rules;
+  weight = search rules;
+  over = search rules;
+  told = search rules;
+  octets_read = search rules;
+  reads_front = search rules;
+  most_read = search rules;
+  no_memory = λ _. (c.in_ok-header.header.cells, front g (goal.at.returns-in_err-touched g c).After-read_directory);
+  not_a_card = search rules;
+  frame = search rules;
+}
 
-pub returns-in_err-entries-clause-no_memory : goal.returns-in_err-entries-clause-no_memory
-returns-in_err-entries-clause-no_memory g c = λ _. (c.in_ok-header.header.cells, front g (goal.at.returns-in_err-entries-clause-no_memory g c).After-read_directory)
+pub returns-in_err-entries : goal.returns-in_err-entries
+returns-in_err-entries g c = record {
+  begins = search rules;
+  weight = search rules;
+  over = search rules;
+  told = search rules;
+  octets_read = search rules;
+  reads_front = search rules;
+  most_read = search rules;
+  no_memory = λ _. (c.in_ok-header.header.cells, front g (goal.at.returns-in_err-entries g c).After-read_directory);
+  not_a_card = search rules;
+  frame = search rules;
+}
 
-pub returns-in_err-common_runs-clause-no_memory : goal.returns-in_err-common_runs-clause-no_memory
-returns-in_err-common_runs-clause-no_memory g c = λ _. (c.in_ok-header.header.cells, front g (goal.at.returns-in_err-common_runs-clause-no_memory g c).After-read_directory)
+pub returns-in_err-common_runs : goal.returns-in_err-common_runs
+returns-in_err-common_runs g c = record {
+  begins = search rules;
+  weight = search rules;
+  over = search rules;
+  told = search rules;
+  octets_read = search rules;
+  reads_front = search rules;
+  most_read = search rules;
+  no_memory = λ _. (c.in_ok-header.header.cells, front g (goal.at.returns-in_err-common_runs g c).After-read_directory);
+  not_a_card = search rules;
+  frame = search rules;
+}
 
-pub returns-in_err-chains-clause-no_memory : goal.returns-in_err-chains-clause-no_memory
-returns-in_err-chains-clause-no_memory g c = λ _. (c.in_ok-header.header.cells, front g (goal.at.returns-in_err-chains-clause-no_memory g c).After-read_directory)
+pub returns-in_err-chains : goal.returns-in_err-chains
+returns-in_err-chains g c = record {
+  begins = search rules;
+  weight = search rules;
+  over = search rules;
+  told = search rules;
+  octets_read = search rules;
+  reads_front = search rules;
+  most_read = search rules;
+  no_memory = λ _. (c.in_ok-header.header.cells, front g (goal.at.returns-in_err-chains g c).After-read_directory);
+  not_a_card = search rules;
+  frame = search rules;
+}

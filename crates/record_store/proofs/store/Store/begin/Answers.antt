@@ -10,17 +10,13 @@ use Rattle.record_store.proofs.store.Store.begin.Goals as goal
 pub invariant_of-self : goal.invariant_of-self
 invariant_of-self c = begun-kept _ _ _ _ _ _ _ c.self.invariant (ap (λ (held : Held). held.begun) c.self.view_is ∙ c.requires.idle)
 
-pub returns-clause-begun : goal.returns-clause-begun
-returns-clause-begun c = begun-view _ c.args.self.now _ _ c.self.view_is c.self.invariant.weighed.sound c.self.invariant.transaction c.requires.idle
-
-pub returns-clause-stands : goal.returns-clause-stands
-returns-clause-stands c = λ image stands. subst (λ (held : Held). StandsFor held image) (sym (returns-clause-begun c)) (begun-stands c.args.self.now image stands)
-
-pub returns-clause-starts : goal.returns-clause-starts
-returns-clause-starts c = λ image. ap (λ (held : Held). contents held Working image) (returns-clause-begun c)
-
-pub returns-clause-committed : goal.returns-clause-committed
-returns-clause-committed c = λ image. ap (λ (held : Held). contents held Committed image) (returns-clause-begun c)
-
-pub returns-clause-no_entries : goal.returns-clause-no_entries
-returns-clause-no_entries c = ap entries (returns-clause-begun c) ∙ entries-begun c.args.self.now
+pub returns : goal.returns
+returns c =
+    let begun = begun-view _ c.args.self.now _ _ c.self.view_is c.self.invariant.weighed.sound c.self.invariant.transaction c.requires.idle in
+    record {
+      begun = begun;
+      stands = λ image stands. subst (λ (held : Held). StandsFor held image) (sym begun) (begun-stands c.args.self.now image stands);
+      starts = λ image. ap (λ (held : Held). contents held Working image) begun;
+      committed = λ image. ap (λ (held : Held). contents held Committed image) begun;
+      no_entries = ap entries begun ∙ entries-begun c.args.self.now;
+    }

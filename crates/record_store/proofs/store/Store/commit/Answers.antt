@@ -22,13 +22,16 @@ ready g c =
     ready-from _ c.args.self.now c.as_slice.result.now c.as_slice-working.result.now c.take_entries.new.entries.items c.self.view_is c.self.invariant.weighed.sound c.requires.begun c.as_slice.ensures.value c.as_slice-working.ensures.value
     c.take_entries.ensures.entries c.take_entries.ensures.range c.take_entries.ensures.count
 
-pub commit-requires-clause-entries : goal.commit-requires-clause-entries
-commit-requires-clause-entries g c =
-    let r = ready g (goal.at.commit-requires-clause-entries g c).After-take_entries in
+pub commit-requires : goal.commit-requires
+commit-requires g c =
+    let r = ready g (goal.at.commit-requires g c).After-take_entries in
     let cells = ap (λ (held : Held). held.chains.cells) c.self.view_is in
     record {
-      few = rw (c.as_slice-2.ensures.value) (omega (arith, changed-few c.args.self.now c.take_entries.new.entries.items r, c.cells.ensures.number, cells));
-      range = rw (c.as_slice-2.ensures.value, c.cells.ensures.number, cells) (r.range);
+      entries = record {
+        few = rw (c.as_slice-2.ensures.value) (omega (arith, changed-few c.args.self.now c.take_entries.new.entries.items r, c.cells.ensures.number, cells));
+        range = rw (c.as_slice-2.ensures.value, c.cells.ensures.number, cells) (r.range);
+      };
+      closed = search rules;
     }
 
 -- the slots that were touched, in rising order
@@ -36,13 +39,10 @@ sorted : (g : _) (c : After-sort g)
     → IsTouched (record { chains = c.self.inside.chains; row_limit = c.self.inside.row_limit; committed = c.self.inside.committed.items; working = c.self.inside.working.items; begun = c.self.inside.begun; first_octets = c.self.inside.first_octets.items; tags = c.self.inside.tags }) c.sort.new.self (vec_capacity c.self.inside.entries)
 sorted g c = touched-sorted _ c.self.inside.touched c.sort.new.self _ c.sort.ensures.slots c.sort.ensures.size c.self.invariant.transaction
 
-moments : (g : _) (c : After-commit g) → Commits c.args.self.now (g.B.Eeprom.chip c.args.bench.now) (g.B.Eeprom.chip c.commit.new.bench)
+moments : (g : _) (c : After-commit g) → Commits c.args.self.now (g.B.Eeprom.chip c.args.bench.now) (g.B.Eeprom.chip c.commit.new.bench.bench.now)
 moments g c =
-    commits-from c.args.self.now c.take_entries.new.entries.items (g.B.Eeprom.chip c.args.bench.now) (g.B.Eeprom.chip c.commit.new.bench) (ready g (goal.at.After-commit g c).After-take_entries) c.requires.over.stands
+    commits-from c.args.self.now c.take_entries.new.entries.items (g.B.Eeprom.chip c.args.bench.now) (g.B.Eeprom.chip c.commit.new.bench.bench.now) (ready g (goal.at.After-commit g c).After-take_entries) c.requires.over.stands
     c.commit.ensures.still (rw (c.as_slice-2.ensures.value, c.cells.ensures.number, ap (λ (held : Held). held.chains.cells) c.self.view_is) at c.commit.ensures.moments)
-
-pub returns-in_err-commit-clause-moments : goal.returns-in_err-commit-clause-moments
-returns-in_err-commit-clause-moments g c = moments g (goal.at.returns-in_err-commit-clause-moments g c).After-commit
 
 pub invariant_of-self-2 : goal.invariant_of-self-2
 invariant_of-self-2 g c =
@@ -67,30 +67,10 @@ invariant_of-self g c = record {
   transaction = touched-room _ c.sort.new.self (vec_capacity c.self.inside.entries) (vec_capacity c.take_entries.new.entries) c.take_entries.ensures.room (sorted g (goal.at.invariant_of-self g c).After-sort);
 }
 
-pub returns-clause-done : goal.returns-clause-done
-returns-clause-done g c =
-    let cells = c.free_replaced.ensures.cells ∙ ap (λ (held : Held). held.chains.cells) c.self.view_is in
-    let links = c.free_replaced.ensures.links ∙ ap (λ (held : Held). held.chains.links) c.self.view_is in
-    let working = ap (λ (held : Held). held.working) c.self.view_is in
-    let used : c.self.inside.chains.used ≡ c.args.self.now.chains.used = ap (λ (held : Held). held.chains.used) c.self.view_is in
-    commit-done c.args.self.now _ c.take_entries.new.entries.items c.free_replaced.new.cells.used (g.B.Eeprom.chip c.args.bench.now).image (g.B.Eeprom.chip c.commit.new.bench).image
-    (ready g (goal.at.returns-clause-done g c).After-take_entries) (subst (λ (used : List Bool). StaysMarked c.free_replaced.new.cells.used used) used c.free_replaced.ensures.fewer)
-    (commit-view c.args.self.now c.free_replaced.new.cells _ _ _ _ _ cells links (ap (λ (held : Held). held.row_limit) c.self.view_is) (c.copy_slots.ensures ∙ (c.as_slice-working.ensures.value ∙ working)) working (ap (λ (held : Held). held.first_octets) c.self.view_is) (c.commit-2.ensures ∙ ap (λ (held : Held). both_sides held.tags.working) c.self.view_is))
-    c.requires.over.stands (rw (c.as_slice-2.ensures.value, c.cells.ensures.number, ap (λ (held : Held). held.chains.cells) c.self.view_is) at c.in_ok-commit.ensures.done)
-
-pub returns-clause-moments : goal.returns-clause-moments
-returns-clause-moments g c = moments g (goal.at.returns-clause-moments g c).After-commit
-
-behind : (g : _) (c : After-commit g) → Keeps (drop (image_size c.args.self.now.chains.cells)) (g.B.Eeprom.chip c.args.bench.now) (g.B.Eeprom.chip c.commit.new.bench)
+behind : (g : _) (c : After-commit g) → Keeps (drop (image_size c.args.self.now.chains.cells)) (g.B.Eeprom.chip c.args.bench.now) (g.B.Eeprom.chip c.commit.new.bench.bench.now)
 behind g c =
-    behind-commit c.cells.result c.args.self.now.chains.cells c.as_slice-2.result.now (g.B.Eeprom.chip c.args.bench.now) (g.B.Eeprom.chip c.commit.new.bench)
+    behind-commit c.cells.result c.args.self.now.chains.cells c.as_slice-2.result.now (g.B.Eeprom.chip c.args.bench.now) (g.B.Eeprom.chip c.commit.new.bench.bench.now)
     (c.cells.ensures.number ∙ ap (λ (held : Held). held.chains.cells) c.self.view_is) c.commit.ensures.still c.commit.ensures.moments
-
-pub returns-in_err-commit-clause-behind : goal.returns-in_err-commit-clause-behind
-returns-in_err-commit-clause-behind g c = behind g (goal.at.returns-in_err-commit-clause-behind g c).After-commit
-
-pub returns-clause-behind : goal.returns-clause-behind
-returns-clause-behind g c = behind g (goal.at.returns-clause-behind g c).After-commit
 
 pub take_entries-requires-clause-slots : goal.take_entries-requires-clause-slots
 take_entries-requires-clause-slots g c =
@@ -122,4 +102,50 @@ commit-requires-2-clause-differ g c = record {
   names = search rules;
   stamps = search rules;
   others = tags-others-back _ c.sort.new.self _ c.slots-slots.result.now (sorted g (goal.at.commit-requires-2-clause-differ g c).After-sort) c.slots-slots.ensures.slots;
+}
+
+pub returns-in_err-commit : goal.returns-in_err-commit
+returns-in_err-commit g c = record {
+  ended = search rules;
+  cells = search rules;
+  rows = search rules;
+  told = search rules;
+  done = search rules;
+  moments =
+      let moments = moments g (goal.at.returns-in_err-commit g c).After-commit in
+      search rules;
+  behind =
+      let behind = behind g (goal.at.returns-in_err-commit g c).After-commit in
+      search rules;
+  octets_written = search rules;
+  unchanged = search rules;
+  cause = search rules;
+}
+
+pub returns : goal.returns
+returns g c = record {
+  ended = search rules;
+  cells = search rules;
+  rows = search rules;
+  told = search rules;
+  done =
+      let cells = c.free_replaced.ensures.cells ∙ ap (λ (held : Held). held.chains.cells) c.self.view_is in
+      let links = c.free_replaced.ensures.links ∙ ap (λ (held : Held). held.chains.links) c.self.view_is in
+      let working = ap (λ (held : Held). held.working) c.self.view_is in
+      let used : c.self.inside.chains.used ≡ c.args.self.now.chains.used = ap (λ (held : Held). held.chains.used) c.self.view_is in
+      let done =
+      commit-done c.args.self.now _ c.take_entries.new.entries.items c.free_replaced.new.cells.used (g.B.Eeprom.chip c.args.bench.now).image (g.B.Eeprom.chip c.commit.new.bench.bench.now).image
+      (ready g (goal.at.returns g c).After-take_entries) (subst (λ (used : List Bool). StaysMarked c.free_replaced.new.cells.used used) used c.free_replaced.ensures.fewer)
+      (commit-view c.args.self.now c.free_replaced.new.cells _ _ _ _ _ cells links (ap (λ (held : Held). held.row_limit) c.self.view_is) (c.copy_slots.ensures ∙ (c.as_slice-working.ensures.value ∙ working)) working (ap (λ (held : Held). held.first_octets) c.self.view_is) (c.commit-2.ensures ∙ ap (λ (held : Held). both_sides held.tags.working) c.self.view_is))
+      c.requires.over.stands (rw (c.as_slice-2.ensures.value, c.cells.ensures.number, ap (λ (held : Held). held.chains.cells) c.self.view_is) at c.in_ok-commit.ensures.done) in
+      search rules;
+  moments =
+      let moments = moments g (goal.at.returns g c).After-commit in
+      search rules;
+  behind =
+      let behind = behind g (goal.at.returns g c).After-commit in
+      search rules;
+  octets_written = search rules;
+  unchanged = search rules;
+  cause = search rules;
 }

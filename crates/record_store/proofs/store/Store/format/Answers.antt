@@ -1,4 +1,4 @@
-use Rattle.std.proofs.Common.{◌≡◌, ℕ, List, Option, Some, None, option_map, drop, ap, refl, ◌∙◌, arith}
+use Rattle.std.proofs.Common.{◌≡◌, ℕ, List, Option, Some, None, option_map, drop, ap, refl, ◌∙◌, arith, rules}
 use Rattle.std.specs.Prelude.{IfSome}
 use Rattle.eeprom.specs.Chip.{Keeps}
 use Rattle.eeprom.specs.StoreOf.{store_of, fresh_store, image_size}
@@ -18,14 +18,6 @@ image_is g c =
     (g.B.Eeprom.chip c.args.bench.now).image (g.B.Eeprom.chip c.clear_front.new.bench).image (g.B.Eeprom.chip c.write_body.new.bench).image
     (g.B.Eeprom.chip c.write.new.self).image (rw c.clear_front.ensures.still (omega arith))
     (g.met.B.Eeprom.sized c.clear_front.new.bench) c.in_ok-clear_front.ensures.rest c.in_ok-write_body.ensures.image c.in_ok-write.ensures.written
-
-pub returns-clause-image : goal.returns-clause-image
-returns-clause-image g c = image_is g c
-
-pub returns-clause-formatted : goal.returns-clause-formatted
-returns-clause-formatted g c =
-    store-formatted c.args.cells c.args.first.now c.args.second.now (g.B.Eeprom.chip c.args.bench.now).image (g.B.Eeprom.chip c.write.new.self).image
-    c.requires.few c.requires.many c.requires.first.0 c.requires.first.1 c.requires.second.0 c.requires.second.1 (image_is g c)
 
 of_map : (f : List ℕ → List ℕ) (Q : List ℕ → Type 0) (o : Option (List ℕ)) → IfSome (option_map f o) Q → IfSome o (λ image. Q (f image))
 of_map f Q None holds = tt
@@ -48,17 +40,6 @@ moments g c =
     (g.met.B.Eeprom.clocked c.write_body.new.bench) c.write.ensures.writes
     (body_moments c.args.cells c.args.first.now c.args.second.now old cleared mid c.clear_front.ensures.still c.in_ok-clear_front.ensures.cleared c.clear_front.ensures.moments c.write_body.ensures.front)
 
-pub returns-in_err-write_body-clause-moments : goal.returns-in_err-write_body-clause-moments
-returns-in_err-write_body-clause-moments g c =
-    body_moments c.args.cells c.args.first.now c.args.second.now (g.B.Eeprom.chip c.args.bench.now) (g.B.Eeprom.chip c.clear_front.new.bench) (g.B.Eeprom.chip c.write_body.new.bench) c.clear_front.ensures.still c.in_ok-clear_front.ensures.cleared
-    c.clear_front.ensures.moments c.write_body.ensures.front
-
-pub returns-in_err-write-clause-moments : goal.returns-in_err-write-clause-moments
-returns-in_err-write-clause-moments g c = moments g (goal.at.returns-in_err-write-clause-moments g c).After-write
-
-pub returns-clause-moments : goal.returns-clause-moments
-returns-clause-moments g c = moments g (goal.at.returns-clause-moments g c).After-write
-
 -- nothing is written behind the image
 body_behind : (g : _) (c : After-write_body g) → Keeps (drop (image_size c.args.cells)) (g.B.Eeprom.chip c.args.bench.now) (g.B.Eeprom.chip c.write_body.new.bench)
 body_behind g c = Keeps-then (drop (image_size c.args.cells)) _ _ _ (c.clear_front.ensures.behind (image_size c.args.cells) (omega arith)) c.write_body.ensures.behind
@@ -70,11 +51,54 @@ behind g c =
     (behind-write 0 (image_size c.args.cells) _ (g.B.Eeprom.chip c.write_body.new.bench) (g.B.Eeprom.chip c.write.new.self) (omega arith) (omega (arith, ap (λ still. still.size) before.still)) (g.met.B.Eeprom.sized c.write_body.new.bench)
     (g.met.B.Eeprom.clocked c.write_body.new.bench) c.write.ensures.writes)
 
-pub returns-in_err-write_body-clause-behind : goal.returns-in_err-write_body-clause-behind
-returns-in_err-write_body-clause-behind g c = body_behind g (goal.at.returns-in_err-write_body-clause-behind g c).After-write_body
+pub returns : goal.returns
+returns g c = record {
+  image = image_is g c;
+  formatted =
+      store-formatted c.args.cells c.args.first.now c.args.second.now (g.B.Eeprom.chip c.args.bench.now).image (g.B.Eeprom.chip c.write.new.self).image
+      c.requires.few c.requires.many c.requires.first.0 c.requires.first.1 c.requires.second.0 c.requires.second.1 (image_is g c);
+  still = search rules;
+  moments = moments g (goal.at.returns g c).After-write;
+  behind = behind g (goal.at.returns g c).After-write;
+  too_small = search rules;
+  unchanged = search rules;
+  cause = search rules;
+}
 
-pub returns-in_err-write-clause-behind : goal.returns-in_err-write-clause-behind
-returns-in_err-write-clause-behind g c = behind g (goal.at.returns-in_err-write-clause-behind g c).After-write
+pub returns-in_err-write_body : goal.returns-in_err-write_body
+returns-in_err-write_body g c = record {
+  image = search rules;
+  formatted = search rules;
+  still = search rules;
+  moments =
+      body_moments c.args.cells c.args.first.now c.args.second.now (g.B.Eeprom.chip c.args.bench.now) (g.B.Eeprom.chip c.clear_front.new.bench) (g.B.Eeprom.chip c.write_body.new.bench) c.clear_front.ensures.still c.in_ok-clear_front.ensures.cleared
+      c.clear_front.ensures.moments c.write_body.ensures.front;
+  behind = body_behind g (goal.at.returns-in_err-write_body g c).After-write_body;
+  too_small = search rules;
+  unchanged = search rules;
+  cause = search rules;
+}
 
-pub returns-clause-behind : goal.returns-clause-behind
-returns-clause-behind g c = behind g (goal.at.returns-clause-behind g c).After-write
+pub returns-in_err-write : goal.returns-in_err-write
+returns-in_err-write g c = record {
+  image = search rules;
+  formatted = search rules;
+  still = search rules;
+  moments = moments g (goal.at.returns-in_err-write g c).After-write;
+  behind = behind g (goal.at.returns-in_err-write g c).After-write;
+  too_small = search rules;
+  unchanged = search rules;
+  cause = search rules;
+}
+
+pub returns-in_err-clear_front : goal.returns-in_err-clear_front
+returns-in_err-clear_front g c = record {
+  image = search rules;
+  formatted = search rules;
+  still = search rules;
+  moments = search rules;
+  behind = c.clear_front.ensures.behind (image_size c.args.cells) (omega arith);
+  too_small = search rules;
+  unchanged = search rules;
+  cause = search rules;
+}

@@ -1,4 +1,5 @@
 use Rattle.std.proofs.Common.{◌≡◌, ◌<◌, None, length, set, slice_index, drop, ap, ◌∙◌, refl, arith, rules, subst}
+use Rattle.std.proofs.lemmas.Grind.{common_steps}
 use Rattle.std.specs.Vec.{vec_capacity}
 use Rattle.eeprom.specs.Chip.{Keeps}
 use Rattle.eeprom.specs.StoreOf.{store_of, cells_for, image_size}
@@ -35,23 +36,6 @@ empty g c = λ none. rw (working g (goal.at.In-Some g c).After-as_slice) at (c.i
 -- what the other records weigh
 weight : (g : _) (c : After-weight_without-weight g) → c.weight_without-weight.result ≡ steps_without c.args.self.now.chains.links c.args.self.now.working c.in-Some.slot
 weight g c = c.weight_without-weight.ensures.weight
-
-pub returns-in_default-clause-full : goal.returns-in_default-clause-full
-returns-in_default-clause-full g c = λ _.
-    let here = (goal.at.returns-in_default-clause-full g c).After-as_slice in
-    let none = c.in_default.ensures.none in
-    rw (none.0) (full-none c.args.self.now (g.B.Eeprom.chip c.args.bench.now).image c.args.octets.now (sound g here) c.requires.begun c.requires.over.stands c.requires.some (rw (working g here) at none.1))
-
-pub returns-then-weight-count-clause-full : goal.returns-then-weight-count-clause-full
-returns-then-weight-count-clause-full g c = λ _.
-    let at = goal.at.returns-then-weight-count-clause-full g c in
-    let cells : c.self.inside.chains.cells ≡ c.args.self.now.chains.cells = ap (λ (held : Held). held.chains.cells) c.self.view_is in
-    let image = (g.B.Eeprom.chip c.args.bench.now).image in
-    let sound = sound g at.After-as_slice in
-    let inside = inside g at.In-Some in
-    full-found c.args.self.now c.args.slot c.in-Some.slot image c.args.octets.now sound c.requires.begun c.requires.over.stands inside c.in-Some.ensures.named (empty g at.In-Some)
-    (put-over c.args.self.now c.in-Some.slot c.weight_without-weight.result c.args.octets.now image sound c.requires.begun c.requires.over.stands inside (weight g at.After-weight_without-weight)
-    (omega (arith, c.if-weight-count.true, c.cells.ensures.number, cells, c.cells_for-count.ensures)))
 
 -- the store once the slot was emptied
 abbrev mid : (g : _) (c : After-write_chain g) → Held
@@ -103,62 +87,130 @@ unreachable-requires g c =
     let few = c.in-Err-NoCell.ensures.no_cell.0 (search rules) in
     absurd (omega (arith, few, room-enough c.args.self.now (mid g at) c.take_out.new.self.chains.used c.in-Some.slot c.weight_without-weight.result (cells_for (length c.args.octets.now)) (emptied g at)))
 
-pub returns-in-Ok-clause-put : goal.returns-in-Ok-clause-put
-returns-in-Ok-clause-put g c =
-    let at = (goal.at.returns-in-Ok-clause-put g c).After-write_chain in
-    filled-becomes c.args.self.now (mid g at) c.take_out.new.self.chains.used c.in-Some.slot c.weight_without-weight.result (cells_for (length c.args.octets.now)) c.in-Ok.first (slice_index c.args.octets.now 0) c.write_chain.new.self c.put.new.self c.args.octets.now
-    (g.B.Eeprom.chip c.args.bench.now).image (g.B.Eeprom.chip c.write_chain.new.bench).image (omega (arith, c.in-Ok.ensures.there, ap (λ (held : Held). held.chains.cells) (emptied g at).is)) refl (record {
-      names = omega (arith, inside g (goal.at.After-write_chain g at).In-Some, ap (λ (held : Held). held.chains.cells) (emptied g at).is, c.self-2.invariant.transaction.tags.working_count.names);
-      stamps = omega (arith, inside g (goal.at.After-write_chain g at).In-Some, ap (λ (held : Held). held.chains.cells) (emptied g at).is, c.self-2.invariant.transaction.tags.working_count.stamps);
-      is = c.put.ensures;
-    }) (emptied g at) c.requires.over.stands c.in-Ok.ensures.takes c.in-Ok.ensures.written
-
 -- at each moment, also where the write failed
 moments : (g : _) (c : After-write_chain g) → Keeps store_of (g.B.Eeprom.chip c.args.bench.now) (g.B.Eeprom.chip c.write_chain.new.bench)
 moments g c =
     filled-keeps c.args.self.now (mid g c) c.take_out.new.self.chains.used c.self-2.inside.chains.used c.in-Some.slot c.weight_without-weight.result (cells_for (length c.args.octets.now)) c.self-2.inside.chains.cells
     (g.B.Eeprom.chip c.args.bench.now) (g.B.Eeprom.chip c.write_chain.new.bench) (emptied g c) c.requires.over.stands refl refl c.write_chain.ensures.moments
 
-pub returns-in-Ok-clause-moments : goal.returns-in-Ok-clause-moments
-returns-in-Ok-clause-moments g c = moments g (goal.at.returns-in-Ok-clause-moments g c).After-write_chain
-
-pub returns-in-Err-Fault-clause-moments : goal.returns-in-Err-Fault-clause-moments
-returns-in-Err-Fault-clause-moments g c = moments g (goal.at.returns-in-Err-Fault-clause-moments g c).After-write_chain
-
-pub returns-in-Ok-clause-empty : goal.returns-in-Ok-clause-empty
-returns-in-Ok-clause-empty g c = λ none.
-    let at = goal.at.returns-in-Ok-clause-empty g c in
-    empty-record c.args.self.now c.in-Some.slot (g.B.Eeprom.chip c.args.bench.now).image (sound g at.After-as_slice) c.requires.begun c.requires.over.stands (inside g at.In-Some) (empty g at.In-Some none)
-
-pub returns-in-Ok-clause-within : goal.returns-in-Ok-clause-within
-returns-in-Ok-clause-within g c =
-    let at = goal.at.returns-in-Ok-clause-within g c in
-    let cells : c.self.inside.chains.cells ≡ c.args.self.now.chains.cells = ap (λ (held : Held). held.chains.cells) c.self.view_is in
-    put-within c.args.self.now c.in-Some.slot c.weight_without-weight.result c.args.octets.now (g.B.Eeprom.chip c.args.bench.now).image (sound g at.After-as_slice) c.requires.begun c.requires.over.stands (inside g at.In-Some)
-    (weight g at.After-weight_without-weight) (omega (arith, c.if-weight-count.false, c.cells.ensures.number, cells, c.cells_for-count.ensures))
-
-pub returns-in-Ok-clause-entries : goal.returns-in-Ok-clause-entries
-returns-in-Ok-clause-entries g c =
-    let at = (goal.at.returns-in-Ok-clause-entries g c).After-write_chain in
-    entries-filled c.args.self.now (mid g at) c.write_chain.new.self (set (mid g at).first_octets c.in-Ok.first (slice_index c.args.octets.now 0)) c.put.new.self c.in-Some.slot c.in-Ok.first c.take_out.new.self.chains.used c.requires.begun (emptied g at).is
-
-pub returns-in-Ok-clause-only : goal.returns-in-Ok-clause-only
-returns-in-Ok-clause-only g c =
-    let at = (goal.at.returns-in-Ok-clause-only g c).After-write_chain in
-    only-filled c.args.self.now (mid g at) c.write_chain.new.self (set (mid g at).first_octets c.in-Ok.first (slice_index c.args.octets.now 0)) c.put.new.self c.in-Some.slot c.in-Ok.first c.take_out.new.self.chains.used c.requires.begun (emptied g at).is
-
 behind : (g : _) (c : After-write_chain g) → Keeps (drop (image_size c.args.self.now.chains.cells)) (g.B.Eeprom.chip c.args.bench.now) (g.B.Eeprom.chip c.write_chain.new.bench)
 behind g c =
     behind-marked c.self-2.inside.chains.used c.self-2.inside.chains.cells c.args.self.now.chains.cells (g.B.Eeprom.chip c.args.bench.now) (g.B.Eeprom.chip c.write_chain.new.bench)
     (ap (λ (held : Held). held.chains.cells) (emptied g c).is) c.write_chain.ensures.moments
 
-pub returns-in-Ok-clause-behind : goal.returns-in-Ok-clause-behind
-returns-in-Ok-clause-behind g c = behind g (goal.at.returns-in-Ok-clause-behind g c).After-write_chain
-
-pub returns-in-Err-Fault-clause-behind : goal.returns-in-Err-Fault-clause-behind
-returns-in-Err-Fault-clause-behind g c = behind g (goal.at.returns-in-Err-Fault-clause-behind g c).After-write_chain
-
 pub touch-requires : goal.touch-requires
 touch-requires g c =
     let at = goal.at.touch-requires g c in
     record { inside = omega (arith, inside g at.In-Some, c.self-2.invariant.transaction.size, ap (λ (held : Held). held.chains.cells) (emptied g at.After-write_chain).is) }
+
+pub returns-in_default : goal.returns-in_default
+returns-in_default g c = record {
+  named = search rules;
+  empty = search rules;
+  there = search rules;
+  put = search rules;
+  within = search rules;
+  full = λ _.
+      let here = (goal.at.returns-in_default g c).After-as_slice in
+      let none = c.in_default.ensures.none in
+      rw (none.0) (full-none c.args.self.now (g.B.Eeprom.chip c.args.bench.now).image c.args.octets.now (sound g here) c.requires.begun c.requires.over.stands c.requires.some (rw (working g here) at none.1));
+  unchanged = search rules;
+  told = search rules;
+  begun = search rules;
+  cells = search rules;
+  rows = search rules;
+  octets_written = search rules;
+  only = search rules;
+  entries = search rules;
+  moments = search rules;
+  behind = search rules;
+  cause = search rules;
+}
+
+pub returns-then-weight-count : goal.returns-then-weight-count
+returns-then-weight-count g c = record {
+  named = search rules;
+  empty = search rules;
+  there = search rules;
+  put = search rules;
+  within = search rules;
+  full = λ _.
+      let at = goal.at.returns-then-weight-count g c in
+      let cells : c.self.inside.chains.cells ≡ c.args.self.now.chains.cells = ap (λ (held : Held). held.chains.cells) c.self.view_is in
+      let image = (g.B.Eeprom.chip c.args.bench.now).image in
+      let sound = sound g at.After-as_slice in
+      let inside = inside g at.In-Some in
+      full-found c.args.self.now c.args.slot c.in-Some.slot image c.args.octets.now sound c.requires.begun c.requires.over.stands inside c.in-Some.ensures.named (empty g at.In-Some)
+      (put-over c.args.self.now c.in-Some.slot c.weight_without-weight.result c.args.octets.now image sound c.requires.begun c.requires.over.stands inside (weight g at.After-weight_without-weight)
+      (omega (arith, c.if-weight-count.true, c.cells.ensures.number, cells, c.cells_for-count.ensures)));
+  unchanged = search rules;
+  told = search rules;
+  begun = search rules;
+  cells = search rules;
+  rows = search rules;
+  octets_written = search rules;
+  only = search rules;
+  entries = search rules;
+  moments = search rules;
+  behind = search rules;
+  cause = search rules;
+}
+
+pub returns-in-Ok : goal.returns-in-Ok
+returns-in-Ok g c = record {
+  named = grind (arith, common_steps);
+  empty = λ none.
+      let at = goal.at.returns-in-Ok g c in
+      empty-record c.args.self.now c.in-Some.slot (g.B.Eeprom.chip c.args.bench.now).image (sound g at.After-as_slice) c.requires.begun c.requires.over.stands (inside g at.In-Some) (empty g at.In-Some none);
+  there = search rules;
+  put =
+      let at = (goal.at.returns-in-Ok g c).After-write_chain in
+      filled-becomes c.args.self.now (mid g at) c.take_out.new.self.chains.used c.in-Some.slot c.weight_without-weight.result (cells_for (length c.args.octets.now)) c.in-Ok.first (slice_index c.args.octets.now 0) c.write_chain.new.self c.put.new.self c.args.octets.now
+      (g.B.Eeprom.chip c.args.bench.now).image (g.B.Eeprom.chip c.write_chain.new.bench).image (omega (arith, c.in-Ok.ensures.there, ap (λ (held : Held). held.chains.cells) (emptied g at).is)) refl (record {
+        names = omega (arith, inside g (goal.at.After-write_chain g at).In-Some, ap (λ (held : Held). held.chains.cells) (emptied g at).is, c.self-2.invariant.transaction.tags.working_count.names);
+        stamps = omega (arith, inside g (goal.at.After-write_chain g at).In-Some, ap (λ (held : Held). held.chains.cells) (emptied g at).is, c.self-2.invariant.transaction.tags.working_count.stamps);
+        is = c.put.ensures;
+      }) (emptied g at) c.requires.over.stands c.in-Ok.ensures.takes c.in-Ok.ensures.written;
+  within =
+      let at = goal.at.returns-in-Ok g c in
+      let cells : c.self.inside.chains.cells ≡ c.args.self.now.chains.cells = ap (λ (held : Held). held.chains.cells) c.self.view_is in
+      put-within c.args.self.now c.in-Some.slot c.weight_without-weight.result c.args.octets.now (g.B.Eeprom.chip c.args.bench.now).image (sound g at.After-as_slice) c.requires.begun c.requires.over.stands (inside g at.In-Some)
+      (weight g at.After-weight_without-weight) (omega (arith, c.if-weight-count.false, c.cells.ensures.number, cells, c.cells_for-count.ensures));
+  full = search rules;
+  unchanged = search rules;
+  told = search rules;
+  begun = search rules;
+  cells = search rules;
+  rows = search rules;
+  octets_written = search rules;
+  only =
+      let at = (goal.at.returns-in-Ok g c).After-write_chain in
+      only-filled c.args.self.now (mid g at) c.write_chain.new.self (set (mid g at).first_octets c.in-Ok.first (slice_index c.args.octets.now 0)) c.put.new.self c.in-Some.slot c.in-Ok.first c.take_out.new.self.chains.used c.requires.begun (emptied g at).is;
+  entries =
+      let at = (goal.at.returns-in-Ok g c).After-write_chain in
+      entries-filled c.args.self.now (mid g at) c.write_chain.new.self (set (mid g at).first_octets c.in-Ok.first (slice_index c.args.octets.now 0)) c.put.new.self c.in-Some.slot c.in-Ok.first c.take_out.new.self.chains.used c.requires.begun (emptied g at).is;
+  moments = moments g (goal.at.returns-in-Ok g c).After-write_chain;
+  behind = behind g (goal.at.returns-in-Ok g c).After-write_chain;
+  cause = search rules;
+}
+
+pub returns-in-Err-Fault : goal.returns-in-Err-Fault
+returns-in-Err-Fault g c = record {
+  named = search rules;
+  empty = search rules;
+  there = search rules;
+  put = search rules;
+  within = search rules;
+  full = search rules;
+  unchanged = search rules;
+  told = search rules;
+  begun = search rules;
+  cells = search rules;
+  rows = search rules;
+  octets_written = search rules;
+  only = search rules;
+  entries = search rules;
+  moments = moments g (goal.at.returns-in-Err-Fault g c).After-write_chain;
+  behind = behind g (goal.at.returns-in-Err-Fault g c).After-write_chain;
+  cause = grind (arith, common_steps);
+}

@@ -1,4 +1,4 @@
-use Rattle.std.proofs.Common.{ℕ, List, Bool, length, refl, ap, ◌∙◌, sym, subst}
+use Rattle.std.proofs.Common.{ℕ, List, Bool, length, refl, ap, ◌∙◌, sym, subst, rules}
 use Rattle.std.specs.Vec.{vec_capacity}
 use Rattle.cell_store.specs.Marks.{StaysMarked}
 use Rattle.record_store.specs.Held.{Held, StandsFor}
@@ -39,11 +39,17 @@ pub copy_slots-requires-clause-others : goal.copy_slots-requires-clause-others
 copy_slots-requires-clause-others c =
     working-others _ c.self.inside.touched _ c.slots-slots.result.now c.self.inside.working.items c.as_slice-committed.result.now c.self.invariant.transaction c.slots-slots.ensures.slots refl c.as_slice-committed.ensures.value
 
-pub returns-clause-stands : goal.returns-clause-stands
-returns-clause-stands c = λ image stands.
-    let held = c.args.self.now in
-    let cells = c.free_replaced.ensures.cells ∙ ap (λ (held : Held). held.chains.cells) c.self.view_is in
-    let links = c.free_replaced.ensures.links ∙ ap (λ (held : Held). held.chains.links) c.self.view_is in
-    subst (λ (held : Held). StandsFor held image) (sym (restored-view held c.free_replaced.new.cells _ _ _ _ _ cells links (ap (λ (held : Held). held.row_limit) c.self.view_is) (ap (λ (held : Held). held.committed) c.self.view_is)
-    (ap (λ (held : Held). held.first_octets) c.self.view_is) (c.rollback.ensures ∙ ap (λ (held : Held). both_sides held.tags.committed) c.self.view_is)))
-    (restored-stands held c.free_replaced.new.cells.used _ image (subst (λ (used : List Bool). StaysMarked c.free_replaced.new.cells.used used) (ap (λ (held : Held). held.chains.used) c.self.view_is) c.free_replaced.ensures.fewer) stands)
+pub returns : goal.returns
+returns c = record {
+  ended = search rules;
+  cells = search rules;
+  rows = search rules;
+  stands = λ image stands.
+      let held = c.args.self.now in
+      let cells = c.free_replaced.ensures.cells ∙ ap (λ (held : Held). held.chains.cells) c.self.view_is in
+      let links = c.free_replaced.ensures.links ∙ ap (λ (held : Held). held.chains.links) c.self.view_is in
+      subst (λ (held : Held). StandsFor held image) (sym (restored-view held c.free_replaced.new.cells _ _ _ _ _ cells links (ap (λ (held : Held). held.row_limit) c.self.view_is) (ap (λ (held : Held). held.committed) c.self.view_is)
+      (ap (λ (held : Held). held.first_octets) c.self.view_is) (c.rollback.ensures ∙ ap (λ (held : Held). both_sides held.tags.committed) c.self.view_is)))
+      (restored-stands held c.free_replaced.new.cells.used _ image (subst (λ (used : List Bool). StaysMarked c.free_replaced.new.cells.used used) (ap (λ (held : Held). held.chains.used) c.self.view_is) c.free_replaced.ensures.fewer) stands);
+  committed = search rules;
+}

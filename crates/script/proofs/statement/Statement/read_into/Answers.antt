@@ -10,4 +10,4 @@ sent line (Ok _) place is = rw is at (statement_of-sent line)
 sent line (Err _) place is = tt
 
 pub returns-clause-sendable : goal.returns-clause-sendable
-returns-clause-sendable c = sent c.args.line.now c.read_statement.result c.read_statement.new.place c.read_statement.ensures.statement
+returns-clause-sendable c = sent c.args.line.octets.now c.read_statement.result c.read_statement.new.place c.read_statement.ensures.statement
