@@ -23,7 +23,8 @@ use Rattle.scql_model.specs.Sessions as sessions
 use Rattle.scql_model.specs.Sessions.{cursor_of, without_pending}
 use Rattle.scql_model.specs.Step.{Answer, answered, changed, done_with, session_named, user_presented}
 use Rattle.scql_model.proofs.ChangingSessions.{changing_session-set}
-use Rattle.scql_model.proofs.RefusalWords.{Anything, Gives, behind, gives-edits_of, gives-with_edits, not_done-refusal}
+use Rattle.scql_model.proofs.OperationLaws.{gives-edits_of}
+use Rattle.scql_model.proofs.RefusalWords.{Anything, Gives, behind, gives-with_edits, not_done-refusal}
 use Rattle.db_access.specs.Presenting.{session_presented}
 use Rattle.db_access.specs.declared.presenting.Presented.{Presented as Found}
 use Rattle.card.specs.Answering.{HoldsAnswer, Performs, changing_session, committed_at_once, replied, settled, with_session, with_session_for}

@@ -13,7 +13,7 @@ use Rattle.scql_model.specs.Changing.{edits_of}
 use Rattle.scql_model.specs.Edits.{Edit, applied, making}
 use Rattle.scql_model.specs.WellFormed.{HasForm}
 use Rattle.scql_model.proofs.FieldLaws.{chosen_some}
-use Rattle.scql_model.proofs.KeepsValid.{IsValid-edits_of}
+use Rattle.scql_model.proofs.OperationLaws.{IsValid-edits_of}
 use Rattle.record_table.specs.Making.{IsValidWith}
 
 valid-added : (db : Database) (actor : Actor) (name : List ℕ) (profile : Profile) (secret : List ℕ) (edits : List Edit) → IsValid db → IsActorOf db actor → HasForm (CreateUser name profile secret)

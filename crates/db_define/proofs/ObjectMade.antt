@@ -23,7 +23,7 @@ use Rattle.scql_model.specs.Records.{of_object, subject_code}
 use Rattle.scql_model.specs.Refusals.{◌>>=◌}
 use Rattle.scql_model.specs.WellFormed.{FitsCard, HasForm}
 use Rattle.scql_model.proofs.Creating.{name-size}
-use Rattle.scql_model.proofs.KeepsValid.{IsValid-edits_of}
+use Rattle.scql_model.proofs.OperationLaws.{IsValid-edits_of}
 use Rattle.scql_model.proofs.RecordLengths.{names-size}
 use Rattle.catalog_codec.specs.Catalog.{object_kind}
 use Rattle.catalog_codec.specs.Kinds.{FitsChain}

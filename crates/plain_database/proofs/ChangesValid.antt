@@ -11,7 +11,7 @@ use Rattle.scql_model.specs.Database.{Database, IsValid}
 use Rattle.scql_model.specs.Edits.{Edit, with_edits}
 use Rattle.scql_model.specs.WellFormed.{FitsCard, HasForm}
 use Rattle.scql_model.proofs.ChangeLaws.{change_of-edits, change_of-ok}
-use Rattle.scql_model.proofs.KeepsValid.{IsValid-edits_of}
+use Rattle.scql_model.proofs.OperationLaws.{IsValid-edits_of}
 use Rattle.plain_database.specs.Effects.{Ends}
 
 -- what is decided on is the change, or the refusal

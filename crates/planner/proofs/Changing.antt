@@ -26,7 +26,9 @@ use Rattle.scql_model.specs.Edits.{Edit, changing, removing, applied, with_edits
 use Rattle.scql_model.specs.Changing.{edits_of, transaction_after}
 use Rattle.scql_model.specs.Writing.{Assignment, written_through, record_at_cursor, row_after, row_updated, row_deleted}
 use Rattle.scql_model.proofs.ChangeLaws.{AreMade-with_edits}
-use Rattle.scql_model.proofs.RefusalWords.{Refuses, Gives, behind, asked, or_word, gives-written_through, gives-with_edits}
+use Rattle.scql_model.proofs.KeepsRows.{written_through-outcome}
+use Rattle.scql_model.proofs.Outcomes.{gives-outcome}
+use Rattle.scql_model.proofs.RefusalWords.{Refuses, Gives, behind, asked, or_word, gives-with_edits}
 use Rattle.scql_model.proofs.LongerLists.{find-passes}
 use Rattle.planner.specs.Words.{is_refusal}
 use Rattle.planner.specs.Meaning.{at_stamp, row_changed}
@@ -113,7 +115,7 @@ at-cursor P c stamp f gives = gives
 updated-row : (db : Database) (a : Actor) (c : Cursor) (stamp : ℕ) (assignments : List Assignment) → Gives (AreOfRow stamp db) (row_updated db a (Some (at_stamp stamp c)) assignments)
 unfolding row_updated
 updated-row db a c stamp assignments =
-    behind (AreOfRow stamp db) (written_through db a update_privilege (at_stamp stamp c)) _ (gives-written_through db a update_privilege (at_stamp stamp c)) (λ o _.
+    behind (AreOfRow stamp db) (written_through db a update_privilege (at_stamp stamp c)) _ (gives-outcome (written_through db a update_privilege (at_stamp stamp c)) (written_through-outcome db a update_privilege (at_stamp stamp c))) (λ o _.
     asked (AreOfRow stamp db) (are_among (map (λ (x : Assignment). x.0) assignments) (columns_of o.kind)) not_found _ refl
     (found-record (AreOfRow stamp db) db c stamp record_not_found _ refl (λ r at.
     asked (AreOfRow stamp db) (nat_le (row_size (row_after db assignments r).row) db.limit) wrong_data _ refl (changed-row stamp db (row_after db assignments r) at))))
@@ -121,7 +123,7 @@ updated-row db a c stamp assignments =
 deleted-row : (db : Database) (a : Actor) (c : Cursor) (stamp : ℕ) → Gives (AreOfRow stamp db) (row_deleted db a (Some (at_stamp stamp c)))
 unfolding row_deleted
 deleted-row db a c stamp =
-    behind (AreOfRow stamp db) (written_through db a delete_privilege (at_stamp stamp c)) _ (gives-written_through db a delete_privilege (at_stamp stamp c)) (λ _ _.
+    behind (AreOfRow stamp db) (written_through db a delete_privilege (at_stamp stamp c)) _ (gives-outcome (written_through db a delete_privilege (at_stamp stamp c)) (written_through-outcome db a delete_privilege (at_stamp stamp c))) (λ _ _.
     found-record (AreOfRow stamp db) db c stamp record_not_found _ refl (λ r at. removed-row stamp db r at))
 
 edited-row : (db : Database) (a : Actor) (c : Cursor) (stamp : ℕ) (operation : Operation) → ChangesRow operation → Gives (AreOfRow stamp db) (edits_of db a (Some (at_stamp stamp c)) operation)

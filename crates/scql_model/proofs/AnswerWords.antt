@@ -18,9 +18,9 @@ use Rattle.scql_base.specs.declared.operation.Operation.TheVariants.{DeleteUser,
 use Rattle.scql_base.specs.Words.{end_reached, tries_left, authentication_blocked, conditions_not_satisfied, not_found, record_not_found}
 use Rattle.scql_model.specs.Replies.{Reply}
 use Rattle.scql_model.specs.Refusals.{◌>>=◌, or_refused, provided}
-use Rattle.scql_model.specs.Database.{Database, user_stamped}
+use Rattle.scql_model.specs.Database.{Database, user_named, user_stamped}
 use Rattle.scql_model.specs.Machine.{Machine, Session, Reading, Transaction, open_channels, base, actor, session_of}
-use Rattle.scql_model.specs.Sessions.{with_session, changing_session, command_chain, reading_of, reading_so, without_chain, user_of}
+use Rattle.scql_model.specs.Sessions.{with_session, changing_session, command_chain, cursor_of, without_user, reading_of, reading_so, without_chain, user_of}
 use Rattle.scql_model.specs.Transactions.{own_transaction, waits, is_kept_waiting}
 use Rattle.scql_model.specs.Operations.{kind_of, operations}
 use Rattle.scql_model.specs.Form.{Form, refused, refused_on, part_on, a_command, form_of}
@@ -28,8 +28,10 @@ use Rattle.scql_model.specs.Objects.{StampedRow}
 use Rattle.scql_model.specs.ReadingCommands.{ReadingCommand, declare, open_cursor, next, fetch, fetch_next, get_response, reading_command, Move, or_stays, fitting, row_octets, named_among}
 use Rattle.scql_model.specs.Moves.{selected, is_opened, opened, rows_under, first_row, row_behind, row_at, moved_to, went_to, gave_next, gave, gave_more, moved, move_of}
 use Rattle.scql_model.specs.Rights.{seen_named}
+use Rattle.scql_model.specs.Edits.{Edit}
+use Rattle.scql_model.specs.Changing.{edits_of, with_edits}
 use Rattle.scql_model.specs.Accepting.{channel_named, ended_at, EndsCursor, CostsTry}
-use Rattle.scql_model.specs.Step.{Answer, answered, reading_done, changed, session_named, secret_right, secret_wrong, verified, operated, carried_out, stepped, step}
+use Rattle.scql_model.specs.Step.{Answer, answered, reading_done, changed_to, changed, user_and_sessions_deleted, session_named, secret_right, secret_wrong, verified, operated, carried_out, stepped, step}
 use Rattle.scql_model.proofs.ChangingSessions.{changing_session-set}
 use Rattle.scql_model.proofs.FormedCommands.{refused-not, not_refused, not_unless}
 use Rattle.scql_model.proofs.FormedParts.{read_on, IfSome-read_on-named}
@@ -37,7 +39,8 @@ use Rattle.scql_model.proofs.ReadingSteps.{ended-user, ended-actor, ended-readin
 use Rattle.std.proofs.lemmas.Option.{same_Some}
 use Rattle.scql_model.specs.Answering.{IsTriesLeft, AreCommand, FindsNone, ComesToEnd, ComparesWrong}
 use Rattle.scql_model.proofs.ReadingSteps.{stepped-reading}
-use Rattle.scql_model.proofs.RefusalWords.{IsPlain, plain-done, plain-rest, end-not_try, plain-refusal, Gives, behind, or_word, if_word, asked, there, gives-selected, gives-rows, gives-opened, gives-fitting, gives-named_among, Plain, plain-changed, plain-deleted, gives-session_named, plain-opened, plain-closed, RefusedSo, refused-form_of}
+use Rattle.scql_model.proofs.OperationLaws.{gives-edits_of}
+use Rattle.scql_model.proofs.RefusalWords.{IsPlain, plain-done, plain-rest, end-not_try, plain-refusal, Gives, behind, or_word, if_word, asked, there, gives-selected, gives-rows, gives-opened, gives-fitting, gives-named_among, Plain, gives-with_edits, gives-session_named, plain-opened, plain-closed, RefusedSo, refused-form_of}
 
 -- A move to a cursor's end.
 record Ends (db : Database) (actor : Actor) (reading : Reading) (command : ReadingCommand) (move : Move Reading) : Type 0 where
@@ -135,6 +138,24 @@ no_row (get_response le) place rows none = absurd none
 -- What an answer says of the machine before the command.
 abbrev Answers : Machine → Command → Answer → Type 0
 Answers m c answer = IsPlain answer.reply.word ⊎ ((ComesToEnd m c × EndsCursor m c.channel answer) ⊎ (ComparesWrong m c × CostsTry m c.channel answer))
+
+-- operations that change the database
+plain-changed : (m : Machine) (channel : ℕ) (operation : Operation) → Gives Plain (changed m channel operation)
+plain-changed m channel operation =
+    behind Plain (edits_of (base m channel) (actor m channel) (cursor_of m channel) operation) _ (gives-edits_of (base m channel) (actor m channel) (cursor_of m channel) operation) (λ edits _.
+    behind Plain (with_edits (base m channel) edits) _ (gives-with_edits (base m channel) edits) (λ db _. go edits db (own_transaction m.transaction channel)))
+  where
+    go : (edits : List Edit) (db : Database) (t : Option Transaction) → Plain (changed_to m channel edits db t)
+    go edits db None = plain-done
+    go edits db (Some t) = plain-done
+
+plain-deleted : (m : Machine) (channel : ℕ) (name : List ℕ) → Gives Plain (user_and_sessions_deleted m channel name)
+plain-deleted m channel name = go (changed m channel (DeleteUser name)) (plain-changed m channel (DeleteUser name))
+  where
+    go : (r : Result Answer StatusWord) → Gives Plain r
+        → Gives Plain (r >>= λ (answer : Answer). or_refused (user_named (base m channel).users name) not_found >>= λ (u : User). Ok (record answer { machine = without_user answer.machine u.stamp }))
+    go (Err word) plain = plain
+    go (Ok answer) plain = behind Plain (or_refused (user_named (base m channel).users name) not_found) _ (or_word (user_named (base m channel).users name) not_found refl) (λ _ _. plain)
 
 plain-answers : (m : Machine) (c : Command) (r : Result Answer StatusWord) → Gives Plain r → Gives (Answers m c) r
 plain-answers m c (Ok answer) plain = inl plain

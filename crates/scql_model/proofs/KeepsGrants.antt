@@ -1,4 +1,4 @@
--- GRANT and REVOKE keep a database valid.
+-- GRANT and REVOKE end by proper edits or a refusal, and keep a database valid.
 use Rattle.std.proofs.Common.{◌≡◌, ℕ, ◌≤◌, ◌^◌, ◌==◌, ◌&&◌, ◌||◌, Bool, true, false, not, List, [], ◌∷◌, Option, Some, None, option_map, if◌then◌else◌, refl, sym, subst, inl, inr, arith}
 use Rattle.std.specs.Prelude.{nat_le, nat_lt, bit_or}
 use Rattle.std.specs.List.{find, list_any}
@@ -18,13 +18,42 @@ use Rattle.scql_model.specs.Database.{Database, IsValid}
 use Rattle.scql_model.specs.Rights.{seen_named}
 use Rattle.scql_model.specs.Defining.{owned_by}
 use Rattle.scql_model.specs.Granting.{grantee_named, is_granted_to, grant_to, more_granted, privileges_granted, privileges_left, less_granted, privileges_revoked}
-use Rattle.scql_model.specs.Edits.{making, changing, removing}
+use Rattle.scql_model.specs.Edits.{has_record, making, changing, removing}
 use Rattle.scql_model.proofs.ChangedGrants.{IsValid-with_grant, IsValid-with_privileges, IsValid-with_grants_left}
 use Rattle.scql_model.proofs.FoundAgain.{any-find}
 use Rattle.scql_model.proofs.LongerLists.{find-all}
-use Rattle.scql_model.proofs.RightEdits.{Gives, bound-gives, done-gives, owned-there}
+use Rattle.scql_model.proofs.RightEdits.{Gives, bound-gives, done-gives, owned-there, has_record-grant, found-there}
 use Rattle.scql_model.proofs.FormedCommands.{not_refused}
+use Rattle.scql_model.proofs.Outcomes.{AreProper, proper-sparing, proper-making, IsOutcome, outcome-done, outcome-bound, outcome-there, outcome-owned}
 use Rattle.scql_model.proofs.Keeping.{HasRoomFor, Keeps, next-making, IsThere, IsThere-found}
+
+-- a grant that is found is there
+granted-there : (db : Database) (o : Object) (grantee : ℕ) (g : Grant) → grant_to db o grantee ≡ Some g → has_record db g.stamp ≡ true
+granted-there db o grantee g found = has_record-grant db g.stamp (found-there (λ (h : Grant). h.stamp) _ db.grants g found)
+
+pub granted-outcome : (db : Database) (actor : Actor) (privileges : ℕ) (name grantee_name : List ℕ) → IsOutcome (AreProper db) (privileges_granted db actor privileges name grantee_name)
+unfolding privileges_granted
+granted-outcome db actor privileges name grantee_name =
+    outcome-bound (owned_by actor (seen_named db actor name)) _ (outcome-owned actor (seen_named db actor name)) λ o _.
+    outcome-there (grantee_named db grantee_name) not_found _ refl λ grantee _.
+    outcome-done (more_granted db o grantee privileges (grant_to db o grantee)) (more o grantee (grant_to db o grantee) refl)
+  where
+    more : (o : Object) (grantee : ℕ) (found : Option Grant) → grant_to db o grantee ≡ found → AreProper db (more_granted db o grantee privileges found)
+    more o grantee None is = proper-making db (of_grant (record { stamp = db.next; object = o.stamp; grantee = grantee; privileges = privileges })) refl refl refl
+    more o grantee (Some g) is = proper-sparing db (more_granted db o grantee privileges (Some g)) (rw (granted-there db o grantee g is) refl) refl
+
+pub revoked-outcome : (db : Database) (actor : Actor) (privileges : ℕ) (name grantee_name : List ℕ) → IsOutcome (AreProper db) (privileges_revoked db actor privileges name grantee_name)
+unfolding privileges_revoked
+revoked-outcome db actor privileges name grantee_name =
+    outcome-bound (owned_by actor (seen_named db actor name)) _ (outcome-owned actor (seen_named db actor name)) λ o _.
+    outcome-there (grantee_named db grantee_name) not_found _ refl λ grantee _.
+    outcome-there (grant_to db o grantee) not_found _ refl λ g is.
+    outcome-done (less_granted g privileges) (less g (privileges_left g.privileges privileges == 0) (granted-there db o grantee g is))
+  where
+    less : (g : Grant) (none : Bool) → has_record db g.stamp ≡ true
+        → AreProper db (if none then removing (of_grant g) ∷ [] else changing (of_grant (record g { privileges = privileges_left g.privileges privileges })) ∷ [])
+    less g true there = proper-sparing db (removing (of_grant g) ∷ []) (rw there refl) refl
+    less g false there = proper-sparing db (changing (of_grant (record g { privileges = privileges_left g.privileges privileges })) ∷ []) (rw there refl) refl
 
 -- a grantee is PUBLIC or a user, and so its stamp is a number
 record IsGrantee (db : Database) (grantee : ℕ) : Type 0 where

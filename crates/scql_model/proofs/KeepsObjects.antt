@@ -1,8 +1,9 @@
--- Commands that make and drop objects keep a database valid.
+-- Commands that make and drop objects end by proper edits or a refusal, and keep a database valid.
 use Rattle.std.proofs.Common.{◌≡◌, ℕ, ◌^◌, ◌==◌, ◌&&◌, Bool, true, false, not, List, [], ◌∷◌, ◌++◌, length, filter, Some, refl, ap, sym, subst, ◌∙◌, inl, inr}
 use Rattle.std.specs.Prelude.{nat_lt}
 use Rattle.std.specs.List.{list_any, list_all}
 use Rattle.std.specs.Str.{bytes_eq}
+use Rattle.std.proofs.lemmas.List.Folds.{list_all-append, list_all-map}
 use Rattle.std.proofs.lemmas.Bool.{cases_Bool, and_parts, false≢true, not-true, eqb-true}
 use Rattle.scql_base.specs.Name.{is_name}
 use Rattle.scql_base.specs.Words.{already_exists, security_not_satisfied, conditions_not_satisfied}
@@ -14,7 +15,7 @@ use Rattle.scql_base.specs.declared.records.ObjectKind.{ObjectKind}
 use Rattle.scql_base.specs.declared.records.ObjectKind.TheVariants.{Table, View, Dictionary}
 use Rattle.scql_base.specs.declared.records.Grant.{Grant}
 use Rattle.scql_base.specs.declared.records.RowRecord.{RowRecord}
-use Rattle.scql_model.specs.Records.{of_object, is_count_of_columns, object_fits}
+use Rattle.scql_model.specs.Records.{of_object, of_row, is_count_of_columns, object_fits}
 use Rattle.scql_model.specs.Refusals.{provided}
 use Rattle.scql_model.specs.Rules.{is_table, are_different, is_made_by_maker, is_founded, is_short, has_table, object_stamped}
 use Rattle.scql_model.specs.Database.{Database, IsValid}
@@ -22,7 +23,7 @@ use Rattle.scql_model.specs.Creating.{IsActorOf, actor_stamp}
 use Rattle.scql_model.specs.Parameters.{are_columns}
 use Rattle.scql_model.specs.Rights.{seen_named}
 use Rattle.scql_model.specs.Defining.{makes_objects, of_kind, owned_by, new_object, named_anew, object_created, is_based_on, has_view, removing_object, removing_rows, table_dropped, view_dropped}
-use Rattle.scql_model.specs.Edits.{making}
+use Rattle.scql_model.specs.Edits.{has_record, making, removing}
 use Rattle.scql_model.proofs.Creating.{maker-profile, actor_fits}
 use Rattle.scql_model.proofs.ChangedGrants.{with_grants_left, IsValid-with_grants_left}
 use Rattle.scql_model.proofs.ChangedObjects.{IsObjectOf, IsValid-with_object}
@@ -31,9 +32,57 @@ use Rattle.scql_model.proofs.FewerObjects.{is_view_of, IsValid-without_object}
 use Rattle.scql_model.proofs.LongerLists.{any-map, all-weaker}
 use Rattle.scql_model.proofs.RecordLengths.{short-table, short-dictionary}
 use Rattle.scql_model.proofs.Removing.{applied-removing_object, applied-removing_table}
-use Rattle.scql_model.proofs.RightEdits.{Gives, bound-gives, done-gives, owned-there}
+use Rattle.scql_model.proofs.RightEdits.{is_right, AreRight, Gives, bound-gives, done-gives, owned-there, has_record-object, has_record-row, found-there, all-there, right-grants}
 use Rattle.scql_model.proofs.FormedCommands.{not_unless}
+use Rattle.scql_model.proofs.Outcomes.{AreProper, AreSparing, spares, proper-sparing, proper-making, sparing-grants, sparing-rows, IsOutcome, outcome-done, outcome-bound, outcome-asked, outcome-owned}
 use Rattle.scql_model.proofs.Keeping.{HasRoomFor, Keeps, next-making, IsThere, IsThere-found, of_kind-parts}
+
+-- an object is made
+pub named_anew-outcome : (db : Database) (o : Object) → o.stamp ≡ db.next → IsOutcome (AreProper db) (named_anew db o)
+named_anew-outcome db o next =
+    outcome-asked (not (list_any (λ (other : Object). bytes_eq o.name other.name) db.objects)) already_exists _ refl λ _.
+    outcome-done (making db (of_object o)) (proper-making db (of_object o) next refl refl)
+
+pub created-outcome : (db : Database) (actor : Actor) (name : List ℕ) (kind : ObjectKind) → IsOutcome (AreProper db) (object_created db actor name kind)
+unfolding object_created
+created-outcome db actor name kind =
+    outcome-asked (makes_objects actor) security_not_satisfied _ refl λ _. named_anew-outcome db (new_object db actor name kind) refl
+
+-- an object that is dropped is there, and so are the grants on it and its rows
+seen-there : (db : Database) (actor : Actor) (name : List ℕ) (test : ObjectKind → Bool) (o : Object) → of_kind test (seen_named db actor name) ≡ Some o → has_record db o.stamp ≡ true
+seen-there db actor name test o is =
+    has_record-object db o.stamp (found-there (λ (p : Object). p.stamp) _ db.objects o (of_kind-parts test (seen_named db actor name) o is).0)
+
+right-removing_object : (db : Database) (o : Object) → has_record db o.stamp ≡ true → AreRight db (removing_object db o)
+right-removing_object db o there = rw there (right-grants db (λ (g : Grant). g.object == o.stamp))
+
+right-removing_rows : (db : Database) (o : Object) → AreRight db (removing_rows db o)
+right-removing_rows db o =
+    list_all-map (is_right db) (λ (r : RowRecord). removing (of_row r)) (filter (λ (r : RowRecord). r.table == o.stamp) db.rows)
+    ∙ all-there (λ (r : RowRecord). r.stamp) (has_record db) (λ (r : RowRecord). r.table == o.stamp) db.rows (has_record-row db)
+
+sparing-removing_object : (db : Database) (o : Object) → AreSparing (removing_object db o)
+sparing-removing_object db o = sparing-grants (filter (λ (g : Grant). g.object == o.stamp) db.grants)
+
+pub table_dropped-outcome : (db : Database) (actor : Actor) (name : List ℕ) → IsOutcome (AreProper db) (table_dropped db actor name)
+unfolding table_dropped
+table_dropped-outcome db actor name =
+    let found = of_kind is_table (seen_named db actor name) in
+    outcome-bound (owned_by actor found) _ (outcome-owned actor found) λ o is.
+    outcome-asked (not (has_view db o)) conditions_not_satisfied _ refl λ _.
+    outcome-done (removing_object db o ++ removing_rows db o) (proper-sparing db (removing_object db o ++ removing_rows db o)
+    (list_all-append (is_right db) (removing_object db o) (removing_rows db o) ∙ rw (right-removing_object db o (seen-there db actor name is_table o is), right-removing_rows db o) refl)
+    (list_all-append spares (removing_object db o) (removing_rows db o)
+    ∙ rw (sparing-removing_object db o, sparing-rows (filter (λ (r : RowRecord). r.table == o.stamp) db.rows)) refl))
+
+pub view_dropped-outcome : (db : Database) (actor : Actor) (name : List ℕ) → IsOutcome (AreProper db) (view_dropped db actor name)
+unfolding view_dropped
+view_dropped-outcome db actor name =
+    let found = of_kind (λ kind. not (is_table kind)) (seen_named db actor name) in
+    outcome-bound (owned_by actor found) _ (outcome-owned actor found) λ o is.
+    outcome-asked (not (has_view db o)) conditions_not_satisfied _ refl λ _.
+    outcome-done (removing_object db o) (proper-sparing db (removing_object db o)
+    (right-removing_object db o (seen-there db actor name (λ kind. not (is_table kind)) o is)) (sparing-removing_object db o))
 
 -- who makes objects is a user that may own them
 pub maker-actor : (db : Database) (actor : Actor) → IsActorOf db actor → makes_objects actor ≡ true → is_made_by_maker db.users (actor_stamp actor) ≡ true

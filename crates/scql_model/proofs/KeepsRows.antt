@@ -1,4 +1,4 @@
--- INSERT, UPDATE and DELETE keep a database valid.
+-- INSERT, UPDATE and DELETE end by proper edits or a refusal, and keep a database valid.
 use Rattle.std.proofs.Common.{◌≡◌, ℕ, ◌≤◌, ◌^◌, ◌==◌, ◌&&◌, ◌||◌, Bool, true, false, not, List, [], ◌∷◌, length, map, Option, Some, None, refl, sym, subst, inl, inr, arith}
 use Rattle.std.specs.Prelude.{◌⊎◌, nat_le, nat_lt, option_and_then}
 use Rattle.std.specs.List.{find, list_all}
@@ -7,7 +7,7 @@ use Rattle.std.specs.Str.{bytes_eq}
 use Rattle.std.proofs.lemmas.Bool.{cases_Bool, and_parts, and_from, eqb-true, eq-eqb, le-leb, leb-true}
 use Rattle.std.proofs.lemmas.Option.{none-some}
 use Rattle.scql_base.specs.Row.{is_narrow, row_size}
-use Rattle.scql_base.specs.Words.{not_found, wrong_data, security_not_satisfied, record_not_found}
+use Rattle.scql_base.specs.Words.{conditions_not_satisfied, not_found, wrong_data, security_not_satisfied, record_not_found}
 use Rattle.scql_base.specs.declared.words.Actor.{Actor}
 use Rattle.scql_base.specs.declared.cursor.Cursor.{Cursor}
 use Rattle.scql_base.specs.declared.records.Object.{Object}
@@ -19,18 +19,66 @@ use Rattle.scql_model.specs.Database.{Database, IsValid}
 use Rattle.scql_model.specs.Matching.{Columns, Values}
 use Rattle.scql_model.specs.Objects.{StampedRow, columns_of}
 use Rattle.scql_model.specs.Contents.{contents_of}
-use Rattle.scql_model.specs.Moves.{opened}
+use Rattle.scql_model.specs.Moves.{is_opened, opened}
 use Rattle.scql_model.specs.Parameters.{are_changes}
-use Rattle.scql_model.specs.Rights.{insert_privilege, update_privilege, delete_privilege, holds, seen_named}
-use Rattle.scql_model.specs.Defining.{of_kind}
+use Rattle.scql_model.specs.Rights.{insert_privilege, update_privilege, delete_privilege, holds, seen_named, seen_stamped}
+use Rattle.scql_model.specs.Defining.{of_kind, is_table_or_view}
 use Rattle.scql_model.specs.Writing.{Assignment, assigned, all_assigned, columns_of_row, record_at_cursor, row_at_place, row_after, written_through, row_inserted, row_updated, row_deleted}
-use Rattle.scql_model.specs.Edits.{making, changing, removing}
+use Rattle.scql_model.specs.Edits.{has_record, making, changing, removing}
 use Rattle.scql_model.proofs.Assigning.{length-all_assigned}
 use Rattle.scql_model.proofs.ChangedRows.{IsRowOf, IsValid-with_row, IsValid-with_row_changed, IsValid-with_rows_left}
 use Rattle.scql_model.proofs.LongerLists.{find-all}
-use Rattle.scql_model.proofs.RightEdits.{Gives, bound-gives, done-gives}
+use Rattle.scql_model.proofs.RightEdits.{Gives, bound-gives, done-gives, has_record-row, found-there}
 use Rattle.scql_model.proofs.FormedCommands.{not_unless, not_refused}
+use Rattle.scql_model.proofs.Outcomes.{AreProper, proper-sparing, proper-making, IsOutcome, outcome-done, outcome-bound, outcome-asked, outcome-there}
 use Rattle.scql_model.proofs.Keeping.{HasRoomFor, Keeps, next-making, IsThere-found, of_kind-parts}
+
+pub inserted-outcome : (db : Database) (actor : Actor) (name : List ℕ) (values : Values) → IsOutcome (AreProper db) (row_inserted db actor name values)
+unfolding row_inserted
+inserted-outcome db actor name values =
+    outcome-there (of_kind is_table (seen_named db actor name)) not_found _ refl λ o _.
+    outcome-asked (holds db actor o insert_privilege) security_not_satisfied _ refl λ _.
+    outcome-asked (length values == length (columns_of o.kind)) wrong_data _ refl λ _.
+    let r : RowRecord = record { stamp = db.next; table = o.stamp; row = values } in
+    outcome-done (making db (of_row r)) (proper-making db (of_row r) refl refl refl)
+
+-- the row at a cursor of an actor who may write it
+pub opened-outcome : (cursor : Option Cursor) → IsOutcome (λ c. cursor ≡ Some c) (opened cursor)
+opened-outcome cursor =
+    outcome-there cursor conditions_not_satisfied _ refl λ c is. outcome-asked (is_opened c.place) conditions_not_satisfied _ refl λ _. outcome-done c is
+
+pub written_through-outcome : (db : Database) (actor : Actor) (privilege : ℕ) (c : Cursor) → IsOutcome (λ o. seen_stamped db actor c.object ≡ Some o) (written_through db actor privilege c)
+written_through-outcome db actor privilege c =
+    outcome-there (seen_stamped db actor c.object) not_found _ refl λ o is.
+    outcome-asked (is_table_or_view o.kind) conditions_not_satisfied _ refl λ _.
+    outcome-asked (holds db actor o privilege) security_not_satisfied _ refl λ _. outcome-done o is
+
+-- the record of the cursor's row is there
+record_at-there : (db : Database) (cursor : Cursor) (r : RowRecord) → record_at_cursor db cursor ≡ Some r → has_record db r.stamp ≡ true
+record_at-there db cursor r found = go (row_at_place (contents_of db cursor.object) cursor cursor.place) found
+  where
+    go : (o : Option StampedRow) → option_and_then (λ (s : StampedRow). find (λ (t : RowRecord). t.stamp == s.stamp) db.rows) o ≡ Some r → has_record db r.stamp ≡ true
+    go None found = absurd (none-some r found)
+    go (Some s) found = has_record-row db r.stamp (found-there (λ (t : RowRecord). t.stamp) (λ (t : RowRecord). t.stamp == s.stamp) db.rows r found)
+
+pub updated-outcome : (db : Database) (actor : Actor) (cursor : Option Cursor) (assignments : List Assignment) → IsOutcome (AreProper db) (row_updated db actor cursor assignments)
+unfolding row_updated
+updated-outcome db actor cursor assignments =
+    outcome-bound (opened cursor) _ (opened-outcome cursor) λ c _.
+    outcome-bound (written_through db actor update_privilege c) _ (written_through-outcome db actor update_privilege c) λ o _.
+    outcome-asked (are_among (map (λ (a : Assignment). a.0) assignments) (columns_of o.kind)) not_found _ refl λ _.
+    outcome-there (record_at_cursor db c) record_not_found _ refl λ r is.
+    outcome-asked (nat_le (row_size (row_after db assignments r).row) db.limit) wrong_data _ refl λ _.
+    outcome-done (changing (of_row (row_after db assignments r)) ∷ [])
+    (proper-sparing db (changing (of_row (row_after db assignments r)) ∷ []) (rw (record_at-there db c r is) refl) refl)
+
+pub deleted-outcome : (db : Database) (actor : Actor) (cursor : Option Cursor) → IsOutcome (AreProper db) (row_deleted db actor cursor)
+unfolding row_deleted
+deleted-outcome db actor cursor =
+    outcome-bound (opened cursor) _ (opened-outcome cursor) λ c _.
+    outcome-bound (written_through db actor delete_privilege c) _ (written_through-outcome db actor delete_privilege c) λ _ _.
+    outcome-there (record_at_cursor db c) record_not_found _ refl λ r is.
+    outcome-done (removing (of_row r) ∷ []) (proper-sparing db (removing (of_row r) ∷ []) (rw (record_at-there db c r is) refl) refl)
 
 -- INSERT: the row takes the next stamp, in a table that is there
 pub inserted-keeps : (db : Database) (actor : Actor) (name : List ℕ) (values : Values) → IsValid db → is_row values ≡ true → nat_le (row_size values) db.limit ≡ true

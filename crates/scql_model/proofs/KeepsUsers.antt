@@ -1,5 +1,5 @@
--- CREATE USER and DELETE USER keep a database valid.
-use Rattle.std.proofs.Common.{◌≡◌, ℕ, ◌==◌, ◌||◌, Bool, false, not, List, [], ◌∷◌, filter, Some, ap, sym, subst, ◌∙◌, inl, inr}
+-- CREATE USER and DELETE USER end by proper edits or a refusal, and keep a database valid.
+use Rattle.std.proofs.Common.{◌≡◌, ℕ, map, refl, ◌==◌, ◌||◌, Bool, false, not, List, [], ◌∷◌, filter, Some, ap, sym, subst, ◌∙◌, inl, inr}
 use Rattle.std.specs.List.{find, list_any}
 use Rattle.std.proofs.lemmas.Bool.{cases_Bool, or_parts, false≢true, not-true, eqb-true}
 use Rattle.std.proofs.lemmas.Option.{same_Some}
@@ -9,22 +9,49 @@ use Rattle.scql_base.specs.declared.words.Profile.{Profile}
 use Rattle.scql_base.specs.declared.records.User.{User}
 use Rattle.scql_base.specs.declared.records.Object.{Object}
 use Rattle.scql_base.specs.declared.records.Grant.{Grant}
-use Rattle.scql_model.specs.Records.{of_user}
+use Rattle.scql_model.specs.Records.{of_user, of_grant}
 use Rattle.scql_model.specs.Refusals.{or_refused, provided}
 use Rattle.scql_model.specs.Rules.{owner, is_db_o, is_named, user_named, user_stamped}
 use Rattle.scql_model.specs.Database.{Database, IsValid}
 use Rattle.scql_model.specs.Creating.{IsAsked, may_create, is_taken, new_user, user_added}
 use Rattle.scql_model.specs.Users.{owns_user, is_needed, removing_user, user_deleted}
-use Rattle.scql_model.specs.Edits.{making}
+use Rattle.scql_model.specs.Edits.{to_remove, edited, making, removing}
 use Rattle.scql_model.proofs.Creating.{IsAddable-new_user}
 use Rattle.scql_model.proofs.AddedUser.{IsValid-with_user}
 use Rattle.scql_model.proofs.ChangedGrants.{with_grants_left, IsValid-with_grants_left}
 use Rattle.scql_model.proofs.FewerUsers.{MayGo, IsValid-without_user}
 use Rattle.scql_model.proofs.Removing.{applied-removing_user}
-use Rattle.scql_model.proofs.RightEdits.{Gives, bound-gives, done-gives}
+use Rattle.scql_model.proofs.RightEdits.{Gives, bound-gives, done-gives, has_record-user, found-there, right-making, right-grants}
 use Rattle.scql_model.proofs.FormedCommands.{not_unless, not_refused}
+use Rattle.scql_model.proofs.UsersFollow.{making_one, taking_one, applied-users}
+use Rattle.scql_model.proofs.Outcomes.{AreProper, proper-kept, proper-leaving, sparing-grants, IsOutcome, outcome-done, outcome-asked, outcome-there}
 use Rattle.scql_model.proofs.Keeping.{HasRoomFor, Keeps, next-making, key-found}
 use Rattle.scql_model.proofs.KeepsObjects.{all-left, all-none_of}
+
+pub user_added-outcome : (db : Database) (actor : Actor) (name : List ℕ) (profile : Profile) (secret : List ℕ) → IsOutcome (AreProper db) (user_added db actor name profile secret)
+user_added-outcome db actor name profile secret =
+    outcome-asked (may_create actor profile) security_not_satisfied _ refl λ _.
+    outcome-asked (not (is_taken db name)) already_exists _ refl λ _.
+    let u = new_user db actor name profile secret in
+    outcome-done (making db (of_user u)) (record { right = right-making db (of_user u) refl refl; kept = refl; users = making_one u refl refl refl refl })
+
+pub user_deleted-outcome : (db : Database) (actor : Actor) (name : List ℕ) → IsOutcome (AreProper db) (user_deleted db actor name)
+unfolding user_deleted
+user_deleted-outcome db actor name =
+    outcome-there (user_named db.users name) not_found _ refl λ u is.
+    outcome-asked (owns_user actor u) security_not_satisfied _ refl λ _.
+    outcome-asked (not (is_needed db u)) conditions_not_satisfied _ refl λ _.
+    outcome-done (removing_user db u) (removed u is)
+  where
+    removed : (u : User) → user_named db.users name ≡ Some u → AreProper db (removing_user db u)
+    removed u is =
+        let grants = filter (λ (g : Grant). g.grantee == u.stamp) db.grants in
+        let there = has_record-user db u.stamp (found-there (λ (v : User). v.stamp) (is_named name) db.users u is) in
+        record {
+          right = rw there (right-grants db (λ (g : Grant). g.grantee == u.stamp));
+          kept = proper-kept (map (λ (g : Grant). removing (of_grant g)) grants) (sparing-grants grants);
+          users = taking_one u.stamp (applied-users (edited to_remove (of_user u) db) (map (λ (g : Grant). removing (of_grant g)) grants) (proper-leaving (map (λ (g : Grant). removing (of_grant g)) grants) (sparing-grants grants)));
+        }
 
 -- CREATE USER
 pub user_added-keeps : (db : Database) (actor : Actor) (name : List ℕ) (profile : Profile) (secret : List ℕ) → IsValid db → IsAsked db actor name profile secret

@@ -1,4 +1,4 @@
--- CREATE VIEW keeps a database valid.
+-- CREATE VIEW ends by proper edits or a refusal, and keeps a database valid.
 use Rattle.std.proofs.Common.{◌≡◌, ℕ, ◌≤◌, ◌^◌, ◌==◌, ◌&&◌, ◌||◌, Bool, true, false, List, [], ◌∷◌, ◌++◌, length, map, Option, Some, refl, arith}
 use Rattle.std.specs.Prelude.{nat_le, nat_lt}
 use Rattle.std.specs.List.{find, list_any, list_all, flat_map}
@@ -33,8 +33,19 @@ use Rattle.scql_model.proofs.LongerLists.{find-all, all-weaker}
 use Rattle.scql_model.proofs.RecordLengths.{names-size}
 use Rattle.scql_model.proofs.RightEdits.{Gives, bound-gives, done-gives}
 use Rattle.scql_model.proofs.FormedCommands.{not_unless, not_refused}
+use Rattle.scql_model.proofs.Outcomes.{AreProper, IsOutcome, outcome-bound, outcome-asked, outcome-owned}
 use Rattle.scql_model.proofs.Keeping.{Keeps, IsThere-found, of_kind-parts}
-use Rattle.scql_model.proofs.KeepsObjects.{maker-actor, fits-actor, named_anew-keeps}
+use Rattle.scql_model.proofs.KeepsObjects.{named_anew-outcome, maker-actor, fits-actor, named_anew-keeps}
+
+pub view_created-outcome : (db : Database) (actor : Actor) (name base_name : List ℕ) (columns : Columns) (conditions : List Condition)
+    → IsOutcome (AreProper db) (view_created db actor name base_name columns conditions)
+unfolding view_created
+view_created-outcome db actor name base_name columns conditions =
+    outcome-asked (makes_objects actor) security_not_satisfied _ refl λ _.
+    outcome-bound (owned_by actor (of_kind is_table_or_view (seen_named db actor base_name))) _ (outcome-owned actor (of_kind is_table_or_view (seen_named db actor base_name))) λ o _.
+    outcome-asked (may_have_view db.objects o) conditions_not_satisfied _ refl λ _.
+    outcome-asked (are_named_among (columns_of o.kind) columns conditions) not_found _ refl λ _.
+    named_anew-outcome db (new_object db actor name (View o.stamp (wanted_of (columns_of o.kind) columns) conditions)) refl
 
 -- columns that an object may have: 1 to 15 different names
 record AreNames (columns : Columns) : Type 0 where

@@ -47,7 +47,6 @@ pub mod KeepsGrants
 pub mod KeepsObjects
 pub mod KeepsRows
 pub mod KeepsUsers
-pub mod KeepsValid
 pub mod KeepsViews
 pub mod KindsApart
 pub mod KnownNames
@@ -60,6 +59,8 @@ pub mod NameOrder
 pub mod Naming
 pub mod NothingWritten
 pub mod ObjectsFollow
+pub mod OperationLaws
+pub mod Outcomes
 pub mod PartsAgain
 pub mod Positions
 pub mod ReadFits

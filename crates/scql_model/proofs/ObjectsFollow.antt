@@ -1,37 +1,19 @@
 -- After a change an object is the one that it was, or is gone; and a stamp that was given out is no new object's. So cursors stand still.
-use Rattle.std.proofs.Common.{◌≡◌, ℕ, ◌+◌, ◌<◌, ◌≤◌, ◌==◌, Bool, true, false, not, List, [], ◌∷◌, ◌++◌, map, filter, Option, Some, None, Ok, Err, if◌then◌else◌, refl, sym, subst, ◌∙◌, inl, inr, arith}
+use Rattle.std.proofs.Common.{◌≡◌, ℕ, ◌+◌, ◌<◌, ◌≤◌, ◌==◌, Bool, true, false, List, [], ◌∷◌, ◌++◌, Option, Some, None, if◌then◌else◌, refl, sym, subst, inl, inr, arith}
 use Rattle.std.specs.Prelude.{IfSome}
 use Rattle.std.specs.List.{list_all}
 use Rattle.std.proofs.lemmas.Bool.{cases_Bool, and_parts, ne_eqb, eqb-true}
-use Rattle.std.proofs.lemmas.List.Folds.{list_all-append}
 use Rattle.eeprom.specs.Slots.{without}
-use Rattle.scql_base.specs.Words.{conditions_not_satisfied, instruction_not_supported, not_found, security_not_satisfied}
-use Rattle.scql_base.specs.declared.words.Actor.{Actor}
-use Rattle.scql_base.specs.declared.words.Profile.{Profile}
 use Rattle.scql_base.specs.declared.cursor.Cursor.{Cursor}
-use Rattle.scql_base.specs.declared.condition.Condition.{Condition}
 use Rattle.scql_base.specs.declared.records.Object.{Object}
-use Rattle.scql_base.specs.declared.records.ObjectKind.{ObjectKind}
-use Rattle.scql_base.specs.declared.records.Grant.{Grant}
-use Rattle.scql_base.specs.declared.records.RowRecord.{RowRecord}
-use Rattle.scql_base.specs.declared.operation.Operation.{Operation}
-use Rattle.scql_base.specs.declared.operation.Operation.TheVariants.{CreateTable, CreateView, CreateDictionary, DropTable, DropView, Grant as grant, Revoke, Insert, Update, Delete, CreateUser, DeleteUser}
 use Rattle.scql_model.specs.Records.{AnyRecord, of_counter, of_user, of_object, of_grant, of_row}
-use Rattle.scql_model.specs.Refusals.{or_refused, provided}
-use Rattle.scql_model.specs.Rules.{is_table, user_named, are_named_among, object_stamped}
+use Rattle.scql_model.specs.Rules.{are_named_among, object_stamped}
 use Rattle.scql_model.specs.Objects.{columns_of}
 use Rattle.scql_model.specs.Database.{Database}
-use Rattle.scql_model.specs.Creating.{user_added}
-use Rattle.scql_model.specs.Rights.{seen_named}
-use Rattle.scql_model.specs.Defining.{of_kind, owned_by, named_anew, object_created, view_created, has_view, removing_object, removing_rows, table_dropped, view_dropped}
-use Rattle.scql_model.specs.Granting.{grantee_named, grant_to, more_granted, privileges_granted, privileges_left, less_granted, privileges_revoked}
-use Rattle.scql_model.specs.Writing.{Assignment, row_inserted, row_updated, row_deleted}
-use Rattle.scql_model.specs.Users.{owns_user, is_needed, removing_user, user_deleted}
-use Rattle.scql_model.specs.Edits.{Action, to_add, to_change, to_remove, Edit, edited, applied, changing, removing, takes_stamp}
-use Rattle.scql_model.specs.Changing.{edits_of}
+use Rattle.scql_model.specs.Edits.{Action, to_add, to_change, to_remove, Edit, edited, applied, takes_stamp}
 use Rattle.scql_model.specs.Cursors.{StandsOn, Follows}
 use Rattle.scql_model.proofs.ChangedLists.{find-without}
-use Rattle.scql_model.proofs.RightEdits.{is_right, AreRight, Gives, bound-gives, done-gives, edits_of-right, edits_of-next}
+use Rattle.scql_model.proofs.RightEdits.{is_right, AreRight, next-right}
 
 -- a database follows itself, and what follows one that follows it
 found-itself : (found : Option Object) → IfSome found (λ (o : Object). found ≡ Some o)
@@ -67,14 +49,14 @@ StandsOn-follows db new c follows stands = record {
     go before (Some o) same named = subst (λ (found : Option Object). IfSome found Named) same named
 
 -- no edit changes an object
-abbrev keeps_object : Action → AnyRecord → Bool
+abbrev pub keeps_object : Action → AnyRecord → Bool
 keeps_object to_change (of_object o) = false
 keeps_object action r = true
 
-abbrev keep_objects : List Edit → Bool
+abbrev pub keep_objects : List Edit → Bool
 keep_objects edits = list_all (λ (e : Edit). keeps_object e.action e.entry) edits
 
-abbrev AreKept : List Edit → Type 0
+abbrev pub AreKept : List Edit → Type 0
 AreKept edits = keep_objects edits ≡ true
 
 -- what was found is found still, or is gone
@@ -124,111 +106,11 @@ stay-applied first now (e ∷ edits) right kept stay =
     let keeps = and_parts (keeps_object e.action e.entry) (keep_objects edits) kept in
     stay-applied first (edited e.action e.entry now) edits rights.1 keeps.1 (stay-edited first now e.action e.entry rights.0 keeps.0 stay)
 
--- what each command does
-kept-grants : (grants : List Grant) → keep_objects (map (λ (g : Grant). removing (of_grant g)) grants) ≡ true
-kept-grants [] = refl
-kept-grants (g ∷ grants) = kept-grants grants
-
-kept-rows : (rows : List RowRecord) → keep_objects (map (λ (r : RowRecord). removing (of_row r)) rows) ≡ true
-kept-rows [] = refl
-kept-rows (r ∷ rows) = kept-rows rows
-
-ruleset kept = (bound-gives, done-gives)
-
-kept-named_anew : (db : Database) (o : Object) → Gives AreKept (named_anew db o)
-kept-named_anew db o = search kept
-
-kept-object_created : (db : Database) (actor : Actor) (name : List ℕ) (kind : ObjectKind) → Gives AreKept (object_created db actor name kind)
-unfolding object_created
-kept-object_created db actor name kind = search (kept, kept-named_anew)
-
-kept-view_created : (db : Database) (actor : Actor) (name base_name : List ℕ) (columns : List (List ℕ)) (conditions : List Condition) → Gives AreKept (view_created db actor name base_name columns conditions)
-unfolding view_created
-kept-view_created db actor name base_name columns conditions = search (kept, kept-named_anew) depth 7
-
-kept-table_dropped : (db : Database) (actor : Actor) (name : List ℕ) → Gives AreKept (table_dropped db actor name)
-unfolding table_dropped
-kept-table_dropped db actor name =
-    bound-gives AreKept (owned_by actor (of_kind is_table (seen_named db actor name))) _ λ o _.
-    bound-gives AreKept (provided (not (has_view db o)) conditions_not_satisfied) _ λ _ _.
-    done-gives AreKept (removing_object db o ++ removing_rows db o)
-    (list_all-append (λ (e : Edit). keeps_object e.action e.entry) (removing_object db o) (removing_rows db o)
-    ∙ rw (kept-grants (filter (λ (g : Grant). g.object == o.stamp) db.grants), kept-rows (filter (λ (r : RowRecord). r.table == o.stamp) db.rows)) refl)
-
-kept-view_dropped : (db : Database) (actor : Actor) (name : List ℕ) → Gives AreKept (view_dropped db actor name)
-unfolding view_dropped
-kept-view_dropped db actor name =
-    bound-gives AreKept (owned_by actor (of_kind (λ kind. not (is_table kind)) (seen_named db actor name))) _ λ o _.
-    bound-gives AreKept (provided (not (has_view db o)) conditions_not_satisfied) _ λ _ _.
-    done-gives AreKept (removing_object db o) (kept-grants (filter (λ (g : Grant). g.object == o.stamp) db.grants))
-
-kept-granted : (db : Database) (actor : Actor) (privileges : ℕ) (name grantee_name : List ℕ) → Gives AreKept (privileges_granted db actor privileges name grantee_name)
-unfolding privileges_granted
-kept-granted db actor privileges name grantee_name =
-    bound-gives AreKept (owned_by actor (seen_named db actor name)) _ λ o _.
-    bound-gives AreKept (or_refused (grantee_named db grantee_name) not_found) _ λ grantee _.
-    done-gives AreKept (more_granted db o grantee privileges (grant_to db o grantee)) (more o grantee (grant_to db o grantee))
-  where
-    more : (o : Object) (grantee : ℕ) (found : Option Grant) → AreKept (more_granted db o grantee privileges found)
-    more o grantee None = refl
-    more o grantee (Some g) = refl
-
-kept-revoked : (db : Database) (actor : Actor) (privileges : ℕ) (name grantee_name : List ℕ) → Gives AreKept (privileges_revoked db actor privileges name grantee_name)
-unfolding privileges_revoked
-kept-revoked db actor privileges name grantee_name =
-    bound-gives AreKept (owned_by actor (seen_named db actor name)) _ λ o _.
-    bound-gives AreKept (or_refused (grantee_named db grantee_name) not_found) _ λ grantee _.
-    bound-gives AreKept (or_refused (grant_to db o grantee) not_found) _ λ g _.
-    done-gives AreKept (less_granted g privileges) (less g (privileges_left g.privileges privileges == 0))
-  where
-    less : (g : Grant) (none : Bool) → AreKept (if none then removing (of_grant g) ∷ [] else changing (of_grant (record g { privileges = privileges_left g.privileges privileges })) ∷ [])
-    less g true = refl
-    less g false = refl
-
-kept-inserted : (db : Database) (actor : Actor) (name : List ℕ) (values : List (List ℕ)) → Gives AreKept (row_inserted db actor name values)
-unfolding row_inserted
-kept-inserted db actor name values = search kept
-
-kept-updated : (db : Database) (actor : Actor) (cursor : Option Cursor) (assignments : List Assignment) → Gives AreKept (row_updated db actor cursor assignments)
-unfolding row_updated
-kept-updated db actor cursor assignments = search kept depth 8
-
-kept-deleted : (db : Database) (actor : Actor) (cursor : Option Cursor) → Gives AreKept (row_deleted db actor cursor)
-unfolding row_deleted
-kept-deleted db actor cursor = search kept
-
-kept-user_added : (db : Database) (actor : Actor) (name : List ℕ) (profile : Profile) (secret : List ℕ) → Gives AreKept (user_added db actor name profile secret)
-kept-user_added db actor name profile secret = search kept
-
-kept-user_deleted : (db : Database) (actor : Actor) (name : List ℕ) → Gives AreKept (user_deleted db actor name)
-unfolding user_deleted
-kept-user_deleted db actor name =
-    bound-gives AreKept (or_refused (user_named db.users name) not_found) _ λ u _.
-    bound-gives AreKept (provided (owns_user actor u) security_not_satisfied) _ λ _ _.
-    bound-gives AreKept (provided (not (is_needed db u)) conditions_not_satisfied) _ λ _ _.
-    done-gives AreKept (removing_user db u) (kept-grants (filter (λ (g : Grant). g.grantee == u.stamp) db.grants))
-
-edits_of-kept : (db : Database) (actor : Actor) (cursor : Option Cursor) (operation : Operation) → Gives AreKept (edits_of db actor cursor operation)
-unfolding edits_of
-edits_of-kept db actor cursor (CreateTable name columns) = kept-object_created db actor name _
-edits_of-kept db actor cursor (CreateView name base columns conditions) = kept-view_created db actor name base columns conditions
-edits_of-kept db actor cursor (CreateDictionary name subject) = kept-object_created db actor name _
-edits_of-kept db actor cursor (DropTable name) = kept-table_dropped db actor name
-edits_of-kept db actor cursor (DropView name) = kept-view_dropped db actor name
-edits_of-kept db actor cursor (grant privileges object grantee) = kept-granted db actor privileges object grantee
-edits_of-kept db actor cursor (Revoke privileges object grantee) = kept-revoked db actor privileges object grantee
-edits_of-kept db actor cursor (Insert table row) = kept-inserted db actor table row
-edits_of-kept db actor cursor (Update assignments) = kept-updated db actor cursor assignments
-edits_of-kept db actor cursor Delete = kept-deleted db actor cursor
-edits_of-kept db actor cursor (CreateUser name profile secret) = kept-user_added db actor name profile secret
-edits_of-kept db actor cursor (DeleteUser name) = kept-user_deleted db actor name
-edits_of-kept db actor cursor operation = record { each = λ edits (is : Err instruction_not_supported ≡ Ok edits). absurd cc }
-
--- What a command makes of a database follows it.
-pub Follows-edits_of : (db : Database) (actor : Actor) (cursor : Option Cursor) (operation : Operation) (edits : List Edit) → edits_of db actor cursor operation ≡ Ok edits → Follows db (applied db edits)
-Follows-edits_of db actor cursor operation edits made = record {
-  next = more (takes_stamp edits) (edits_of-next db actor cursor operation edits made);
-  objects = (stay-applied db db edits (edits_of-right db actor cursor operation edits made) ((edits_of-kept db actor cursor operation).each edits made) (record { each = (Follows-itself db).objects })).each;
+-- So what right edits make of a database, none of which changes an object, follows it.
+pub Follows-applied : (db : Database) (edits : List Edit) → AreRight db edits → AreKept edits → Follows db (applied db edits)
+Follows-applied db edits right kept = record {
+  next = more (takes_stamp edits) (next-right db edits right);
+  objects = (stay-applied db db edits right kept (record { each = (Follows-itself db).objects })).each;
 }
   where
     more : (b : Bool) → (applied db edits).next ≡ (if b then db.next + 1 else db.next) → db.next ≤ (applied db edits).next

@@ -1,7 +1,7 @@
 -- Refusals have other words than 6282 and 63CX, and so has what neither reads nor compares a secret.
 use Rattle.std.proofs.Common.{◌≡◌, ◌≤◌, ◌<◌, ◌+◌, ◌==◌, ◌/◌, ◌%◌, ℕ, zero, suc, Bool, true, false, ◌&&◌, ◌||◌, nat_le, nat_lt, List, [], ◌∷◌, ◌++◌, length, map, Option, Some, None, Result, Ok, Err, not, is_some, if◌then◌else◌, refl, ap, arith, lit≤, inl, inr}
 use Rattle.std.specs.Prelude.{slice_get}
-use Rattle.std.specs.List.{list_any, concat}
+use Rattle.std.specs.List.{concat}
 use Rattle.std.specs.Result.{result_ok}
 use Rattle.std.specs.Str.{bytes_eq}
 use Rattle.std.proofs.lemmas.Bool.{and_from, and_parts, cases_Bool, eqb-true, leb-true, ltb-true, le-leb, lt-ltb}
@@ -9,39 +9,25 @@ use Rattle.scql_base.specs.declared.words.StatusWord.{StatusWord}
 use Rattle.scql_base.specs.declared.words.Actor.{Actor}
 use Rattle.scql_base.specs.declared.cursor.Cursor.{Cursor}
 use Rattle.scql_base.specs.declared.condition.Condition.{Condition}
-use Rattle.scql_base.specs.declared.records.User.{User}
 use Rattle.scql_base.specs.declared.records.Object.{Object}
-use Rattle.scql_base.specs.declared.records.ObjectKind.{ObjectKind}
-use Rattle.scql_base.specs.declared.records.ObjectKind.TheVariants.{Table, View, Dictionary}
 use Rattle.scql_base.specs.declared.operation.Line.{Line}
 use Rattle.scql_base.specs.declared.operation.Takes.{Takes}
-use Rattle.scql_base.specs.declared.operation.Operation.{Operation}
-use Rattle.scql_base.specs.declared.operation.Operation.TheVariants.{CreateTable, CreateView, CreateDictionary, DropTable, DropView, Grant, Revoke, Insert, Update, Delete, CreateUser, DeleteUser}
-use Rattle.scql_base.specs.Row.{row_size}
-use Rattle.scql_base.specs.Words.{done, end_reached, in_four_bits, tries_left, in_sw2, more_left, wrong_le, wrong_length, wrong_data, wrong_parameters, class_not_supported, secure_messaging_not_supported, instruction_not_supported, chaining_not_supported, channel_not_supported, conditions_not_satisfied, function_not_supported, not_found, record_not_found, security_not_satisfied, already_exists, no_space}
+use Rattle.scql_base.specs.Words.{done, end_reached, in_four_bits, tries_left, in_sw2, more_left, wrong_le, wrong_length, wrong_data, wrong_parameters, class_not_supported, secure_messaging_not_supported, instruction_not_supported, chaining_not_supported, channel_not_supported, conditions_not_satisfied, function_not_supported, not_found, security_not_satisfied, no_space}
 use Rattle.scql_model.specs.Refusals.{◌>>=◌, or_refused, provided}
-use Rattle.scql_model.specs.Database.{Database, public_name, user_named, is_table, are_among}
-use Rattle.scql_model.specs.Rules.{may_have_view}
-use Rattle.scql_model.specs.Matching.{Columns, Values}
-use Rattle.scql_model.specs.Machine.{Machine, Transaction, Chain, new_session, session_for, base, actor}
-use Rattle.scql_model.specs.Sessions.{cursor_of, presented, is_channel_open, least_closed, without_user}
+use Rattle.scql_model.specs.Database.{Database, public_name, user_named, are_among}
+use Rattle.scql_model.specs.Matching.{Columns}
+use Rattle.scql_model.specs.Machine.{Machine, Chain, new_session, session_for, actor}
+use Rattle.scql_model.specs.Sessions.{presented, is_channel_open, least_closed}
 use Rattle.scql_model.specs.Transactions.{own_transaction}
 use Rattle.scql_model.specs.Operations.{has_instruction, has_secrets, is_for_channel, line_of, comes_in_parts}
 use Rattle.scql_model.specs.Parameters.{operation_in}
 use Rattle.scql_model.specs.Form.{Form, refused, refused_on, part_on, a_command, Tail, class_of, is_chained, is_open, channel_of, channel_asked, line_on, tail_of, taken_in, parts_of, formed_on, formed, part_in, command_in, takes_case, is_case_3, data_in, form_of}
-use Rattle.scql_model.specs.Objects.{columns_of}
-use Rattle.scql_model.specs.ReadingCommands.{rest_word, fitting, wanted_of, named_among}
+use Rattle.scql_model.specs.ReadingCommands.{rest_word, fitting, named_among}
 use Rattle.scql_model.specs.Moves.{selected, is_opened, opened, rows_under}
-use Rattle.scql_model.specs.Rights.{select_privilege, insert_privilege, update_privilege, delete_privilege, owns, holds, seen_named, seen_stamped}
+use Rattle.scql_model.specs.Rights.{select_privilege, holds, seen_stamped}
 use Rattle.scql_model.specs.Edits.{Edit, applied}
-use Rattle.scql_model.specs.Defining.{makes_objects, of_kind, is_table_or_view, has_view, new_object, owned_by, named_anew, object_created, view_created, table_dropped, view_dropped}
-use Rattle.scql_model.specs.Granting.{grantee_named, grant_to, privileges_granted, privileges_revoked}
-use Rattle.scql_model.specs.Writing.{Assignment, record_at_cursor, row_after, written_through, row_inserted, row_updated, row_deleted}
-use Rattle.scql_model.specs.Creating.{may_create, is_taken, user_added}
-use Rattle.scql_model.specs.Users.{owns_user, is_needed, user_deleted}
-use Rattle.scql_base.specs.declared.words.Profile.{Profile}
-use Rattle.scql_model.specs.Changing.{edits_of, lacks_room, with_edits}
-use Rattle.scql_model.specs.Step.{Answer, changed_to, changed, user_and_sessions_deleted, session_named, channel_opened, channel_closed}
+use Rattle.scql_model.specs.Changing.{lacks_room, with_edits}
+use Rattle.scql_model.specs.Step.{Answer, session_named, channel_opened, channel_closed}
 use Rattle.scql_model.proofs.FormedCommands.{refused-not}
 
 -- Numbers of words.
@@ -161,107 +147,7 @@ gives-fitting le octets = go (nat_le (length octets) le || le == 256)
 pub gives-named_among : (columns named : Columns) (conditions : List Condition) → Gives Anything (named_among columns named conditions)
 gives-named_among columns named conditions = if_word (are_among named columns && are_among (map (λ (c : Condition). c.column) conditions) columns) not_found refl
 
--- Changing commands.
-pub gives-owned_by : (actor : Actor) (found : Option Object) → Gives Anything (owned_by actor found)
-gives-owned_by actor found = there Anything found not_found _ refl (λ o. asked Anything (owns actor o) security_not_satisfied _ refl tt)
-
-pub gives-named_anew : (db : Database) (o : Object) → Gives Anything (named_anew db o)
-gives-named_anew db o = asked Anything (not (list_any (λ (other : Object). bytes_eq o.name other.name) db.objects)) already_exists _ refl tt
-
-pub gives-object_created : (db : Database) (actor : Actor) (name : List ℕ) (kind : ObjectKind) → Gives Anything (object_created db actor name kind)
-unfolding object_created
-gives-object_created db actor name kind = asked Anything (makes_objects actor) security_not_satisfied _ refl (gives-named_anew db (new_object db actor name kind))
-
-pub gives-view_created : (db : Database) (actor : Actor) (name base_name : List ℕ) (columns : Columns) (conditions : List Condition) → Gives Anything (view_created db actor name base_name columns conditions)
-unfolding view_created
-gives-view_created db actor name base_name columns conditions =
-    asked Anything (makes_objects actor) security_not_satisfied _ refl
-    (behind Anything (owned_by actor (of_kind is_table_or_view (seen_named db actor base_name))) _ (gives-owned_by actor (of_kind is_table_or_view (seen_named db actor base_name))) (λ o _.
-    asked Anything (may_have_view db.objects o) conditions_not_satisfied _ refl
-    (behind Anything (named_among (columns_of o.kind) columns conditions) _ (gives-named_among (columns_of o.kind) columns conditions) (λ _ _.
-    gives-named_anew db (new_object db actor name (View o.stamp (wanted_of (columns_of o.kind) columns) conditions))))))
-
-pub gives-table_dropped : (db : Database) (actor : Actor) (name : List ℕ) → Gives Anything (table_dropped db actor name)
-unfolding table_dropped
-gives-table_dropped db actor name =
-    behind Anything (owned_by actor (of_kind is_table (seen_named db actor name))) _ (gives-owned_by actor (of_kind is_table (seen_named db actor name))) (λ o _.
-    asked Anything (not (has_view db o)) conditions_not_satisfied _ refl tt)
-
-pub gives-view_dropped : (db : Database) (actor : Actor) (name : List ℕ) → Gives Anything (view_dropped db actor name)
-unfolding view_dropped
-gives-view_dropped db actor name =
-    behind Anything (owned_by actor (of_kind (λ kind. not (is_table kind)) (seen_named db actor name))) _ (gives-owned_by actor (of_kind (λ kind. not (is_table kind)) (seen_named db actor name))) (λ o _.
-    asked Anything (not (has_view db o)) conditions_not_satisfied _ refl tt)
-
-pub gives-granted : (db : Database) (actor : Actor) (privileges : ℕ) (name grantee : List ℕ) → Gives Anything (privileges_granted db actor privileges name grantee)
-unfolding privileges_granted
-gives-granted db actor privileges name grantee =
-    behind Anything (owned_by actor (seen_named db actor name)) _ (gives-owned_by actor (seen_named db actor name)) (λ o _.
-    there Anything (grantee_named db grantee) not_found _ refl (λ _. tt))
-
-pub gives-revoked : (db : Database) (actor : Actor) (privileges : ℕ) (name grantee : List ℕ) → Gives Anything (privileges_revoked db actor privileges name grantee)
-unfolding privileges_revoked
-gives-revoked db actor privileges name grantee =
-    behind Anything (owned_by actor (seen_named db actor name)) _ (gives-owned_by actor (seen_named db actor name)) (λ o _.
-    there Anything (grantee_named db grantee) not_found _ refl (λ to.
-    there Anything (grant_to db o to) not_found _ refl (λ _. tt)))
-
-pub gives-inserted : (db : Database) (actor : Actor) (name : List ℕ) (values : Values) → Gives Anything (row_inserted db actor name values)
-unfolding row_inserted
-gives-inserted db actor name values =
-    there Anything (of_kind is_table (seen_named db actor name)) not_found _ refl (λ o.
-    asked Anything (holds db actor o insert_privilege) security_not_satisfied _ refl
-    (asked Anything (length values == length (columns_of o.kind)) wrong_data _ refl tt))
-
-pub gives-written_through : (db : Database) (actor : Actor) (privilege : ℕ) (c : Cursor) → Gives Anything (written_through db actor privilege c)
-gives-written_through db actor privilege c =
-    there Anything (seen_stamped db actor c.object) not_found _ refl (λ o.
-    asked Anything (is_table_or_view o.kind) conditions_not_satisfied _ refl
-    (asked Anything (holds db actor o privilege) security_not_satisfied _ refl tt))
-
-pub gives-updated : (db : Database) (actor : Actor) (cursor : Option Cursor) (assignments : List Assignment) → Gives Anything (row_updated db actor cursor assignments)
-unfolding row_updated
-gives-updated db actor cursor assignments =
-    behind Anything (opened cursor) _ (gives-opened cursor) (λ c _.
-    behind Anything (written_through db actor update_privilege c) _ (gives-written_through db actor update_privilege c) (λ o _.
-    asked Anything (are_among (map (λ (a : Assignment). a.0) assignments) (columns_of o.kind)) not_found _ refl
-    (there Anything (record_at_cursor db c) record_not_found _ refl (λ r.
-    asked Anything (nat_le (row_size (row_after db assignments r).row) db.limit) wrong_data _ refl tt))))
-
-pub gives-deleted : (db : Database) (actor : Actor) (cursor : Option Cursor) → Gives Anything (row_deleted db actor cursor)
-unfolding row_deleted
-gives-deleted db actor cursor =
-    behind Anything (opened cursor) _ (gives-opened cursor) (λ c _.
-    behind Anything (written_through db actor delete_privilege c) _ (gives-written_through db actor delete_privilege c) (λ _ _.
-    there Anything (record_at_cursor db c) record_not_found _ refl (λ _. tt)))
-
-pub gives-user_added : (db : Database) (actor : Actor) (name : List ℕ) (profile : Profile) (secret : List ℕ) → Gives Anything (user_added db actor name profile secret)
-gives-user_added db actor name profile secret =
-    asked Anything (may_create actor profile) security_not_satisfied _ refl (asked Anything (not (is_taken db name)) already_exists _ refl tt)
-
-pub gives-user_deleted : (db : Database) (actor : Actor) (name : List ℕ) → Gives Anything (user_deleted db actor name)
-unfolding user_deleted
-gives-user_deleted db actor name =
-    there Anything (user_named db.users name) not_found _ refl (λ u.
-    asked Anything (owns_user actor u) security_not_satisfied _ refl
-    (asked Anything (not (is_needed db u)) conditions_not_satisfied _ refl tt))
-
-pub gives-edits_of : (db : Database) (actor : Actor) (cursor : Option Cursor) (operation : Operation) → Gives Anything (edits_of db actor cursor operation)
-unfolding edits_of
-gives-edits_of db actor cursor (CreateTable name columns) = gives-object_created db actor name (Table columns)
-gives-edits_of db actor cursor (CreateView name base columns conditions) = gives-view_created db actor name base columns conditions
-gives-edits_of db actor cursor (CreateDictionary name subject) = gives-object_created db actor name (Dictionary subject)
-gives-edits_of db actor cursor (DropTable name) = gives-table_dropped db actor name
-gives-edits_of db actor cursor (DropView name) = gives-view_dropped db actor name
-gives-edits_of db actor cursor (Grant privileges object grantee) = gives-granted db actor privileges object grantee
-gives-edits_of db actor cursor (Revoke privileges object grantee) = gives-revoked db actor privileges object grantee
-gives-edits_of db actor cursor (Insert table row) = gives-inserted db actor table row
-gives-edits_of db actor cursor (Update changes) = gives-updated db actor cursor changes
-gives-edits_of db actor cursor Delete = gives-deleted db actor cursor
-gives-edits_of db actor cursor (CreateUser name profile secret) = gives-user_added db actor name profile secret
-gives-edits_of db actor cursor (DeleteUser name) = gives-user_deleted db actor name
-gives-edits_of db actor cursor operation = refl
-
+-- Edits, where there is room for them.
 pub gives-with_edits : (db : Database) (edits : List Edit) → Gives Anything (with_edits db edits)
 gives-with_edits db edits = go (lacks_room db edits)
   where
@@ -272,23 +158,6 @@ gives-with_edits db edits = go (lacks_room db edits)
 -- Operations that don't read.
 abbrev pub Plain : Answer → Type 0
 Plain answer = IsPlain answer.reply.word
-
-pub plain-changed : (m : Machine) (channel : ℕ) (operation : Operation) → Gives Plain (changed m channel operation)
-plain-changed m channel operation =
-    behind Plain (edits_of (base m channel) (actor m channel) (cursor_of m channel) operation) _ (gives-edits_of (base m channel) (actor m channel) (cursor_of m channel) operation) (λ edits _.
-    behind Plain (with_edits (base m channel) edits) _ (gives-with_edits (base m channel) edits) (λ db _. go edits db (own_transaction m.transaction channel)))
-  where
-    go : (edits : List Edit) (db : Database) (t : Option Transaction) → Plain (changed_to m channel edits db t)
-    go edits db None = plain-done
-    go edits db (Some t) = plain-done
-
-pub plain-deleted : (m : Machine) (channel : ℕ) (name : List ℕ) → Gives Plain (user_and_sessions_deleted m channel name)
-plain-deleted m channel name = go (changed m channel (DeleteUser name)) (plain-changed m channel (DeleteUser name))
-  where
-    go : (r : Result Answer StatusWord) → Gives Plain r
-        → Gives Plain (r >>= λ (answer : Answer). or_refused (user_named (base m channel).users name) not_found >>= λ (u : User). Ok (record answer { machine = without_user answer.machine u.stamp }))
-    go (Err word) plain = plain
-    go (Ok answer) plain = behind Plain (or_refused (user_named (base m channel).users name) not_found) _ (or_word (user_named (base m channel).users name) not_found refl) (λ _ _. plain)
 
 pub gives-session_named : (db : Database) (name : List ℕ) → Gives Anything (session_named db name)
 gives-session_named db name = go (bytes_eq name public_name)

@@ -18,8 +18,8 @@ use Rattle.scql_model.proofs.ChangeLaws.{AreMade-with_edits}
 use Rattle.scql_model.proofs.ChangedLists.{find-without}
 use Rattle.scql_model.proofs.FoundUsers.{find-gone, find-replaced}
 use Rattle.scql_model.proofs.LongerLists.{find-passes}
-use Rattle.scql_model.proofs.RightEdits.{edits_of-next}
-use Rattle.scql_model.proofs.UsersFollow.{OfUsers, leaving, making_one, taking_one, edits_of-users}
+use Rattle.scql_model.proofs.OperationLaws.{edits_of-proper, edits_of-next}
+use Rattle.scql_model.proofs.UsersFollow.{OfUsers, leaving, making_one, taking_one}
 
 -- A database that follows another leaves the user of a stamp no more to lose.
 pub record Spares (stamp : ℕ) (db new : Database) : Type 0 where
@@ -111,7 +111,7 @@ module _ (stamp : ℕ) (db new : Database) (guarded : IsGuarded stamp db) (more 
 spares-edits_of : (stamp : ℕ) (db : Database) (actor : Actor) (cursor : Option Cursor) (operation : Operation) (edits : List Edit) → edits_of db actor cursor operation ≡ Ok edits → IsGuarded stamp db
     → Spares stamp db (applied db edits)
 spares-edits_of stamp db actor cursor operation edits made guarded =
-    spares-users stamp db (applied db edits) guarded (more (takes_stamp edits) (edits_of-next db actor cursor operation edits made)) ((edits_of-users db actor cursor operation).each edits made)
+    spares-users stamp db (applied db edits) guarded (more (takes_stamp edits) (edits_of-next db actor cursor operation edits made)) (edits_of-proper db actor cursor operation edits made).users
   where
     more : (b : Bool) → (applied db edits).next ≡ (if b then db.next + 1 else db.next) → db.next ≤ (applied db edits).next
     more true next = omega arith

@@ -39,13 +39,13 @@ use Rattle.scql_model.proofs.FieldLaws.{AreOctets}
 use Rattle.scql_model.proofs.FormedCommands.{not_refused, not_unless, sound-operations, IsWellFormed-form_of}
 use Rattle.scql_model.proofs.Keeping.{key-found}
 use Rattle.scql_model.proofs.KeepsRows.{within_largest}
-use Rattle.scql_model.proofs.KeepsValid.{IsValid-edits_of}
+use Rattle.scql_model.proofs.OperationLaws.{IsValid-edits_of, Follows-edits_of, presented-edits_of}
 use Rattle.scql_model.proofs.LastCommits.{of_outcome}
 use Rattle.scql_model.proofs.LongerLists.{find-all}
 use Rattle.scql_model.proofs.ReadFits.{FitsCard-form_of}
 use Rattle.scql_model.proofs.CursorsStand.{HasChosen, HasChosen-reading_command, IsReadingOf-follows, IsReadingOf-move_of, no_reading-of}
-use Rattle.scql_model.proofs.ObjectsFollow.{Follows-itself, Follows-through, Follows-edits_of}
-use Rattle.scql_model.proofs.UsersFollow.{presented-edits_of, presented-with_tries}
+use Rattle.scql_model.proofs.ObjectsFollow.{Follows-itself, Follows-through}
+use Rattle.scql_model.proofs.UsersFollow.{presented-with_tries}
 
 -- The users of sessions.
 abbrev pub Presents : Database → Option Session → Type 0

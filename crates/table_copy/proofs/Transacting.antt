@@ -26,7 +26,9 @@ use Rattle.scql_model.specs.Changing.{edits_of, change_of, transaction_after}
 use Rattle.scql_model.specs.Form.{a_command}
 use Rattle.scql_model.specs.Step.{Answer, answered, stepped}
 use Rattle.scql_model.specs.Writing.{row_inserted}
-use Rattle.scql_model.proofs.RefusalWords.{Gives, Anything, there, asked, gives-inserted, gives-with_edits, not_done-refusal}
+use Rattle.scql_model.proofs.KeepsRows.{inserted-outcome}
+use Rattle.scql_model.proofs.Outcomes.{gives-outcome}
+use Rattle.scql_model.proofs.RefusalWords.{Gives, Anything, there, asked, gives-with_edits, not_done-refusal}
 use Rattle.card_link.specs.Link.{Answered, Holds, IsOneOf}
 use Rattle.script.specs.Commands.{asking, IsSendable}
 use Rattle.script.proofs.Sendable.{asked-sent}
@@ -284,7 +286,7 @@ module _ (d : Machine) (db : Database) (m : Machine) (c : IsCopying d db m) (tab
 
     by-edits : (edits : Result (List Edit) StatusWord) → row_inserted db (actor d 0) table row ≡ edits → answer_to m (asking 0 (Insert table row)) ≡ answered_by (after_edits edits)
         → InsertsSo is_at d db (edits >>= λ edits. with_edits db edits) r now
-    by-edits (Err word) made a = refused-insert word a (not_done-refusal word (subst (Gives Anything) made (gives-inserted db (actor d 0) table row)))
+    by-edits (Err word) made a = refused-insert word a (not_done-refusal word (subst (Gives Anything) made (gives-outcome (row_inserted db (actor d 0) table row) (inserted-outcome db (actor d 0) table row))))
     by-edits (Ok edits) made a = room (with_edits db edits) refl a
       where
         room : (next : Result Database StatusWord) → with_edits db edits ≡ next

@@ -1,8 +1,7 @@
 use Rattle.scql_model.specs.Operations.{operations}
 use Rattle.scql_model.proofs.FormedCommands.{IsWellFormed-form_of, sound-operations}
-use Rattle.scql_model.proofs.KeepsValid.{IsValid-edits_of}
+use Rattle.scql_model.proofs.OperationLaws.{IsValid-edits_of, edits_of-next}
 use Rattle.scql_model.proofs.ReadFits.{FitsCard-form_of}
-use Rattle.scql_model.proofs.RightEdits.{edits_of-next}
 use Rattle.scql_model.proofs.laws.changes.a_change_keeps_a_database_valid.Goals as goal
 
 pub returns-clause-valid : goal.returns-clause-valid
