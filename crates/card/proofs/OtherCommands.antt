@@ -1,27 +1,22 @@
 -- An operation changes the database, reads, or has an arm of its own.
-use Rattle.std.proofs.Common.{◌≡◌, ℕ, Bool, true, false, List, refl}
+use Rattle.std.proofs.Common.{◌≡◌, ℕ, Bool, true, false, not, List, refl}
 use Rattle.scql_base.specs.declared.operation.Operation.{Operation}
 use Rattle.scql_base.specs.declared.operation.Operation.TheVariants as asks
 use Rattle.scql_base.specs.declared.operation.OperationKind.{OperationKind}
-use Rattle.scql_base.specs.declared.operation.OperationKind.TheVariants.{CreateTable, CreateView, CreateDictionary, DropTable, DropView, Grant, Revoke, Insert, Update, Delete, CreateUser, DeleteUser}
+use Rattle.scql_base.specs.declared.operation.OperationKind.TheVariants.{PresentUser, Verify, Begin, Commit, Rollback, OpenChannel, CloseChannel}
 use Rattle.scql_model.specs.Operations.{kind_of}
 use Rattle.card.specs.Reading.{is_reading}
 
--- the operations that change the database; DELETE USER changes sessions besides
+-- the operations that change the database: those that don't read, and aren't of sessions, transactions or channels alone
 abbrev pub is_changing : OperationKind → Bool
-is_changing CreateTable = true
-is_changing CreateView = true
-is_changing CreateDictionary = true
-is_changing DropTable = true
-is_changing DropView = true
-is_changing Grant = true
-is_changing Revoke = true
-is_changing Insert = true
-is_changing Update = true
-is_changing Delete = true
-is_changing CreateUser = true
-is_changing DeleteUser = true
-is_changing kind = false
+is_changing PresentUser = false
+is_changing Verify = false
+is_changing Begin = false
+is_changing Commit = false
+is_changing Rollback = false
+is_changing (OpenChannel number) = false
+is_changing (CloseChannel number) = false
+is_changing kind = not (is_reading kind)
 
 -- an operation that neither reads nor has an arm of its own
 pub record IsNoneOfThose (operation : Operation) : Type 0 where

@@ -1,7 +1,7 @@
 -- GRANT and REVOKE end by proper edits or a refusal, and keep a database valid.
 use Rattle.std.proofs.Common.{◌≡◌, ℕ, ◌≤◌, ◌^◌, ◌==◌, ◌&&◌, ◌||◌, Bool, true, false, not, List, [], ◌∷◌, Option, Some, None, option_map, if◌then◌else◌, refl, sym, subst, inl, inr, arith}
 use Rattle.std.specs.Prelude.{nat_le, nat_lt, bit_or}
-use Rattle.std.specs.List.{find, list_any}
+use Rattle.std.specs.List.{find, list_any, list_all}
 use Rattle.std.specs.Str.{bytes_eq}
 use Rattle.std.proofs.lemmas.Bool.{cases_Bool, and_parts, and_from, eqb-true, eqb-false, eq-eqb, le-leb, leb-true}
 use Rattle.std.proofs.lemmas.Nat.{or_lt, le_or_l}
@@ -15,7 +15,7 @@ use Rattle.scql_model.specs.Records.{of_grant, is_privileges, grant_record, user
 use Rattle.scql_model.specs.Refusals.{or_refused}
 use Rattle.scql_model.specs.Rules.{is_of_pair, is_named, user_named, public_name}
 use Rattle.scql_model.specs.Database.{Database, IsValid}
-use Rattle.scql_model.specs.Rights.{seen_named}
+use Rattle.scql_model.specs.Rights.{all_privileges, has_bit, seen_named}
 use Rattle.scql_model.specs.Defining.{owned_by}
 use Rattle.scql_model.specs.Granting.{grantee_named, is_granted_to, grant_to, more_granted, privileges_granted, privileges_left, less_granted, privileges_revoked}
 use Rattle.scql_model.specs.Edits.{has_record, making, changing, removing}
@@ -168,3 +168,19 @@ revoked-keeps db actor privileges name grantee_name valid =
     bound-gives (Keeps db) (or_refused (grantee_named db grantee_name) not_found) _ λ grantee _.
     bound-gives (Keeps db) (or_refused (grant_to db o grantee) not_found) _ λ g is.
     done-gives (Keeps db) (less_granted g privileges) (less_granted-keeps db (is_granted_to o grantee) g privileges valid (not_refused (grant_to db o grantee) not_found g is))
+
+-- GRANT adds the privileges that it names and no others, and REVOKE takes those, of all that there are
+abbrev numbers : List ℕ
+numbers = 0 ∷ 1 ∷ 2 ∷ 3 ∷ 4 ∷ 5 ∷ 6 ∷ 7 ∷ 8 ∷ 9 ∷ 10 ∷ 11 ∷ 12 ∷ 13 ∷ 14 ∷ 15 ∷ []
+
+abbrev for_all : (ℕ → ℕ → ℕ → Bool) → Bool
+for_all test = list_all (λ a. list_all (λ b. list_all (test a b) all_privileges) numbers) numbers
+
+abbrev alike : Bool → Bool → Bool
+alike a b = if a then b else not b
+
+more_bits : for_all (λ held more bit. alike (has_bit bit (bit_or held more)) (has_bit bit held || has_bit bit more)) ≡ true
+more_bits = refl
+
+fewer_bits : for_all (λ held taken bit. alike (has_bit bit (privileges_left held taken)) (has_bit bit held && not (has_bit bit taken))) ≡ true
+fewer_bits = refl
