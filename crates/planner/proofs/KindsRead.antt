@@ -16,7 +16,8 @@ use Rattle.scql_model.specs.Operations.{operations, comes_in_parts, has_instruct
 use Rattle.scql_model.specs.Parameters.{insert_in, operation_in}
 use Rattle.scql_model.specs.Refusals.{or_refused, provided}
 use Rattle.scql_model.specs.Form.{Form, Tail, data_in, class_of, is_chained, is_open, channel_asked, line_on, taken_in, parts_of, a_command, part_on, part_in, command_in, form_of}
-use Rattle.scql_model.proofs.FormedCommands.{passed, found, read-operation, bound, not_refused, not_unless, refused-not, same_Ok, on_channel, no_part}
+use Rattle.scql_model.proofs.OperationFields.{passed, found, read-operation}
+use Rattle.scql_model.proofs.FormedCommands.{bound, not_refused, not_unless, refused-not, same_Ok, on_channel, no_part}
 
 kind-insert : (limit : ℕ) (strings : List (List ℕ)) (o : Operation) → insert_in limit strings ≡ Some o → kind_of o ≡ kind.Insert
 kind-insert limit (table ∷ values) o is = passed _ (Insert table values) o is (λ _ same. ap kind_of (sym same))

@@ -22,7 +22,8 @@ use Rattle.scql_model.specs.Spelling.{field_of, line_for, cla_of, with_length, l
 use Rattle.scql_model.specs.Step.{step}
 use Rattle.scql_model.specs.ValidMachine.{IsValidMachine}
 use Rattle.scql_model.specs.WellFormed.{HasForm, FitsCard}
-use Rattle.scql_model.proofs.FormedCommands.{both, read-operation, has_channel, wants_le, is_sound, same_Ok, bound, not_refused, on_channel, no_part, line-passes, sound-operations, for_channel-form_of}
+use Rattle.scql_model.proofs.OperationFields.{read-operation, has_channel}
+use Rattle.scql_model.proofs.FormedCommands.{both, wants_le, is_sound, same_Ok, bound, not_refused, on_channel, no_part, line-passes, sound-operations, for_channel-form_of}
 use Rattle.scql_model.proofs.KeepsRows.{within_largest}
 use Rattle.scql_model.proofs.ReadFits.{command-fits, no_parts}
 use Rattle.scql_model.proofs.TailsAgain.{IsLe, tail, tail-again, data-again}

@@ -14,7 +14,7 @@ use Rattle.scql_model.specs.Parameters.{operation_in}
 use Rattle.scql_base.specs.Words.{wrong_data}
 use Rattle.scql_base.specs.declared.operation.Operation.{Operation}
 use Rattle.scql_model.specs.Spelling.{field_of, cla_of, apdu_by, octets_of, HasLine, IsTaken, ReadsAs}
-use Rattle.scql_model.proofs.FieldsAgain.{operation-again}
+use Rattle.scql_model.proofs.OperationFields.{operation-again}
 use Rattle.scql_model.proofs.TailsAgain.{tail, tail-again, data-again}
 use Rattle.scql_model.proofs.LinesFound.{has_instruction-found}
 use Rattle.scql_model.proofs.TakenFields.{Lined-field}

@@ -1,207 +1,30 @@
 -- What is read of octets as a command is well-formed.
-use Rattle.std.proofs.Common.{◌≡◌, ◌≤◌, ◌<◌, ◌+◌, ◌%◌, ℕ, zero, suc, ◌==◌, nat_le, not, ◌&&◌, ◌||◌, Bool, true, false, List, [], ◌∷◌, ◌++◌, length, take, drop, get_or, Option, Some, None, is_some, Result, Ok, Err, if◌then◌else◌, refl, ap, subst, sym, ◌∙◌, arith}
+use Rattle.std.proofs.Common.{◌≡◌, ◌≤◌, ◌<◌, ◌+◌, ◌%◌, ℕ, zero, suc, ◌==◌, not, ◌&&◌, ◌||◌, Bool, true, false, List, [], ◌∷◌, ◌++◌, length, take, get_or, Option, Some, None, is_some, Result, Ok, Err, if◌then◌else◌, refl, ap, subst, sym, ◌∙◌, arith}
 use Rattle.std.specs.Prelude.{IfSome, IfOk, map, slice_get}
 use Rattle.std.specs.List.{list_all, find, concat, Contains}
 use Rattle.std.specs.Result.{result_ok}
 use Rattle.std.proofs.lemmas.Option.{none-some, same_Some}
-use Rattle.std.proofs.lemmas.Bool.{false≢true, leb-true, le-leb}
+use Rattle.std.proofs.lemmas.Bool.{false≢true}
 use Rattle.scql_base.specs.declared.words.StatusWord.{StatusWord}
-use Rattle.scql_base.specs.declared.words.Profile.{Profile}
-use Rattle.scql_base.specs.declared.words.Profile.TheVariants.{DbO, Dboo, Dbbu}
 use Rattle.scql_base.specs.Words.{wrong_data, wrong_length, wrong_parameters, channel_not_supported, chaining_not_supported, instruction_not_supported}
-use Rattle.scql_base.specs.Name.{is_name}
-use Rattle.scql_base.specs.Row.{is_narrow, row_size}
-use Rattle.scql_base.specs.Strings.{params_of}
 use Rattle.scql_base.specs.declared.operation.Command.{Command}
-use Rattle.scql_base.specs.declared.operation.Operation.{Operation}
-use Rattle.scql_base.specs.declared.operation.Operation.TheVariants.{CreateTable, CreateView, CreateDictionary, DropTable, DropView, Grant, Revoke, DeclareCursor, OpenCursor, Next, Fetch, FetchNext, Insert, Update, Delete, Begin, Commit, Rollback, PresentUser, CreateUser, DeleteUser, Verify, OpenChannel, CloseChannel, GetResponse}
 use Rattle.scql_base.specs.declared.operation.OperationKind.{OperationKind}
 use Rattle.scql_base.specs.declared.operation.OperationKind.TheVariants as kind
-use Rattle.scql_model.specs.Records.{is_secret, is_privileges, is_row, is_row_within, subject_of, is_count_of_columns}
 use Rattle.scql_model.specs.Machine.{Chain}
 use Rattle.scql_base.specs.declared.operation.Line.{Line}
 use Rattle.scql_base.specs.declared.operation.Takes.{Takes}
 use Rattle.scql_base.specs.declared.operation.Takes.TheVariants.{Nothing, DataField, LeAlone}
 use Rattle.scql_model.specs.Operations.{is_le_alone, WantsLe, operations, has_instruction, has_secrets, is_for_channel, line_of, comes_in_parts, kind_of}
-use Rattle.scql_model.specs.Parameters as parameters
-use Rattle.scql_model.specs.Parameters.{only_where, are_chosen_columns, are_conditions, are_changes, Choice, conditions_in, choice_in, changes_in, create_table_in, create_view_in, create_dictionary_in, named_in, granted_in, declare_cursor_in, insert_in, update_in, made_profile_of, is_new_secret, create_user_in, is_verified_secret, operation_in}
-use Rattle.scql_model.specs.WellFormed.{HasForm, IsWellFormed}
+use Rattle.scql_model.specs.Parameters.{operation_in}
+use Rattle.scql_model.specs.WellFormed.{IsWellFormed}
 use Rattle.scql_model.specs.Refusals.{◌>>=◌, or_refused, provided}
 use Rattle.scql_model.specs.Form.{class_of, is_chained, is_open, channel_of, Tail, le_of, data_of, tail_of, takes_case, is_case_3, data_in, channel_asked, line_on, taken_in, parts_of, Form, refused, refused_on, part_on, a_command, as_command, formed_on, formed, part_in, command_in, form_of}
 use Rattle.scql_model.proofs.FieldLaws.{AreOctets}
+use Rattle.scql_model.proofs.OperationFields.{has_channel, read-operation}
 
 pub both : (a b : Bool) → a && b ≡ true → (a ≡ true) × (b ≡ true)
 both true b is = (refl, is)
 both false b is = absurd (false≢true is)
-
--- what passed a test
-pub passed : {A P : Type 0} (test : Bool) (x y : A) → only_where test x ≡ Some y → (test ≡ true → x ≡ y → P) → P
-passed true x y is then' = then' refl (same_Some x y is)
-passed false x y is then' = absurd (none-some y is)
-
--- a value came of what went before
-pub found : {A B P : Type 0} (o : Option A) (f : A → Option B) (y : B) → parameters.◌>>=◌ o f ≡ Some y → ((x : A) → o ≡ Some x → f x ≡ Some y → P) → P
-found None f y is then' = absurd (none-some y is)
-found (Some x) f y is then' = then' x refl is
-
--- an operation of a kind whose fields have their forms
-pub record IsRead (asked : OperationKind) (operation : Operation) : Type 0 where
-  pub form : HasForm operation
-  pub kind : kind_of operation ≡ asked
-
-read-is : (operation operation' : Operation) → HasForm operation → operation ≡ operation' → IsRead (kind_of operation) operation'
-read-is operation operation' form is = subst (IsRead (kind_of operation)) is (record { form = form; kind = refl })
-
-read-table : (strings : List (List ℕ)) (o : Operation) → create_table_in strings ≡ Some o → IsRead kind.CreateTable o
-read-table [] o is = absurd (none-some o is)
-read-table (name ∷ columns) o is = passed _ (CreateTable name columns) o is (λ test same. read-is (CreateTable name columns) o (both _ _ test) same)
-
-choice-formed : (strings : List (List ℕ)) (choice : Choice) → choice_in strings ≡ Some choice → (are_chosen_columns choice.columns ≡ true) × (are_conditions choice.conditions ≡ true)
-choice-formed [] choice is = absurd (none-some choice is)
-choice-formed ([] ∷ strings) choice is = absurd (none-some choice is)
-choice-formed ((a ∷ b ∷ rest) ∷ strings) choice is = absurd (none-some choice is)
-choice-formed ((count ∷ []) ∷ strings) choice is = found (conditions_in (drop count strings)) _ choice is (λ conditions at is.
-    passed _ (let c : Choice = record { columns = take count strings; conditions = conditions } in c) choice is (λ test same.
-    subst (λ (c : Choice). (are_chosen_columns c.columns ≡ true) × (are_conditions c.conditions ≡ true)) same
-    (let t = both _ _ test in ((both _ _ t.0).1, t.1))))
-
-read-view : (strings : List (List ℕ)) (o : Operation) → create_view_in strings ≡ Some o → IsRead kind.CreateView o
-read-view [] o is = absurd (none-some o is)
-read-view (name ∷ []) o is = absurd (none-some o is)
-read-view (name ∷ base ∷ strings) o is = found (choice_in strings) _ o is (λ choice at is.
-    passed _ (CreateView name base choice.columns choice.conditions) o is (λ test same.
-    let names = both _ _ test in
-    let chosen = choice-formed strings choice at in
-    read-is (CreateView name base choice.columns choice.conditions) o (names.0, names.1, chosen.0, chosen.1) same))
-
-read-dictionary : (strings : List (List ℕ)) (o : Operation) → create_dictionary_in strings ≡ Some o → IsRead kind.CreateDictionary o
-read-dictionary (name ∷ (code ∷ []) ∷ []) o is = found (subject_of code) _ o is (λ subject at is.
-    passed _ (CreateDictionary name subject) o is (λ test same. read-is (CreateDictionary name subject) o test same))
-read-dictionary [] o is = absurd (none-some o is)
-read-dictionary (name ∷ []) o is = absurd (none-some o is)
-read-dictionary (name ∷ [] ∷ rest) o is = absurd (none-some o is)
-read-dictionary (name ∷ (a ∷ b ∷ rest) ∷ strings) o is = absurd (none-some o is)
-read-dictionary (name ∷ (a ∷ []) ∷ string ∷ strings) o is = absurd (none-some o is)
-
-read-named : (operation : List ℕ → Operation) (asked : OperationKind) → ((name : List ℕ) → is_name name ≡ true → IsRead asked (operation name))
-    → (strings : List (List ℕ)) (o : Operation) → named_in operation strings ≡ Some o → IsRead asked o
-read-named operation asked formed [] o is = absurd (none-some o is)
-read-named operation asked formed (name ∷ string ∷ strings) o is = absurd (none-some o is)
-read-named operation asked formed (name ∷ []) o is = passed (is_name name) (operation name) o is (λ test same. subst (IsRead asked) same (formed name test))
-
-read-granted : (operation : ℕ → List ℕ → List ℕ → Operation) (asked : OperationKind)
-    → ((privileges : ℕ) (object grantee : List ℕ) → (is_privileges privileges ≡ true) × (is_name object ≡ true) × (is_name grantee ≡ true) → IsRead asked (operation privileges object grantee))
-    → (strings : List (List ℕ)) (o : Operation) → granted_in operation strings ≡ Some o → IsRead asked o
-read-granted operation asked formed ((privileges ∷ []) ∷ object ∷ grantee ∷ []) o is =
-    passed _ (operation privileges object grantee) o is (λ test same.
-    let ends = both (is_privileges privileges && is_name object) (is_name grantee) test in
-    let starts = both (is_privileges privileges) (is_name object) ends.0 in
-    subst (IsRead asked) same (formed privileges object grantee (starts.0, starts.1, ends.1)))
-read-granted operation asked formed [] o is = absurd (none-some o is)
-read-granted operation asked formed ([] ∷ strings) o is = absurd (none-some o is)
-read-granted operation asked formed ((a ∷ b ∷ rest) ∷ strings) o is = absurd (none-some o is)
-read-granted operation asked formed ((a ∷ []) ∷ []) o is = absurd (none-some o is)
-read-granted operation asked formed ((a ∷ []) ∷ b ∷ []) o is = absurd (none-some o is)
-read-granted operation asked formed ((a ∷ []) ∷ b ∷ c ∷ d ∷ strings) o is = absurd (none-some o is)
-
-read-cursor : (strings : List (List ℕ)) (o : Operation) → declare_cursor_in strings ≡ Some o → IsRead kind.DeclareCursor o
-read-cursor [] o is = absurd (none-some o is)
-read-cursor (object ∷ strings) o is = found (choice_in strings) _ o is (λ choice at is.
-    passed _ (DeclareCursor object choice.columns choice.conditions) o is (λ test same.
-    let chosen = choice-formed strings choice at in
-    read-is (DeclareCursor object choice.columns choice.conditions) o (test, chosen.0, chosen.1) same))
-
--- a row within a card's limit is one within the largest limit
-row-within : (limit : ℕ) (values : List (List ℕ)) → limit ≤ 1020 → is_row_within limit values ≡ true → is_row values ≡ true
-row-within limit values least is =
-    let t = both (is_count_of_columns (length values) && list_all is_narrow values) (nat_le (row_size values) limit) is in
-    let fits : row_size values ≤ 1020 = omega (arith, leb-true (row_size values) limit t.1) in
-    rw (t.0) (le-leb (row_size values) 1020 fits)
-
-read-insert : (limit : ℕ) → limit ≤ 1020 → (strings : List (List ℕ)) (o : Operation) → insert_in limit strings ≡ Some o → IsRead kind.Insert o
-read-insert limit least [] o is = absurd (none-some o is)
-read-insert limit least (table ∷ values) o is = passed _ (Insert table values) o is (λ test same.
-    let t = both _ _ test in
-    read-is (Insert table values) o (t.0, row-within limit values least t.1) same)
-
-read-update : (strings : List (List ℕ)) (o : Operation) → update_in strings ≡ Some o → IsRead kind.Update o
-read-update strings o is = found (changes_in strings) _ o is (λ changes at is.
-    passed (are_changes changes) (Update changes) o is (λ test same. read-is (Update changes) o test same))
-
--- OWNER's profile isn't asked for
-no_owner : (code : ℕ) (profile : Profile) → made_profile_of code ≡ Some profile → profile ≡ DbO → ⊥
-no_owner code profile is e = go (code == 0x02) (code == 0x03) (is ∙ ap Some e)
-  where
-    other : Profile → Bool
-    other DbO = true
-    other p = false
-
-    go : (two three : Bool) → (if two then Some Dboo else if three then Some Dbbu else None) ≡ Some DbO → ⊥
-    go true three is = false≢true (ap other (same_Some Dboo DbO is))
-    go false true is = false≢true (ap other (same_Some Dbbu DbO is))
-    go false false is = none-some DbO is
-
--- a new user's secret is one
-secret-new : (secrets : Bool) (secret : List ℕ) → is_new_secret secrets secret ≡ true → is_secret secret ≡ true
-secret-new true secret is = is
-secret-new false secret is = rw is refl
-
-read-user : (secrets : Bool) (strings : List (List ℕ)) (o : Operation) → create_user_in secrets strings ≡ Some o → IsRead kind.CreateUser o
-read-user secrets (name ∷ (code ∷ []) ∷ secret ∷ []) o is = found (made_profile_of code) _ o is (λ profile at is.
-    passed _ (CreateUser name profile secret) o is (λ test same.
-    let t = both _ _ test in
-    read-is (CreateUser name profile secret) o (t.0, secret-new secrets secret t.1, no_owner code profile at) same))
-read-user secrets [] o is = absurd (none-some o is)
-read-user secrets (name ∷ []) o is = absurd (none-some o is)
-read-user secrets (name ∷ [] ∷ rest) o is = absurd (none-some o is)
-read-user secrets (name ∷ (a ∷ b ∷ rest) ∷ strings) o is = absurd (none-some o is)
-read-user secrets (name ∷ (a ∷ []) ∷ []) o is = absurd (none-some o is)
-read-user secrets (name ∷ (a ∷ []) ∷ secret ∷ string ∷ strings) o is = absurd (none-some o is)
-
-read-verify : (octets : List ℕ) (o : Operation) → only_where (is_verified_secret octets) (Verify octets) ≡ Some o → IsRead kind.Verify o
-read-verify octets o is = passed (is_verified_secret octets) (Verify octets) o is (λ test same. read-is (Verify octets) o test same)
-
--- an operation without a data field
-read-alone : (operation operation' : Operation) → HasForm operation → Some operation ≡ Some operation' → IsRead (kind_of operation) operation'
-read-alone operation operation' form is = read-is operation operation' form (same_Some operation operation' is)
-
--- the parameters of a data field
-listed : (octets : List ℕ) (f : List (List ℕ) → Option Operation) (asked : OperationKind) → ((strings : List (List ℕ)) (o : Operation) → f strings ≡ Some o → IsRead asked o)
-    → (o : Operation) → parameters.◌>>=◌ (params_of octets) f ≡ Some o → IsRead asked o
-listed octets f asked formed o is = found (params_of octets) f o is (λ strings at is. formed strings o is)
-
--- a number of a channel, in the kinds that have one
-abbrev pub has_channel : OperationKind → Bool
-has_channel (kind.OpenChannel number) = nat_le number 3
-has_channel (kind.CloseChannel number) = nat_le number 3
-has_channel asked = true
-
-pub read-operation : (secrets : Bool) (asked : OperationKind) (limit : ℕ) → limit ≤ 1020 → has_channel asked ≡ true → (octets : List ℕ) (o : Operation) → operation_in secrets asked limit octets ≡ Some o → IsRead asked o
-read-operation secrets kind.CreateTable limit least number octets o is = listed octets create_table_in kind.CreateTable read-table o is
-read-operation secrets kind.CreateView limit least number octets o is = listed octets create_view_in kind.CreateView read-view o is
-read-operation secrets kind.CreateDictionary limit least number octets o is = listed octets create_dictionary_in kind.CreateDictionary read-dictionary o is
-read-operation secrets kind.DropTable limit least number octets o is = listed octets (named_in DropTable) kind.DropTable (read-named DropTable kind.DropTable (λ name test. record { form = test; kind = refl })) o is
-read-operation secrets kind.DropView limit least number octets o is = listed octets (named_in DropView) kind.DropView (read-named DropView kind.DropView (λ name test. record { form = test; kind = refl })) o is
-read-operation secrets kind.Grant limit least number octets o is = listed octets (granted_in Grant) kind.Grant (read-granted Grant kind.Grant (λ privileges object grantee form. record { form = form; kind = refl })) o is
-read-operation secrets kind.Revoke limit least number octets o is = listed octets (granted_in Revoke) kind.Revoke (read-granted Revoke kind.Revoke (λ privileges object grantee form. record { form = form; kind = refl })) o is
-read-operation secrets kind.DeclareCursor limit least number octets o is = listed octets declare_cursor_in kind.DeclareCursor read-cursor o is
-read-operation secrets kind.OpenCursor limit least number octets o is = read-alone OpenCursor o tt is
-read-operation secrets kind.Next limit least number octets o is = read-alone Next o tt is
-read-operation secrets kind.Fetch limit least number octets o is = read-alone Fetch o tt is
-read-operation secrets kind.FetchNext limit least number octets o is = read-alone FetchNext o tt is
-read-operation secrets kind.Insert limit least number octets o is = listed octets (insert_in limit) kind.Insert (read-insert limit least) o is
-read-operation secrets kind.Update limit least number octets o is = listed octets update_in kind.Update read-update o is
-read-operation secrets kind.Delete limit least number octets o is = read-alone Delete o tt is
-read-operation secrets kind.Begin limit least number octets o is = read-alone Begin o tt is
-read-operation secrets kind.Commit limit least number octets o is = read-alone Commit o tt is
-read-operation secrets kind.Rollback limit least number octets o is = read-alone Rollback o tt is
-read-operation secrets kind.PresentUser limit least number octets o is = listed octets (named_in PresentUser) kind.PresentUser (read-named PresentUser kind.PresentUser (λ name test. record { form = test; kind = refl })) o is
-read-operation secrets kind.CreateUser limit least number octets o is = listed octets (create_user_in secrets) kind.CreateUser (read-user secrets) o is
-read-operation secrets kind.DeleteUser limit least number octets o is = listed octets (named_in DeleteUser) kind.DeleteUser (read-named DeleteUser kind.DeleteUser (λ name test. record { form = test; kind = refl })) o is
-read-operation secrets kind.Verify limit least number octets o is = read-verify octets o is
-read-operation secrets (kind.OpenChannel channel) limit least number octets o is = read-alone (OpenChannel channel) o (leb-true channel 3 number) is
-read-operation secrets (kind.CloseChannel channel) limit least number octets o is = read-alone (CloseChannel channel) o (leb-true channel 3 number) is
-read-operation secrets kind.GetResponse limit least number octets o is = read-alone GetResponse o tt is
 
 -- Le is 1 to 256 where it is read of an octet
 abbrev IsLe : Option ℕ → Type 0

@@ -32,7 +32,6 @@ pub mod FewCommits
 pub mod FewerObjects
 pub mod FewerUsers
 pub mod FieldLaws
-pub mod FieldsAgain
 pub mod Folding
 pub mod FormedCommands
 pub mod FormedParts
@@ -59,6 +58,7 @@ pub mod NameOrder
 pub mod Naming
 pub mod NothingWritten
 pub mod ObjectsFollow
+pub mod OperationFields
 pub mod OperationLaws
 pub mod Outcomes
 pub mod PartsAgain

@@ -17,7 +17,7 @@ use Rattle.scql_base.specs.Row.{row_size}
 use Rattle.scql_base.specs.Words.{wrong_data}
 use Rattle.scql_base.specs.declared.operation.Operation.{Operation}
 use Rattle.scql_base.specs.declared.operation.Operation.TheVariants.{Insert}
-use Rattle.scql_model.proofs.FieldsAgain.{operation-again, row-beyond}
+use Rattle.scql_model.proofs.OperationFields.{operation-again, row-beyond}
 use Rattle.scql_model.proofs.CommandsAgain.{part-again, last-again, read_as}
 
 -- Cutting.

@@ -27,7 +27,8 @@ use Rattle.scql_model.specs.Machine.{Chain}
 use Rattle.scql_model.specs.Operations.{kind_of, comes_in_parts, is_le_alone, has_secrets}
 use Rattle.scql_model.specs.Form.{Tail, le_of, data_of, tail_of, takes_case, is_case_3, data_in, is_chained, channel_asked, line_on, taken_in, parts_of, a_command, part_in, command_in, form_of}
 use Rattle.scql_model.proofs.FieldLaws.{AreOctets}
-use Rattle.scql_model.proofs.FormedCommands.{both, passed, found, read-operation, has_channel, wants_le, is_sound, same_Ok, bound, not_refused, on_channel, no_part, line-passes}
+use Rattle.scql_model.proofs.OperationFields.{passed, found, read-operation, has_channel}
+use Rattle.scql_model.proofs.FormedCommands.{both, wants_le, is_sound, same_Ok, bound, not_refused, on_channel, no_part, line-passes}
 
 -- strings spell no more octets than those of which they were read
 pieces-length : (n : ℕ) (octets : List ℕ) (string : List ℕ) (strings : List (List ℕ)) → pieces_of n octets ≡ Some (string, strings) → length string + length (flat_map spelled strings) ≤ length octets

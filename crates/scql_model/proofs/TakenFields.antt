@@ -3,7 +3,7 @@ use Rattle.std.proofs.Common.{◌≡◌, ◌≤◌, ℕ, zero, suc, true, List, 
 use Rattle.std.proofs.lemmas.Bool.{false≢true}
 use Rattle.scql_base.specs.declared.operation.Line.{Line}
 use Rattle.scql_base.specs.declared.operation.Operation.{Operation}
-use Rattle.scql_base.specs.declared.operation.Operation.TheVariants.{CreateTable, CreateView, CreateDictionary, DropTable, DropView, Grant, Revoke, DeclareCursor, OpenCursor, Next, Fetch, FetchNext, Insert, Update, Delete, Begin, Commit, Rollback, PresentUser, CreateUser, DeleteUser, Verify, OpenChannel, CloseChannel, GetResponse}
+use Rattle.scql_base.specs.declared.operation.Operation.TheVariants.{Fetch, FetchNext, Insert, Update, Verify, OpenChannel, CloseChannel, GetResponse}
 use Rattle.scql_base.specs.declared.operation.OperationKind.{OperationKind}
 use Rattle.scql_base.specs.declared.operation.OperationKind.TheVariants as kind
 use Rattle.scql_model.specs.Operations.{operations, WantsLe, comes_in_parts, kind_of}
@@ -54,31 +54,14 @@ closed-taken (suc (suc (suc (suc number)))) le form = absurd (omega (arith, form
 
 field-taken : (operation : Operation) (le : Option ℕ) → HasForm operation → (WantsLe (kind_of operation) → is_some le ≡ true)
     → Takes (line_for operations (kind_of operation)) (kind_of operation) (tail (field_of operation) le)
-field-taken (CreateTable name columns) le form wanted = (refl, refl)
-field-taken (CreateView name base columns conditions) le form wanted = (refl, refl)
-field-taken (CreateDictionary name subject) le form wanted = (refl, refl)
-field-taken (DropTable name) le form wanted = (refl, refl)
-field-taken (DropView name) le form wanted = (refl, refl)
-field-taken (Grant privileges object grantee) le form wanted = (refl, refl)
-field-taken (Revoke privileges object grantee) le form wanted = (refl, refl)
-field-taken (DeclareCursor object columns conditions) le form wanted = (refl, refl)
-field-taken OpenCursor le form wanted = (refl, refl)
-field-taken Next le form wanted = (refl, refl)
 field-taken Fetch le form wanted = (refl, wanted (0, omega arith, refl))
 field-taken FetchNext le form wanted = (refl, wanted (1, omega arith, refl))
-field-taken (Insert table values) le form wanted = (refl, refl)
 field-taken (Update changes) le form wanted = changes-taken changes le form
-field-taken Delete le form wanted = (refl, refl)
-field-taken Begin le form wanted = (refl, refl)
-field-taken Commit le form wanted = (refl, refl)
-field-taken Rollback le form wanted = (refl, refl)
-field-taken (PresentUser name) le form wanted = (refl, refl)
-field-taken (CreateUser name profile secret) le form wanted = (refl, refl)
-field-taken (DeleteUser name) le form wanted = (refl, refl)
 field-taken (Verify secret) le form wanted = verified-taken secret le form
 field-taken (OpenChannel number) le form wanted = opened-taken number le form wanted
 field-taken (CloseChannel number) le form wanted = closed-taken number le form
 field-taken GetResponse le form wanted = (refl, wanted (3, omega arith, refl))
+field-taken operation le form wanted = (refl, refl)
 
 pub Lined-field : (operation : Operation) (le : Option ℕ) → HasForm operation → (WantsLe (kind_of operation) → is_some le ≡ true) → Lined (kind_of operation) (tail (field_of operation) le)
 Lined-field operation le form wanted =
@@ -89,29 +72,7 @@ piece-taken : (operation : Operation) (octet : ℕ) (octets : List ℕ) (le : Op
     → Takes (line_for operations (kind_of operation)) (kind_of operation) (tail (octet ∷ octets) le)
 piece-taken (Insert table values) octet octets le comes = (refl, refl)
 piece-taken (Update changes) octet octets le comes = (refl, refl)
-piece-taken (CreateTable name columns) octet octets le comes = absurd (false≢true comes)
-piece-taken (CreateView name base columns conditions) octet octets le comes = absurd (false≢true comes)
-piece-taken (CreateDictionary name subject) octet octets le comes = absurd (false≢true comes)
-piece-taken (DropTable name) octet octets le comes = absurd (false≢true comes)
-piece-taken (DropView name) octet octets le comes = absurd (false≢true comes)
-piece-taken (Grant privileges object grantee) octet octets le comes = absurd (false≢true comes)
-piece-taken (Revoke privileges object grantee) octet octets le comes = absurd (false≢true comes)
-piece-taken (DeclareCursor object columns conditions) octet octets le comes = absurd (false≢true comes)
-piece-taken OpenCursor octet octets le comes = absurd (false≢true comes)
-piece-taken Next octet octets le comes = absurd (false≢true comes)
-piece-taken Fetch octet octets le comes = absurd (false≢true comes)
-piece-taken FetchNext octet octets le comes = absurd (false≢true comes)
-piece-taken Delete octet octets le comes = absurd (false≢true comes)
-piece-taken Begin octet octets le comes = absurd (false≢true comes)
-piece-taken Commit octet octets le comes = absurd (false≢true comes)
-piece-taken Rollback octet octets le comes = absurd (false≢true comes)
-piece-taken (PresentUser name) octet octets le comes = absurd (false≢true comes)
-piece-taken (CreateUser name profile secret) octet octets le comes = absurd (false≢true comes)
-piece-taken (DeleteUser name) octet octets le comes = absurd (false≢true comes)
-piece-taken (Verify secret) octet octets le comes = absurd (false≢true comes)
-piece-taken (OpenChannel number) octet octets le comes = absurd (false≢true comes)
-piece-taken (CloseChannel number) octet octets le comes = absurd (false≢true comes)
-piece-taken GetResponse octet octets le comes = absurd (false≢true comes)
+piece-taken operation octet octets le comes = absurd (false≢true comes)
 
 pub Lined-piece : (operation : Operation) (octets : List ℕ) (le : Option ℕ) → comes_in_parts (kind_of operation) ≡ true → 1 ≤ length octets → Lined (kind_of operation) (tail octets le)
 Lined-piece operation [] le comes some = absurd (omega (arith, some))

@@ -1,12 +1,13 @@
--- The data fields of commands: which operation the parameters of each ask for (ISO/IEC 7816-7).
-use Rattle.std.specs.Prelude.{ℕ, ◌==◌, nat_le, ◌&&◌, Bool, true, false, List, [], ◌∷◌, length, map, take, drop, Option, Some, None, option_map, option_and_then, if◌then◌else◌}
-use Rattle.std.specs.List.{list_all}
+-- The data fields of commands (ISO/IEC 7816-7): which operation one asks for, and of an operation the form of its fields and the parameters that it is written as.
+use Rattle.std.specs.Prelude.{◌≡◌, ℕ, ◌≤◌, ◌==◌, nat_le, ◌&&◌, Bool, true, false, List, [], ◌∷◌, ◌++◌, length, map, take, drop, Option, Some, None, option_map, option_and_then, if◌then◌else◌}
+use Rattle.std.specs.List.{flat_map, list_all}
 use Rattle.scql_base.specs.declared.words.TheConstants.Profile.{DBOO, DBBU}
 use Rattle.scql_base.specs.declared.name_list.TheConstants.NameList.{MOST}
-use Rattle.scql_base.specs.declared.operation.TheConstants.Command.{LONGEST_DATA}
+use Rattle.scql_base.specs.declared.operation.TheConstants.Command.{LAST_CHANNEL, LONGEST_DATA}
 use Rattle.scql_base.specs.declared.words.Profile.{Profile}
-use Rattle.scql_base.specs.declared.words.Profile.TheVariants.{Dboo, Dbbu}
+use Rattle.scql_base.specs.declared.words.Profile.TheVariants.{DbO, Dboo, Dbbu}
 use Rattle.scql_base.specs.declared.condition.Condition.{Condition}
+use Rattle.scql_base.specs.Changes.{change_strings}
 use Rattle.scql_base.specs.Name.{is_name}
 use Rattle.scql_base.specs.Row.{is_narrow}
 use Rattle.scql_base.specs.Strings.{params_of}
@@ -14,7 +15,7 @@ use Rattle.scql_base.specs.declared.operation.Operation.{Operation}
 use Rattle.scql_base.specs.declared.operation.Operation.TheVariants.{CreateTable, CreateView, CreateDictionary, DropTable, DropView, Grant, Revoke, DeclareCursor, OpenCursor, Next, Fetch, FetchNext, Insert, Update, Delete, Begin, Commit, Rollback, PresentUser, CreateUser, DeleteUser, Verify, OpenChannel, CloseChannel, GetResponse}
 use Rattle.scql_base.specs.declared.operation.OperationKind.{OperationKind}
 use Rattle.scql_base.specs.declared.operation.OperationKind.TheVariants as kind
-use Rattle.scql_model.specs.Records.{subject_of, comparison_of, is_secret, is_privileges, is_count_of_columns, is_count_of_conditions, is_row_within}
+use Rattle.scql_model.specs.Records.{profile_code, subject_code, subject_of, comparison_code, comparison_of, is_secret, is_privileges, is_count_of_columns, is_count_of_conditions, is_row, is_row_within}
 use Rattle.scql_model.specs.Database.{are_different}
 
 -- one value and then the next; where there is none there is none
@@ -59,6 +60,10 @@ conditions_in (column ∷ (code ∷ []) ∷ value ∷ strings) =
     (comparison_of code)
 conditions_in strings = None
 
+-- a condition's parameters
+abbrev pub condition_strings : Condition → List (List ℕ)
+condition_strings c = c.column ∷ (comparison_code c.comparison ∷ []) ∷ c.value ∷ []
+
 -- the number of columns in one octet, so many names, and conditions to the end
 abbrev pub choice_in : List (List ℕ) → Option Choice
 choice_in ((count ∷ []) ∷ strings) = do
@@ -67,6 +72,10 @@ choice_in ((count ∷ []) ∷ strings) = do
       (nat_le count (length strings) && are_chosen_columns (take count strings) && are_conditions conditions)
       (record { columns = take count strings; conditions = conditions })
 choice_in strings = None
+
+-- the parameters of a choice
+abbrev pub choice_strings : List (List ℕ) → List Condition → List (List ℕ)
+choice_strings columns conditions = (length columns ∷ []) ∷ (columns ++ flat_map condition_strings conditions)
 
 -- a change is two parameters: a name and a value
 abbrev pub changes_in : List (List ℕ) → Option (List (List ℕ × List ℕ))
@@ -175,3 +184,49 @@ operation_in secrets kind.Verify limit octets = only_where (is_verified_secret o
 operation_in secrets (kind.OpenChannel number) limit octets = Some (OpenChannel number)
 operation_in secrets (kind.CloseChannel number) limit octets = Some (CloseChannel number)
 operation_in secrets kind.GetResponse limit octets = Some GetResponse
+
+-- The fields of an operation have the forms of its data field. A row is within the largest limit that a card may have; nobody is made with the profile of OWNER.
+abbrev pub HasForm : Operation → Type 0
+HasForm (CreateTable name columns) = (is_name name ≡ true) × (are_columns columns ≡ true)
+HasForm (CreateView name base columns conditions) =
+    (is_name name ≡ true) × (is_name base ≡ true) × (are_chosen_columns columns ≡ true) × (are_conditions conditions ≡ true)
+HasForm (CreateDictionary name subject) = is_name name ≡ true
+HasForm (DropTable name) = is_name name ≡ true
+HasForm (DropView name) = is_name name ≡ true
+HasForm (Grant privileges object grantee) = (is_privileges privileges ≡ true) × (is_name object ≡ true) × (is_name grantee ≡ true)
+HasForm (Revoke privileges object grantee) = (is_privileges privileges ≡ true) × (is_name object ≡ true) × (is_name grantee ≡ true)
+HasForm (DeclareCursor object columns conditions) = (is_name object ≡ true) × (are_chosen_columns columns ≡ true) × (are_conditions conditions ≡ true)
+HasForm OpenCursor = Unit {0}
+HasForm Next = Unit {0}
+HasForm Fetch = Unit {0}
+HasForm FetchNext = Unit {0}
+HasForm (Insert table values) = (is_name table ≡ true) × (is_row values ≡ true)
+HasForm (Update changes) = are_changes changes ≡ true
+HasForm Delete = Unit {0}
+HasForm Begin = Unit {0}
+HasForm Commit = Unit {0}
+HasForm Rollback = Unit {0}
+HasForm (PresentUser name) = is_name name ≡ true
+HasForm (CreateUser name profile secret) = (is_name name ≡ true) × (is_secret secret ≡ true) × (profile ≡ DbO → ⊥)
+HasForm (DeleteUser name) = is_name name ≡ true
+HasForm (Verify secret) = is_verified_secret secret ≡ true
+HasForm (OpenChannel number) = number ≤ LAST_CHANNEL
+HasForm (CloseChannel number) = number ≤ LAST_CHANNEL
+HasForm GetResponse = Unit {0}
+
+-- the parameters of an operation
+abbrev pub parameters_of : Operation → List (List ℕ)
+parameters_of (CreateTable name columns) = name ∷ columns
+parameters_of (CreateView name base columns conditions) = name ∷ base ∷ choice_strings columns conditions
+parameters_of (CreateDictionary name subject) = name ∷ (subject_code subject ∷ []) ∷ []
+parameters_of (DropTable name) = name ∷ []
+parameters_of (DropView name) = name ∷ []
+parameters_of (Grant privileges object grantee) = (privileges ∷ []) ∷ object ∷ grantee ∷ []
+parameters_of (Revoke privileges object grantee) = (privileges ∷ []) ∷ object ∷ grantee ∷ []
+parameters_of (DeclareCursor object columns conditions) = object ∷ choice_strings columns conditions
+parameters_of (Insert table values) = table ∷ values
+parameters_of (Update changes) = flat_map change_strings changes
+parameters_of (PresentUser name) = name ∷ []
+parameters_of (CreateUser name profile secret) = name ∷ (profile_code profile ∷ []) ∷ secret ∷ []
+parameters_of (DeleteUser name) = name ∷ []
+parameters_of operation = []

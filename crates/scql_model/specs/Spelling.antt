@@ -1,48 +1,21 @@
--- The spelling of commands (ISO/IEC 7816-4, command APDU; ISO/IEC 7816-7 for the parameters of SCQL): the octets that a command is written as, whole or in parts.
+-- The spelling of commands (ISO/IEC 7816-4, command APDU): the octets that a command is written as, whole or in parts.
 use Rattle.std.specs.Prelude.{◌≡◌, slice_get, ℕ, zero, suc, ◌+◌, ◌*◌, ◌/◌, ◌%◌, max, nat_le, nat_lt, Bool, true, false, List, [], ◌∷◌, ◌++◌, length, take, drop, Option, Some, None, if◌then◌else◌}
 use Rattle.std.specs.List.{find, flat_map}
 use Rattle.std.specs.Option.{option_map_or}
 use Rattle.scql_base.specs.declared.operation.TheConstants.Command.{LONGEST_DATA, LONGEST_IN_PARTS}
-use Rattle.scql_base.specs.declared.condition.Condition.{Condition}
 use Rattle.scql_base.specs.declared.operation.Command.{Command}
 use Rattle.scql_base.specs.declared.operation.Line.{Line}
 use Rattle.scql_base.specs.declared.operation.Operation.{Operation}
-use Rattle.scql_base.specs.declared.operation.Operation.TheVariants.{CreateTable, CreateView, CreateDictionary, DropTable, DropView, Grant, Revoke, DeclareCursor, Insert, Update, PresentUser, CreateUser, DeleteUser, Verify}
+use Rattle.scql_base.specs.declared.operation.Operation.TheVariants.{Insert, CreateUser, Verify}
 use Rattle.scql_base.specs.declared.operation.OperationKind.{OperationKind}
 use Rattle.scql_base.specs.contracts.operation.OperationKindPartialEq.TheImpl.{ghosts}
-use Rattle.scql_base.specs.Changes.{change_strings}
 use Rattle.scql_base.specs.Row.{row_size}
 use Rattle.scql_base.specs.Strings.{spelled}
 use Rattle.scql_model.specs.Form.{Form, parts_of, form_of}
 use Rattle.scql_model.specs.Machine.{Chain}
 use Rattle.scql_model.specs.Operations.{operations, line_of, comes_in_parts, kind_of}
 use Rattle.scql_model.specs.Parameters.{is_new_secret}
-use Rattle.scql_model.specs.Records.{comparison_code, profile_code, subject_code}
-
--- a condition is three parameters: a name, one octet for the comparison, and a value
-abbrev pub condition_strings : Condition → List (List ℕ)
-condition_strings c = c.column ∷ (comparison_code c.comparison ∷ []) ∷ c.value ∷ []
-
--- the number of columns in one octet, their names, and conditions
-abbrev pub choice_strings : List (List ℕ) → List Condition → List (List ℕ)
-choice_strings columns conditions = (length columns ∷ []) ∷ (columns ++ flat_map condition_strings conditions)
-
--- the parameters of an operation
-abbrev pub parameters_of : Operation → List (List ℕ)
-parameters_of (CreateTable name columns) = name ∷ columns
-parameters_of (CreateView name base columns conditions) = name ∷ base ∷ choice_strings columns conditions
-parameters_of (CreateDictionary name subject) = name ∷ (subject_code subject ∷ []) ∷ []
-parameters_of (DropTable name) = name ∷ []
-parameters_of (DropView name) = name ∷ []
-parameters_of (Grant privileges object grantee) = (privileges ∷ []) ∷ object ∷ grantee ∷ []
-parameters_of (Revoke privileges object grantee) = (privileges ∷ []) ∷ object ∷ grantee ∷ []
-parameters_of (DeclareCursor object columns conditions) = object ∷ choice_strings columns conditions
-parameters_of (Insert table values) = table ∷ values
-parameters_of (Update changes) = flat_map change_strings changes
-parameters_of (PresentUser name) = name ∷ []
-parameters_of (CreateUser name profile secret) = name ∷ (profile_code profile ∷ []) ∷ secret ∷ []
-parameters_of (DeleteUser name) = name ∷ []
-parameters_of operation = []
+pub use Rattle.scql_model.specs.Parameters.{condition_strings, choice_strings, parameters_of}
 
 -- The data field: the bare secret of VERIFY; of each other operation its parameters, each a length octet and its octets.
 abbrev pub field_of : Operation → List ℕ
