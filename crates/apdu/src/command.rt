@@ -12,7 +12,8 @@ ghost use Rattle.apdu.specs.Writing.{HasPart, IsOnePart, field_fits, size_in_par
 use crate::field::{Field, has_field};
 use crate::parts::longest_field;
 use crate::reading::Apdu;
-use crate::writing::{CommandOctets, kind_of, parts_for, put_part};
+use crate::table::kind_of;
+use crate::writing::{CommandOctets, parts_for, put_part};
 use scql_base::{Command, Operation, StatusWord};
 
 /// Commands in octets.

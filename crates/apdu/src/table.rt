@@ -4,7 +4,7 @@ ghost use Rattle.std.specs.List.{find, list_any};
 ghost use Rattle.scql_model.specs.Operations as table;
 ghost use Rattle.scql_model.specs.Spelling as spelling;
 
-use scql_base::{Line, OperationKind, Takes};
+use scql_base::{Line, Operation, OperationKind, Takes};
 
 macro_rules! operation {
     ($ins:literal $p1:literal $p2:literal $kind:ident $({ number: $number:literal })?, $takes:ident) => {
@@ -107,6 +107,39 @@ fn find_line(lines: &[Line], ins: u8, p1: u8, p2: u8) -> Option<Line>
     ensures { result ≡ find (λ line. line.ins == ins && line.p1 == p1 && line.p2 == p2) lines.now }
 {
     lines.iter().copied().find(|line| is_for(line, ins, p1, p2))
+}
+
+// Which operation a command asks for.
+pub(crate) fn kind_of(operation: &Operation) -> OperationKind
+    ensures { result ≡ table.kind_of operation.now }
+{
+    match operation {
+        Operation::CreateTable { .. } => OperationKind::CreateTable,
+        Operation::CreateView { .. } => OperationKind::CreateView,
+        Operation::CreateDictionary { .. } => OperationKind::CreateDictionary,
+        Operation::DropTable { .. } => OperationKind::DropTable,
+        Operation::DropView { .. } => OperationKind::DropView,
+        Operation::Grant { .. } => OperationKind::Grant,
+        Operation::Revoke { .. } => OperationKind::Revoke,
+        Operation::DeclareCursor { .. } => OperationKind::DeclareCursor,
+        Operation::OpenCursor => OperationKind::OpenCursor,
+        Operation::Next => OperationKind::Next,
+        Operation::Fetch => OperationKind::Fetch,
+        Operation::FetchNext => OperationKind::FetchNext,
+        Operation::Insert { .. } => OperationKind::Insert,
+        Operation::Update { .. } => OperationKind::Update,
+        Operation::Delete => OperationKind::Delete,
+        Operation::Begin => OperationKind::Begin,
+        Operation::Commit => OperationKind::Commit,
+        Operation::Rollback => OperationKind::Rollback,
+        Operation::PresentUser { .. } => OperationKind::PresentUser,
+        Operation::CreateUser { .. } => OperationKind::CreateUser,
+        Operation::DeleteUser { .. } => OperationKind::DeleteUser,
+        Operation::Verify { .. } => OperationKind::Verify,
+        Operation::OpenChannel { number } => OperationKind::OpenChannel { number: *number },
+        Operation::CloseChannel { number } => OperationKind::CloseChannel { number: *number },
+        Operation::GetResponse => OperationKind::GetResponse,
+    }
 }
 
 // The line of an operation.

@@ -1,48 +1,14 @@
 // Command APDUs, written (ISO/IEC 7816-4): CLA, INS, P1 and P2, the data with Lc, and Le.
 ghost use Rattle.std.specs.Prelude.{◌≡◌, ◌<◌, ◌≤◌, ◌*◌, ◌++◌, None, if◌then◌else◌, length};
-ghost use Rattle.scql_model.specs.Operations as table;
 ghost use Rattle.scql_model.specs.Spelling as spelling;
 ghost use Rattle.apdu.specs.Writing.{part_of};
 
-use crate::table::line_for;
+use crate::table::{kind_of, line_for};
 use arrayvec::ArrayVec;
-use scql_base::{Command, Line, Operation, OperationKind};
+use scql_base::{Command, Line};
 
 /// The octets of a command APDU.
 pub type CommandOctets = ArrayVec<u8, 261>;
-
-// Which operation a command asks for.
-pub(crate) fn kind_of(operation: &Operation) -> OperationKind
-    ensures { result ≡ table.kind_of operation.now }
-{
-    match operation {
-        Operation::CreateTable { .. } => OperationKind::CreateTable,
-        Operation::CreateView { .. } => OperationKind::CreateView,
-        Operation::CreateDictionary { .. } => OperationKind::CreateDictionary,
-        Operation::DropTable { .. } => OperationKind::DropTable,
-        Operation::DropView { .. } => OperationKind::DropView,
-        Operation::Grant { .. } => OperationKind::Grant,
-        Operation::Revoke { .. } => OperationKind::Revoke,
-        Operation::DeclareCursor { .. } => OperationKind::DeclareCursor,
-        Operation::OpenCursor => OperationKind::OpenCursor,
-        Operation::Next => OperationKind::Next,
-        Operation::Fetch => OperationKind::Fetch,
-        Operation::FetchNext => OperationKind::FetchNext,
-        Operation::Insert { .. } => OperationKind::Insert,
-        Operation::Update { .. } => OperationKind::Update,
-        Operation::Delete => OperationKind::Delete,
-        Operation::Begin => OperationKind::Begin,
-        Operation::Commit => OperationKind::Commit,
-        Operation::Rollback => OperationKind::Rollback,
-        Operation::PresentUser { .. } => OperationKind::PresentUser,
-        Operation::CreateUser { .. } => OperationKind::CreateUser,
-        Operation::DeleteUser { .. } => OperationKind::DeleteUser,
-        Operation::Verify { .. } => OperationKind::Verify,
-        Operation::OpenChannel { number } => OperationKind::OpenChannel { number: *number },
-        Operation::CloseChannel { number } => OperationKind::CloseChannel { number: *number },
-        Operation::GetResponse => OperationKind::GetResponse,
-    }
-}
 
 // The least number of parts that hold a data field of so many octets, and at least 1.
 pub(crate) fn parts_for(size: usize) -> u8

@@ -51,8 +51,7 @@ impl<'d, 'c> AtCursor<'d, 'c> {
                 .database
                 .view_created(actor, name, base, columns, conditions),
             Operation::CreateDictionary { name, subject } => {
-                let subject = *subject;
-                database.object_created(actor, name, ObjectKind::Dictionary { subject })
+                database.object_created(actor, name, ObjectKind::Dictionary { subject: *subject })
             }
             Operation::DropTable { name } => database.table_dropped(actor, name),
             Operation::DropView { name } => database.view_dropped(actor, name),
