@@ -4,7 +4,6 @@ pub mod Comparing
 pub mod NamedUser
 pub mod OnChannels
 pub mod PairsFound
-pub mod PrivilegesChanged
 pub mod Tries
 pub mod UserDeleted
 pub mod Verdicts

@@ -1,10 +1,10 @@
--- The pair of GRANT and REVOKE, and the one grant of it.
-use Rattle.std.proofs.Common.{◌≡◌, ℕ, ◌≤◌, ◌==◌, true, false, List, count_by, Option, Some, None, Result, Ok, Err, refl, sym, subst, ◌∙◌}
+-- The pair of GRANT and REVOKE, and the one grant of it; what is found first, and then what is done with it.
+use Rattle.std.proofs.Common.{◌≡◌, ℕ, ◌≤◌, ◌==◌, true, false, List, count_by, Option, Some, None, Result, Ok, Err, refl, sym, ap, subst, ◌∙◌}
 use Rattle.std.specs.Prelude.{IfSome}
 use Rattle.std.specs.List.{find}
 use Rattle.std.specs.Result.{IsErrAnd}
 use Rattle.std.specs.Str.{bytes_eq}
-use Rattle.std.proofs.lemmas.Bool.{and_parts, and_from, eqb-true, eq-eqb}
+use Rattle.std.proofs.lemmas.Bool.{and_parts, and_from, eqb-true, eq-eqb, ltb-false}
 use Rattle.eeprom.specs.Chip.{Chip}
 use Rattle.record_store.specs.Held.{Held}
 use Rattle.record_store.specs.declared.side.Side.{Side}
@@ -12,15 +12,19 @@ use Rattle.scql_base.specs.Words.{not_found}
 use Rattle.scql_base.specs.declared.records.Grant.{Grant}
 use Rattle.scql_base.specs.declared.records.User.{User}
 use Rattle.scql_base.specs.declared.words.StatusWord.{StatusWord}
-use Rattle.scql_model.specs.Database.{Database, public_name, user_named}
+use Rattle.scql_model.specs.Database.{Database, public_name, user_named, weight}
+use Rattle.scql_model.specs.Edits.{Edit, applied, with_edits}
 use Rattle.scql_model.specs.Granting.{grantee_named}
-use Rattle.scql_model.specs.Refusals.{or_refused}
+use Rattle.scql_model.specs.Refusals.{◌>>=◌, or_refused}
 use Rattle.scql_model.specs.Rules.{is_of_pair}
+use Rattle.scql_model.proofs.ChangeLaws.{AreMade-with_edits}
+use Rattle.scql_model.proofs.Keeping.{Keeps}
+use Rattle.scql_model.proofs.RightEdits.{Gives}
 use Rattle.catalog_codec.specs.Catalog.{grant_kind}
 use Rattle.privilege_table.specs.Granted.{is_pair}
 use Rattle.privilege_table.proofs.Seen.{told-held}
 use Rattle.record_table.specs.Listed.{listed, slots_of}
-use Rattle.record_table.specs.Making.{IsHeld}
+use Rattle.record_table.specs.Making.{Ends, IsHeld, IsValidWith}
 use Rattle.record_table.specs.declared.stop.Stop.{Stop}
 use Rattle.record_table.specs.declared.stop.Stop.TheVariants.{Refused, Fault}
 use Rattle.db_access.specs.Asked.{AnswersNamed}
@@ -32,6 +36,27 @@ pub Answers-stopped : {S T U V : Type 0} (part : T → S) (whole : V → U) (of_
 Answers-stopped part whole of_part of_whole (Ok x) stop gives answers refuses = absurd gives
 Answers-stopped part whole of_part of_whole (Err given) (Refused word) gives answers refuses = subst (λ stop. AnswersNamed whole of_whole (Err stop)) (sym gives) (refuses word answers)
 Answers-stopped part whole of_part of_whole (Err given) Fault gives answers refuses = subst (λ stop. AnswersNamed whole of_whole (Err stop)) (sym gives) tt
+
+-- an operation whose search is refused is refused by the same word
+pub Ends-unfound : {S T U : Type 0} (named : T → S) (asked : Result S StatusWord) (db : Database) (outcome : Result (List Edit) StatusWord) (result : Result U Stop) (stop : Stop) (store : Held) (before after : Chip)
+    → IsErrAnd result (λ given. given ≡ stop) → AnswersNamed named asked (Err stop) → ((word : StatusWord) → asked ≡ Err word → outcome ≡ Err word) → after ≡ before → Ends db outcome result store store before after
+Ends-unfound named asked db outcome (Ok x) stop store before after gives answers refuses same = absurd gives
+Ends-unfound {S} {T} {U} named asked db outcome (Err given) (Refused word) store before after gives answers refuses same =
+    subst (λ stop. Ends {T = U} db outcome (Err stop) store store before after) (sym gives) (ap (λ outcome. outcome >>= with_edits db) (refuses word answers), refl, same)
+Ends-unfound {S} {T} {U} named asked db outcome (Err given) Fault store before after gives answers refuses same = subst (λ stop. Ends {T = U} db outcome (Err stop) store store before after) (sym gives) tt
+
+-- two things are found one after the other, and then what is done with both
+pub paired : {A B C : Type 0} (a : Result A StatusWord) (b : Result B StatusWord) (done : A → B → Result C StatusWord) → (a >>= λ x. b >>= λ y. done x y) ≡ ((a >>= λ x. b >>= λ y. Ok (x, y)) >>= λ (p : A × B). done p.0 p.1)
+paired (Err word) b done = refl
+paired (Ok x) (Err word) done = refl
+paired (Ok x) (Ok y) done = refl
+
+-- the database with edits that keep it valid where there is room for them is valid
+pub IsValidWith-kept : (db : Database) (outcome : Result (List Edit) StatusWord) (edits : List Edit) → Gives (Keeps db) outcome → outcome ≡ Ok edits → IsValidWith db edits
+IsValidWith-kept db outcome edits keeps is = λ room.
+    let new = applied db edits in
+    let made = AreMade-with_edits db edits new (rw room refl) in
+    keeps.each edits is (record { stamps_left = made.stamps_left; room = ltb-false new.cells (weight new) made.room })
 
 -- a grantee is a user, if it isn't PUBLIC
 pub grantee-found : (db : Database) (name : List ℕ) (u : User) → bytes_eq name public_name ≡ false → user_named db.users name ≡ Some u → or_refused (grantee_named db name) not_found ≡ Ok u.stamp

@@ -9,7 +9,7 @@ use Rattle.record_table.specs.Changed.{IsEmptied}
 use Rattle.record_table.proofs.Steps.{committed-stays}
 use Rattle.record_table.proofs.SweptSlots.{emptied-told}
 use Rattle.row_table.proofs.Endings.{Ended-before, Ended-in_memory}
-use Rattle.db_access.proofs.PrivilegesChanged.{Ends-unfound}
+use Rattle.db_access.proofs.PairsFound.{Ends-unfound}
 use Rattle.db_access.proofs.UserDeleted.{KeepsRows-user_deleted, Makes-user_deleted}
 use Rattle.db_access.proofs.deleting.delete_user.Goals as goal
 

@@ -1,24 +1,71 @@
 -- The grant with fewer privileges is the model's, and so is the database with it, or without it.
-use Rattle.std.proofs.Common.{rules, ◌≡◌, ℕ, List, [], ◌∷◌, None, Some, Ok, refl, sym, ap, ◌∙◌}
+use Rattle.std.proofs.Common.{rules, ◌≡◌, ℕ, ◌==◌, List, [], ◌∷◌, Option, None, Some, Result, Ok, Err, if◌then◌else◌, refl, sym, ap, ◌∙◌, inl, inr}
+use Rattle.std.proofs.lemmas.Bool.{cases_Bool}
+use Rattle.std.proofs.lemmas.Option.{none-some, same_Some}
 use Rattle.record_store.specs.declared.side.Side.TheVariants.{Working}
 use Rattle.scql_base.specs.Words.{not_found}
 use Rattle.scql_base.specs.declared.records.Grant.{Grant}
+use Rattle.scql_base.specs.declared.records.Object.{Object}
 use Rattle.scql_base.specs.declared.words.Actor.{Actor}
-use Rattle.scql_model.specs.Database.{Database}
-use Rattle.scql_model.specs.Edits.{changing, removing, with_edits}
-use Rattle.scql_model.specs.Granting.{grant_to, less_granted, privileges_revoked}
+use Rattle.scql_base.specs.declared.words.StatusWord.{StatusWord}
+use Rattle.scql_model.specs.Database.{Database, IsValid}
+use Rattle.scql_model.specs.Defining.{owned_by}
+use Rattle.scql_model.specs.Edits.{Edit, changing, removing, with_edits}
+use Rattle.scql_model.specs.Granting.{grant_to, grantee_named, less_granted, privileges_left, privileges_revoked}
 use Rattle.scql_model.specs.Records.{of_grant}
 use Rattle.scql_model.specs.Refusals.{◌>>=◌, or_refused}
+use Rattle.scql_model.specs.Rights.{seen_named}
+use Rattle.scql_model.proofs.KeepsGrants.{revoked-keeps}
 use Rattle.catalog_codec.specs.Catalog.{grant_kind, row_kind}
 use Rattle.catalog_codec.specs.KindLaws.{HaveOtherMarks-sym}
 use Rattle.catalog_codec.specs.CatalogLaws.{HaveOtherMarks-row-grant}
+use Rattle.record_table.specs.Making.{IsValidWith}
 use Rattle.record_table.proofs.Asking.{same-slots}
 use Rattle.row_table.proofs.Endings.{Ended-after, Ended-before, Ended-in_memory}
 use Rattle.db_access.specs.Pairs.{pair_named}
 use Rattle.db_access.specs.declared.pairs.Pair.{Pair}
-use Rattle.db_access.proofs.PairsFound.{pair-held}
-use Rattle.db_access.proofs.PrivilegesChanged.{Ends-unfound, left-none, left-some, revokes, revokes-none, valid-revoked}
+use Rattle.db_access.proofs.PairsFound.{Ends-unfound, IsValidWith-kept, pair-held, paired}
 use Rattle.db_access.proofs.revoking.revoke.Goals as goal
+
+abbrev revoking : Database → ℕ → Object → ℕ → Result (List Edit) StatusWord
+revoking db privileges o grantee = or_refused (grant_to db o grantee) not_found >>= λ (g : Grant). Ok (less_granted g privileges)
+
+revoked : (db : Database) (actor : Actor) (privileges : ℕ) (name grantee_name : List ℕ)
+    → privileges_revoked db actor privileges name grantee_name ≡ (pair_named db actor name grantee_name >>= λ (p : Object × ℕ). revoking db privileges p.0 p.1)
+unfolding privileges_revoked
+revoked db actor privileges name grantee_name = paired (owned_by actor (seen_named db actor name)) (or_refused (grantee_named db grantee_name) not_found) (revoking db privileges)
+
+-- where there is no such pair nothing is revoked
+revokes-none : (db : Database) (actor : Actor) (privileges : ℕ) (name grantee_name : List ℕ) (word : StatusWord) → pair_named db actor name grantee_name ≡ Err word
+    → privileges_revoked db actor privileges name grantee_name ≡ Err word
+revokes-none db actor privileges name grantee_name word none = revoked db actor privileges name grantee_name ∙ ap (λ r. r >>= λ (p : Object × ℕ). revoking db privileges p.0 p.1) none
+
+-- where there is one
+revokes : (db : Database) (actor : Actor) (privileges : ℕ) (name grantee_name : List ℕ) (o : Object) (grantee : ℕ) → pair_named db actor name grantee_name ≡ Ok (o, grantee)
+    → privileges_revoked db actor privileges name grantee_name ≡ revoking db privileges o grantee
+revokes db actor privileges name grantee_name o grantee pair = revoked db actor privileges name grantee_name ∙ ap (λ r. r >>= λ (p : Object × ℕ). revoking db privileges p.0 p.1) pair
+
+-- the database stays valid
+valid-revoked : (db : Database) (actor : Actor) (privileges : ℕ) (name grantee_name : List ℕ) (edits : List Edit) → IsValid db → privileges_revoked db actor privileges name grantee_name ≡ Ok edits → IsValidWith db edits
+valid-revoked db actor privileges name grantee_name edits valid is =
+    IsValidWith-kept db (privileges_revoked db actor privileges name grantee_name) edits (revoked-keeps db actor privileges name grantee_name valid) is
+
+-- what is left of a grant
+left-none : (given : Grant) (privileges : ℕ) (left : Option ℕ) → left ≡ (if privileges_left given.privileges privileges == 0 then None else Some (privileges_left given.privileges privileges)) → left ≡ None
+    → less_granted given privileges ≡ removing (of_grant given) ∷ []
+left-none given privileges left is none =
+    elim (cases_Bool (privileges_left given.privileges privileges == 0)) [
+      | inl t ↦ rw t refl
+      | inr f ↦ absurd (none-some (privileges_left given.privileges privileges) (sym none ∙ (rw f at is)))
+    ]
+
+left-some : (given : Grant) (privileges bits : ℕ) (left : Option ℕ) → left ≡ (if privileges_left given.privileges privileges == 0 then None else Some (privileges_left given.privileges privileges)) → left ≡ Some bits
+    → less_granted given privileges ≡ changing (of_grant (record given { privileges = bits })) ∷ []
+left-some given privileges bits left is some =
+    elim (cases_Bool (privileges_left given.privileges privileges == 0)) [
+      | inl t ↦ absurd (none-some bits (sym (rw t at is) ∙ some))
+      | inr f ↦ rw f (ap (λ (n : ℕ). changing (of_grant (record given { privileges = n })) ∷ []) (same_Some (privileges_left given.privileges privileges) bits (sym (rw f at is) ∙ some)))
+    ]
 
 pub returns-in_err-pair : goal.returns-in_err-pair
 returns-in_err-pair g c = Ended-before c.requires.open.stand (search rules) (search rules) (λ db held any.
