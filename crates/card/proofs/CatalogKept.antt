@@ -18,7 +18,7 @@ use Rattle.scql_model.specs.Database.{Database}
 use Rattle.scql_model.specs.Edits.{Edit, applied, lacks_room}
 use Rattle.scql_model.specs.Operations.{kind_of}
 use Rattle.scql_model.specs.Writing.{Assignment, row_deleted, row_inserted, row_updated}
-use Rattle.scql_model.proofs.RightEdits.{Gives, bound-gives, done-gives}
+use Rattle.scql_model.proofs.RightEdits.{Yields, bound-yields, done-yields}
 use Rattle.catalog_codec.specs.Catalog.{grant_kind, object_kind, user_kind}
 use Rattle.record_table.specs.AtRest.{IsAtRest}
 use Rattle.record_table.specs.Listed.{listed, slots_of}
@@ -34,21 +34,21 @@ LeaveCatalog db edits = HaveSameCatalog db (applied db edits)
 leaving : (db : Database) (edits : List Edit) → (applied db edits).users ≡ db.users → (applied db edits).objects ≡ db.objects → (applied db edits).grants ≡ db.grants → LeaveCatalog db edits
 leaving db edits users objects grants = record { users = users; objects = objects; grants = grants }
 
-ruleset leaving_catalog = (bound-gives, done-gives, leaving)
+ruleset leaving_catalog = (bound-yields, done-yields, leaving)
 
-inserted : (db : Database) (actor : Actor) (name : List ℕ) (values : List (List ℕ)) → Gives (LeaveCatalog db) (row_inserted db actor name values)
+inserted : (db : Database) (actor : Actor) (name : List ℕ) (values : List (List ℕ)) → Yields (LeaveCatalog db) (row_inserted db actor name values)
 unfolding row_inserted
 inserted db actor name values = search leaving_catalog
 
-updated : (db : Database) (actor : Actor) (cursor : Option Cursor) (assignments : List Assignment) → Gives (LeaveCatalog db) (row_updated db actor cursor assignments)
+updated : (db : Database) (actor : Actor) (cursor : Option Cursor) (assignments : List Assignment) → Yields (LeaveCatalog db) (row_updated db actor cursor assignments)
 unfolding row_updated
 updated db actor cursor assignments = search leaving_catalog depth 8
 
-deleted : (db : Database) (actor : Actor) (cursor : Option Cursor) → Gives (LeaveCatalog db) (row_deleted db actor cursor)
+deleted : (db : Database) (actor : Actor) (cursor : Option Cursor) → Yields (LeaveCatalog db) (row_deleted db actor cursor)
 unfolding row_deleted
 deleted db actor cursor = search leaving_catalog
 
-leaves : (db : Database) (actor : Actor) (cursor : Option Cursor) (operation : Operation) → changes_rows (kind_of operation) ≡ true → Gives (LeaveCatalog db) (edits_of db actor cursor operation)
+leaves : (db : Database) (actor : Actor) (cursor : Option Cursor) (operation : Operation) → changes_rows (kind_of operation) ≡ true → Yields (LeaveCatalog db) (edits_of db actor cursor operation)
 unfolding edits_of
 leaves db actor cursor (Insert table row) rows = inserted db actor table row
 leaves db actor cursor (Update assignments) rows = updated db actor cursor assignments
@@ -83,7 +83,7 @@ catalog-concluded store chip db next actor cursor operation word rows concludes 
     with_room edits true leave concluded = same-catalog store store Committed Committed chip chip db next refl concluded.1 after
     with_room edits false leave concluded = catalog-through db (applied db edits) next leave (same-catalog store store Committed Committed chip chip (applied db edits) next refl concluded.1 after)
 
-    each : (edited : Result (List Edit) StatusWord) → Gives (LeaveCatalog db) edited → Concludes db (new_of db edited) word store chip → HaveSameCatalog db next
+    each : (edited : Result (List Edit) StatusWord) → Yields (LeaveCatalog db) edited → Concludes db (new_of db edited) word store chip → HaveSameCatalog db next
     each (Ok edits) leave concluded = with_room edits (lacks_room db edits) (leave.each edits refl) concluded
     each (Err refused) leave concluded = same-catalog store store Committed Committed chip chip db next refl concluded.1 after
 

@@ -24,7 +24,7 @@ use Rattle.scql_model.specs.Sessions.{cursor_of, without_pending}
 use Rattle.scql_model.specs.Step.{Answer, answered, changed, done_with, session_named, user_presented}
 use Rattle.scql_model.proofs.ChangingSessions.{changing_session-set}
 use Rattle.scql_model.proofs.OperationLaws.{gives-edits_of}
-use Rattle.scql_model.proofs.RefusalWords.{Anything, Gives, behind, gives-with_edits, not_done-refusal}
+use Rattle.scql_model.proofs.RefusalWords.{Anything, OrRefuses, behind, gives-with_edits, not_done-refusal}
 use Rattle.db_access.specs.Presenting.{session_presented}
 use Rattle.db_access.specs.declared.presenting.Presented.{Presented as Found}
 use Rattle.card.specs.Answering.{HoldsAnswer, Performs, changing_session, committed_at_once, replied, settled, with_session, with_session_for}
@@ -166,7 +166,7 @@ pub refused-not_done : (db : Database) (actor : Actor) (cursor : Option Cursor) 
     → (refused.word == done.word) ≡ false
 refused-not_done db actor cursor operation refused is =
     let gives = behind Anything (edits_of db actor cursor operation) (with_edits db) (gives-edits_of db actor cursor operation) (λ edits _. gives-with_edits db edits) in
-    not_done-refusal refused (subst (Gives Anything) is gives)
+    not_done-refusal refused (subst (OrRefuses Anything) is gives)
 
 -- What a change that is committed at once does to the store, it does to the machine. Where it is done, nothing is pending on its channel any more.
 pub Performs-changed : (card after : Kept) (store : Held) (index : Index) (old new : Chip) (m : Machine) (channel : ℕ) (operation : Operation) (user : Option ℕ) (result : Result StatusWord EepromFault) → HoldsMachine card old m

@@ -22,7 +22,7 @@ pub record GivesAnswer (m : Machine) (answer : Answer) (reply : List ℕ) (count
   pub last : result ≡ DONE → Opens (applied (writes_of new.bench) (image_of old.bench)) answer.machine.committed
 
 -- A call that is to answer a command: the reply goes into a place, and into a count how many octets it has. Place and count were one, and are now the other.
-pub record Answers (command reply reply_now : List ℕ) (count count_now : ℕ) (old new : HeldCard) (result : ℕ) : Type 0 where
+pub record AnswersCall (command reply reply_now : List ℕ) (count count_now : ℕ) (old new : HeldCard) (result : ℕ) : Type 0 where
   pub answer : (m : Machine) → IsCardAt old m → GivesAnswer m (answer_of m command) reply_now count_now old new result
   -- A terminal that is there goes on behind it.
   pub terminal : (state : TerminalState) → IsSeated old state → result ≡ DONE → IsSeated new (terminal_at (answer_of state.machine command).machine state.channel)

@@ -37,7 +37,7 @@ impl Held {
     ghost use Rattle.std.specs.Prelude.{◌≡◌, length, None};
     ghost use Rattle.card.specs.Card.{IsReady};
     ghost use Rattle.line_bench.specs.LineBench.{chip_of, image_of, text_of, writes_of};
-    ghost use Rattle.card_c.specs.Calls.{Answers, CarriesOut, CopiesImage, CopiesText, CopiesWrite, Resets, SitsDown};
+    ghost use Rattle.card_c.specs.Calls.{AnswersCall, CarriesOut, CopiesImage, CopiesText, CopiesWrite, Resets, SitsDown};
 
     /// A card that was opened over this EEPROM. It has no terminal.
     pub fn new(card: Card, bench: LineBench) -> Held
@@ -52,7 +52,7 @@ impl Held {
 
     /// Answers a command. A terminal that is there goes on behind it.
     pub fn answer(&mut self, command: &[u8], reply: &mut [u8], count: &mut usize) -> u32
-        ensures { Answers command.now reply.old reply.new count.old count.new self.old self.new result }
+        ensures { AnswersCall command.now reply.old reply.new count.old count.new self.old self.new result }
     {
         if reply.len() < LONGEST_REPLY {
             return TOO_SHORT;

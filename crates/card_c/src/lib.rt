@@ -17,7 +17,7 @@ ghost use Rattle.line_bench.specs.LineBench.{image_of, text_of, writes_of};
 ghost use Rattle.scql_model.specs.Database.{Database, fresh};
 ghost use Rattle.scql_model.specs.Machine.{start};
 ghost use Rattle.scql_model.specs.Opens.{Opens};
-ghost use Rattle.card_c.specs.Calls.{Answers, CallsHeld, CarriesOut, CopiesImage, CopiesText, CopiesWrite, IsOpened, LooksAt, PutsCard, Resets, SitsDown, TellsCount};
+ghost use Rattle.card_c.specs.Calls.{AnswersCall, CallsHeld, CarriesOut, CopiesImage, CopiesText, CopiesWrite, IsOpened, LooksAt, PutsCard, Resets, SitsDown, TellsCount};
 ghost use Rattle.card_c.specs.HeldCard.{IsCardAt};
 ghost use Rattle.card_c.specs.declared.status.TheConstants.{DONE, WRONG_HANDLE, NO_MEMORY, NOT_A_CARD, WRONG_CELLS};
 
@@ -76,7 +76,7 @@ pub extern "C" fn huwapire_answer(
     reply: &mut [u8],
     count: &mut usize,
 ) -> u32
-    ensures { CallsHeld (Answers command.now reply.old reply.new count.old count.new) ((reply.new ≡ reply.old) × (count.new ≡ count.old)) card.old.bare.held card.new.bare.held result }
+    ensures { CallsHeld (AnswersCall command.now reply.old reply.new count.old count.new) ((reply.new ≡ reply.old) × (count.new ≡ count.old)) card.old.bare.held card.new.bare.held result }
 {
     match card.take(alloc) {
         Some(mut held) => {

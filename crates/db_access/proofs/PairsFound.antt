@@ -19,7 +19,7 @@ use Rattle.scql_model.specs.Refusals.{◌>>=◌, or_refused}
 use Rattle.scql_model.specs.Rules.{is_of_pair}
 use Rattle.scql_model.proofs.ChangeLaws.{AreMade-with_edits}
 use Rattle.scql_model.proofs.Keeping.{Keeps}
-use Rattle.scql_model.proofs.RightEdits.{Gives}
+use Rattle.scql_model.proofs.RightEdits.{Yields}
 use Rattle.catalog_codec.specs.Catalog.{grant_kind}
 use Rattle.privilege_table.specs.Granted.{is_pair}
 use Rattle.privilege_table.proofs.Seen.{told-held}
@@ -52,7 +52,7 @@ paired (Ok x) (Err word) done = refl
 paired (Ok x) (Ok y) done = refl
 
 -- the database with edits that keep it valid where there is room for them is valid
-pub IsValidWith-kept : (db : Database) (outcome : Result (List Edit) StatusWord) (edits : List Edit) → Gives (Keeps db) outcome → outcome ≡ Ok edits → IsValidWith db edits
+pub IsValidWith-kept : (db : Database) (outcome : Result (List Edit) StatusWord) (edits : List Edit) → Yields (Keeps db) outcome → outcome ≡ Ok edits → IsValidWith db edits
 IsValidWith-kept db outcome edits keeps is = λ room.
     let new = applied db edits in
     let made = AreMade-with_edits db edits new (rw room refl) in

@@ -26,7 +26,7 @@ use Rattle.cursor.specs.Moved.{AreStamped, fetched, refuses}
 use Rattle.db_read.specs.Advanced.{Advances}
 use Rattle.db_read.specs.Answered.{Chooses, Stops, WhereStopped, given}
 use Rattle.db_read.specs.Searched.{cells_chosen, cells_searched, octets_for_operation}
-use Rattle.db_read.specs.Motion.{Goes, Stays, answer_of, asks_opened, command_of, cost_by, is_on_way, least_by}
+use Rattle.db_read.specs.Motion.{Goes, KeepsPlace, answer_of, asks_opened, command_of, cost_by, is_on_way, least_by}
 use Rattle.db_read.specs.declared.motion.Motion.{Motion}
 use Rattle.db_read.specs.declared.motion.Motion.TheVariants.{Open, Next, Fetch, FetchNext}
 use Rattle.db_read.proofs.Adding.{at-place, between-passed, first-behind}
@@ -45,7 +45,7 @@ given-fetched place c le word values =
 
 -- a motion is the model's command
 pub moved-by : (motion : Motion) (db : Database) (actor : Actor) (c : Cursor) (to : Place) (word : StatusWord) (values : Values) (pending : List ℕ) (rows : List StampedRow) → rows_under db actor c ≡ Ok rows
-    → asks_opened motion c.place ≡ true → Goes motion c.place to word values rows c → Stays motion c.place to word
+    → asks_opened motion c.place ≡ true → Goes motion c.place to word values rows c → KeepsPlace motion c.place to word
     → moved db actor (record { cursor = Some c; pending = pending }) (command_of motion) ≡ answer_of motion word (Some (record c { place = to })) values
 moved-by Open db actor c to word values pending rows under asks goes stays = rw (under, went-word to c word (first_row rows) goes) (ap Ok (sym goes))
 moved-by Next db actor c to word values pending rows under asks goes stays = rw (asks, under, went-word to c word (row_behind c.place rows) goes) (ap Ok (sym goes))
@@ -54,7 +54,7 @@ moved-by (Fetch le) db actor c to word values pending rows under asks goes stays
 moved-by (FetchNext le) db actor c to word values pending rows under asks goes stays = rw (asks, under) (sym goes ∙ sym (given-fetched to c le word values))
 
 -- a motion that is refused leaves the place
-pub refused-stays : (motion : Motion) (from to : Place) (word : StatusWord) (values : Values) (rows : List StampedRow) (c : Cursor) → Goes motion from to word values rows c → Stays motion from to word → refuses word ≡ true → to ≡ from
+pub refused-stays : (motion : Motion) (from to : Place) (word : StatusWord) (values : Values) (rows : List StampedRow) (c : Cursor) → Goes motion from to word values rows c → KeepsPlace motion from to word → refuses word ≡ true → to ≡ from
 refused-stays Open from to word values rows c goes stays refusing = absurd (false≢true (sym (went-word to c word (first_row rows) goes) ∙ refusing))
 refused-stays Next from to word values rows c goes stays refusing = absurd (false≢true (sym (went-word to c word (row_behind from rows) goes) ∙ refusing))
 refused-stays (Fetch le) from to word values rows c goes stays refusing = stays

@@ -39,11 +39,11 @@ Goes (Fetch le) from to word values rows c = fetched from c le word values ≡ g
 Goes (FetchNext le) from to word values rows c = fetched to c le word values ≡ gave_next c le (row_behind from rows)
 
 -- where the place stays, whatever the rows are: FETCH never moves it, FETCH NEXT not where it is refused
-abbrev pub Stays : Motion → Place → Place → StatusWord → Type 0
-Stays Open from to word = Unit {0}
-Stays Next from to word = Unit {0}
-Stays (Fetch le) from to word = to ≡ from
-Stays (FetchNext le) from to word = IsTrue (refuses word) → to ≡ from
+abbrev pub KeepsPlace : Motion → Place → Place → StatusWord → Type 0
+KeepsPlace Open from to word = Unit {0}
+KeepsPlace Next from to word = Unit {0}
+KeepsPlace (Fetch le) from to word = to ≡ from
+KeepsPlace (FetchNext le) from to word = IsTrue (refuses word) → to ≡ from
 
 -- what reading the rows may cost
 abbrev pub cost_by : Motion → Place → Place → List StampedRow → List Cost → ℕ

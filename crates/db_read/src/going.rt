@@ -11,7 +11,7 @@ ghost use Rattle.cursor.specs.Costs.{RisesBetween};
 ghost use Rattle.cursor.specs.Feed as feed;
 ghost use Rattle.cursor.specs.Moved.{AreStamped};
 ghost use Rattle.db_read.specs.Advanced.{Advances};
-ghost use Rattle.db_read.specs.Motion.{Goes, Stays, cost_by, least_by};
+ghost use Rattle.db_read.specs.Motion.{Goes, KeepsPlace, cost_by, least_by};
 ghost use Rattle.db_read.specs.Reader.{read_so_far, ReadsFrom, ReadsOn};
 ghost use Rattle.db_read.specs.Scan.{IsChosenFor};
 
@@ -36,7 +36,7 @@ pub(crate) fn go<B: Eeprom>(
 ) -> Result<StatusWord, EepromFault>
     ensures advances { (db : Database) (actor : Actor) (c : Cursor) → ReadsFrom reader.old db → IsCursorOf db c → IsChosenFor db actor c choice.now
         → IfOk result (λ word. Advances db actor c motion place.old place.new word out.new (read_so_far reader.old) (read_so_far reader.new)) }
-    ensures stays { IfOk result (Stays motion place.old place.new) }
+    ensures stays { IfOk result (KeepsPlace motion place.old place.new) }
     ensures reads { ReadsOn each_error reader.old reader.new result }
 {
     if let Some(told) = Told::of(choice) {
@@ -61,7 +61,7 @@ fn move_over<F: RowFeed>(
     out: &mut Row,
 ) -> Result<StatusWord, EepromFault>
     ensures goes { IfOk result (λ word. (told : List StampedRow) → F.tells rows.old told → AreStamped told → (c : Cursor) → Goes motion place.old place.new word out.new told c) }
-    ensures stays { IfOk result (Stays motion place.old place.new) }
+    ensures stays { IfOk result (KeepsPlace motion place.old place.new) }
     ensures read { IfOk result (λ word. (told : List StampedRow) → F.tells rows.old told → IfSome (F.costs rows.old)
         (λ costs. Becomes (RisesBetween (least_by motion word out.new) (cost_by motion place.old place.new told costs)) (F.octets_read rows.old) (F.octets_read rows.new))) }
     ensures rest { feed.Stays F.tells F.costs F.kept F.chip F.faults rows.old rows.new result }

@@ -13,7 +13,7 @@ use Rattle.line_input.specs.Reading.{IsCutShort, IsRead, longest_input}
 use Rattle.line_input.proofs.CutLines.{is_empty_line-taken_line, lines-line_feed, lines-open}
 use Rattle.line_run.specs.declared.line_stop.LineStop.{LineStop}
 use Rattle.line_run.specs.declared.line_stop.LineStop.TheVariants.{Eeprom, Outlet, Both, NoMemory}
-use Rattle.line_run.specs.Answering.{Answered, Failed, IsOver}
+use Rattle.line_run.specs.Answering.{Answered, Failed, OpensToState}
 use Rattle.line_run.specs.Answers.{AnswersLines, AreAnswered, StopsInLine}
 use Rattle.line_run.specs.AnswersLaws.{Prints-then, answers-one, told-before}
 use Rattle.line_run.specs.Causes.{Causes, CausesEnd, CausesStop, Faults}
@@ -51,7 +51,7 @@ told-stopped L is_at chip faults takes_memory goes_on taken old new (Err stop) f
 -- Runs.
 
 -- all of some lines were answered
-runs-ended : {S : Type 0} (L : Language S) (lawful : IsLawful L) (state : S) (lines : List (List ℕ)) (at : S → Type 0) (old new : Chip) → IsOver L at new → AreAnswered L state lines at old new → Runs L state lines to_end old new
+runs-ended : {S : Type 0} (L : Language S) (lawful : IsLawful L) (state : S) (lines : List (List ℕ)) (at : S → Type 0) (old new : Chip) → OpensToState L at new → AreAnswered L state lines at old new → Runs L state lines to_end old new
 runs-ended L lawful state lines at old new over answered = record {
   within = tt;
   text = (run_text L state lines, refl, answered.text);
@@ -97,7 +97,7 @@ longest-taken octets input more long is = ap (take longest_input) is ∙ (ap (λ
 
 -- The responder's states are those of what hands lines to it.
 pub read-runs : {A R S : Type 0} (of : A → R) (L : Language S) (lawful : IsLawful L) (is_at : R → S → Type 0) (is_ready : R → Type 0) (chip : R → Chip) (faults : R → Faults) (takes_memory : Bool) (goes_on : R → R → Type 0) (end : InputEnd LineStop) (old new : A) (start now : Option (List ℕ))
-    → ((r : R) → is_ready r → IsOver L (is_at r) (chip r))
+    → ((r : R) → is_ready r → OpensToState L (is_at r) (chip r))
     → IsRead (λ a lines b. AnswersLines L is_at is_ready chip faults goes_on (of a) lines (of b)) (λ a line stop b. StopsInLine L is_at chip faults takes_memory goes_on (of a) line stop (of b)) end old new start now
     → (state : S) → is_at (of old) state → Becomes (λ input left. RunsInput chip (λ r. (faults r).eeprom) L state end input left (of old) (of new)) start now
 read-runs of L lawful is_at is_ready chip faults takes_memory goes_on Ended old new start now over read state is = λ left told.

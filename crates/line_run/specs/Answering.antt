@@ -21,5 +21,5 @@ pub record Failed {S : Type 0} (stop : LineStop) (language : Language S) (state 
   pub moments : IfGiven new (Throughout old new (IsInStopped stop language state does old.still.mark))
 
 -- the image opens to the database of a state where the run is in it
-abbrev pub IsOver : {S : Type 0} → Language S → (S → Type 0) → Chip → Type 0
-IsOver {S} language at chip = (state : S) → at state → (image : List ℕ) → chip.image ≡ Some image → Opens image (committed_in language state)
+abbrev pub OpensToState : {S : Type 0} → Language S → (S → Type 0) → Chip → Type 0
+OpensToState {S} language at chip = (state : S) → at state → (image : List ℕ) → chip.image ≡ Some image → Opens image (committed_in language state)

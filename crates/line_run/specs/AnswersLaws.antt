@@ -7,7 +7,7 @@ use Rattle.eeprom.proofs.Moments.{throughout-both, throughout-same, throughout-w
 use Rattle.scql_model.specs.Heard.{committed_in}
 use Rattle.scql_model.specs.Lines.{Language, line_effect, line_step, line_text, run_text, state_after, taken_line}
 use Rattle.scql_model.specs.Opens.{Opens}
-use Rattle.line_run.specs.Answering.{Answered, IsOver}
+use Rattle.line_run.specs.Answering.{Answered, OpensToState}
 use Rattle.line_run.specs.Answers.{AnswersLines, AreAnswered}
 use Rattle.line_run.specs.Causes.{Faults}
 use Rattle.line_run.specs.Moments.{IsAmong, IsInAnswered, Passes}
@@ -97,7 +97,7 @@ passes-then L state first second a b c before after = record {
 
 -- Lines that are answered.
 
-answered-nothing : {S : Type 0} (L : Language S) (state : S) (at : S → Type 0) (chip : Chip) → at state → IsOver L at chip → AreAnswered L state [] at chip chip
+answered-nothing : {S : Type 0} (L : Language S) (state : S) (at : S → Type 0) (chip : Chip) → at state → OpensToState L at chip → AreAnswered L state [] at chip chip
 answered-nothing L state at chip is over = record { at = is; text = Prints-nothing chip.still.given; moments = λ told. passes-nothing L state chip (over state is) }
 
 answered-then : {S : Type 0} (L : Language S) (state : S) (first second : List (List ℕ)) (mid_at new_at : S → Type 0) (a b c : Chip) → AreAnswered L state first mid_at a b
@@ -138,7 +138,7 @@ taken-append (line ∷ lines) (one ∷ first) second is =
       second_is = others.second_is;
     }
 
-pub AnswersLines-none : {R S : Type 0} (L : Language S) (is_at : R → S → Type 0) (is_ready : R → Type 0) (chip : R → Chip) (faults : R → Faults) (goes_on : R → R → Type 0) (r : R) → is_ready r → IsOver L (is_at r) (chip r) → goes_on r r
+pub AnswersLines-none : {R S : Type 0} (L : Language S) (is_at : R → S → Type 0) (is_ready : R → Type 0) (chip : R → Chip) (faults : R → Faults) (goes_on : R → R → Type 0) (r : R) → is_ready r → OpensToState L (is_at r) (chip r) → goes_on r r
     → AnswersLines L is_at is_ready chip faults goes_on r [] r
 AnswersLines-none L is_at is_ready chip faults goes_on r ready over same = record {
   ready = ready;

@@ -3,7 +3,7 @@ ghost use Rattle.std.specs.Prelude.{◌≡◌, ℕ, Bool, true, Option, option_m
 ghost use Rattle.eeprom.specs.Chip.{Chip};
 ghost use Rattle.scql_model.specs.Heard.{IsLawful};
 ghost use Rattle.scql_model.specs.Lines.{Language};
-ghost use Rattle.line_run.specs.Answering.{Answered, Failed, IsOver};
+ghost use Rattle.line_run.specs.Answering.{Answered, Failed, OpensToState};
 ghost use Rattle.line_run.specs.Causes.{Faults, Causes};
 
 use crate::LineStop;
@@ -51,7 +51,7 @@ pub trait Responder {
     ghost lawful: { IsLawful Self.language };
 
     /// The image opens to the database of a state that it is in.
-    ghost over: { (r : Self) → Self.is_ready r → IsOver Self.language (Self.is_at r) (Self.chip r) };
+    ghost over: { (r : Self) → Self.is_ready r → OpensToState Self.language (Self.is_at r) (Self.chip r) };
 
     /// It goes on by no line at all, and by lines one after another.
     ghost goes_on_same: { (r : Self) → Self.goes_on r r };

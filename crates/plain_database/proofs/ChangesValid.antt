@@ -12,7 +12,7 @@ use Rattle.scql_model.specs.Edits.{Edit, with_edits}
 use Rattle.scql_model.specs.WellFormed.{FitsCard, HasForm}
 use Rattle.scql_model.proofs.ChangeLaws.{change_of-edits, change_of-ok}
 use Rattle.scql_model.proofs.OperationLaws.{IsValid-edits_of}
-use Rattle.plain_database.specs.Effects.{Ends}
+use Rattle.plain_database.specs.Effects.{EndsAsMeant}
 
 -- what is decided on is the change, or the refusal
 module _ (db : Database) (actor : Actor) (cursor : Option Cursor) (operation : Operation) where
@@ -24,14 +24,14 @@ module _ (db : Database) (actor : Actor) (cursor : Option Cursor) (operation : O
   decided-refusal word is = rw (sym is) refl
 
 module _ (db new : Database) (actor : Actor) (cursor : Option Cursor) (operation : Operation) where
-  pub stays-valid : (result : Result (Unit {0}) StatusWord) → Ends db new result (change_of db actor cursor operation)
+  pub stays-valid : (result : Result (Unit {0}) StatusWord) → EndsAsMeant db new result (change_of db actor cursor operation)
       → IsValid db → IsActorOf db actor → HasForm operation → FitsCard db.limit operation → IsValid new
   stays-valid (Ok done) ends valid acts form fits =
       let made = change_of-ok db actor cursor operation new (sym ends.ended) in
       IsValid-edits_of db actor cursor operation made.0 new valid acts form fits made.1 (sym (change_of-edits db actor cursor operation made.0 made.1) ∙ sym ends.ended)
   stays-valid (Err word) ends valid acts form fits = subst IsValid (sym ends.same) valid
 
-  pub same-cells : (result : Result (Unit {0}) StatusWord) → Ends db new result (change_of db actor cursor operation) → new.cells ≡ db.cells
+  pub same-cells : (result : Result (Unit {0}) StatusWord) → EndsAsMeant db new result (change_of db actor cursor operation) → new.cells ≡ db.cells
   same-cells (Ok done) ends =
       let made = change_of-ok db actor cursor operation new (sym ends.ended) in
       made.2.cells

@@ -10,7 +10,7 @@ use Rattle.scql_model.specs.Cursors.{IsCursorOf}
 use Rattle.scql_model.specs.Database.{Database, IsValid, user_stamped}
 use Rattle.scql_model.specs.Step.{with_tries}
 use Rattle.scql_model.specs.WellFormed.{FitsCard, HasForm}
-use Rattle.plain_database.specs.Effects.{Ends}
+use Rattle.plain_database.specs.Effects.{EndsAsMeant}
 
 -- A database that a changing command may change, and the cursor of a session over it, where there is one.
 pub record MayChange (db : Database) (at : Option Cursor) : Type 0 where
@@ -20,7 +20,7 @@ pub record MayChange (db : Database) (at : Option Cursor) : Type 0 where
 -- A changing command was carried out or refused.
 pub record IsCarriedOut (db new : Database) (actor : Actor) (cursor : Option Cursor) (operation : Operation) (result : Result (Unit {0}) StatusWord) : Type 0 where
   -- it ended as the model's does
-  pub ends : Ends db new result (change_of db actor cursor operation)
+  pub ends : EndsAsMeant db new result (change_of db actor cursor operation)
   -- on the same card
   pub cells : new.cells ≡ db.cells
   -- and left a valid database, where the command has its form and fits the card

@@ -21,7 +21,7 @@ pub record Puts {A E : Type 0} (old new : A) (result : Result (Unit {0}) E) (mea
   pub same : OnErr result (new ≡ old)
 
 -- How an operation ended: with what it was to make, or refused.
-pub record Ends {A : Type 0} (old new : A) (result : Result (Unit {0}) StatusWord) (meant : Result A StatusWord) : Type 0 where
+pub record EndsAsMeant {A : Type 0} (old new : A) (result : Result (Unit {0}) StatusWord) (meant : Result A StatusWord) : Type 0 where
   -- it made what is meant, or was refused with the word that is meant
   pub ended : ended result new ≡ meant
   -- where it was refused, what it works on is as it was

@@ -3,7 +3,7 @@ ghost use Rattle.std.specs.Prelude.{◌∷◌, []};
 ghost use Rattle.scql_model.specs.Database.{IsValid};
 ghost use Rattle.scql_model.specs.Edits.{changing, of_row, with_edits};
 ghost use Rattle.plain_database.specs.Changes.{edits_for};
-ghost use Rattle.plain_database.specs.Effects.{Ends};
+ghost use Rattle.plain_database.specs.Effects.{EndsAsMeant};
 
 use crate::record::Record;
 use crate::replacing::replace;
@@ -38,7 +38,7 @@ impl PlainDatabase {
     /// Makes a change, where there is room for it.
     pub(crate) fn make(&mut self, change: Change) -> Result<(), StatusWord>
         requires { IsValid self.old }
-        ensures { Ends self.old self.new result (with_edits self.old (edits_for self.old change)) }
+        ensures { EndsAsMeant self.old self.new result (with_edits self.old (edits_for self.old change)) }
     {
         match change {
             Change::AddUser { user } => self.add_user(user),
@@ -85,7 +85,7 @@ impl PlainDatabase {
     // A row takes the place of the one that has its stamp, where there is room for it.
     fn change_row(&mut self, row: RowRecord) -> Result<(), StatusWord>
         requires { IsValid self.old }
-        ensures { Ends self.old self.new result (with_edits self.old (changing (of_row row) ∷ [])) }
+        ensures { EndsAsMeant self.old self.new result (with_edits self.old (changing (of_row row) ∷ [])) }
     {
         let weight = self.weight();
         let rows = Rising {

@@ -1,6 +1,6 @@
 // Records that are made. Each takes the next stamp.
 ghost use Rattle.scql_model.specs.Edits.{making, of_grant, of_object, of_row, of_user, with_edits};
-ghost use Rattle.plain_database.specs.Effects.{Ends};
+ghost use Rattle.plain_database.specs.Effects.{EndsAsMeant};
 
 use crate::PlainDatabase;
 use crate::record::Record;
@@ -9,7 +9,7 @@ use scql_base::{Grant, Object, RowRecord, StatusWord, User};
 impl PlainDatabase {
     /// Adds a user behind all others, where a stamp is left for it, and room.
     pub(crate) fn add_user(&mut self, user: User) -> Result<(), StatusWord>
-        ensures { Ends self.old self.new result (with_edits self.old (making self.old (of_user user))) }
+        ensures { EndsAsMeant self.old self.new result (with_edits self.old (making self.old (of_user user))) }
     {
         if !self.has_room(user.cells()) {
             return Err(StatusWord::NO_SPACE);
@@ -21,7 +21,7 @@ impl PlainDatabase {
 
     /// Adds an object behind all others, where a stamp is left for it, and room.
     pub(crate) fn add_object(&mut self, object: Object) -> Result<(), StatusWord>
-        ensures { Ends self.old self.new result (with_edits self.old (making self.old (of_object object))) }
+        ensures { EndsAsMeant self.old self.new result (with_edits self.old (making self.old (of_object object))) }
     {
         if !self.has_room(object.cells()) {
             return Err(StatusWord::NO_SPACE);
@@ -33,7 +33,7 @@ impl PlainDatabase {
 
     /// Adds a grant behind all others, where a stamp is left for it, and room.
     pub(crate) fn add_grant(&mut self, grant: Grant) -> Result<(), StatusWord>
-        ensures { Ends self.old self.new result (with_edits self.old (making self.old (of_grant grant))) }
+        ensures { EndsAsMeant self.old self.new result (with_edits self.old (making self.old (of_grant grant))) }
     {
         if !self.has_room(grant.cells()) {
             return Err(StatusWord::NO_SPACE);
@@ -45,7 +45,7 @@ impl PlainDatabase {
 
     /// Adds a row behind all others, where a stamp is left for it, and room.
     pub(crate) fn add_row(&mut self, row: RowRecord) -> Result<(), StatusWord>
-        ensures { Ends self.old self.new result (with_edits self.old (making self.old (of_row row))) }
+        ensures { EndsAsMeant self.old self.new result (with_edits self.old (making self.old (of_row row))) }
     {
         if !self.has_room(row.cells()) {
             return Err(StatusWord::NO_SPACE);

@@ -9,9 +9,9 @@ ghost use Rattle.scql_model.specs.Machine as machine;
 ghost use Rattle.scql_model.specs.Moves.{moved};
 ghost use Rattle.scql_model.specs.Operations.{operations};
 ghost use Rattle.scql_model.specs.Sessions as model;
-ghost use Rattle.plain_database.specs.Effects.{Ends};
+ghost use Rattle.plain_database.specs.Effects.{EndsAsMeant};
 ghost use Rattle.plain_reading.specs.Commands.{command_seen};
-ghost use Rattle.plain_machine.specs.Reading.{HasCursorOf, Reads};
+ghost use Rattle.plain_machine.specs.Reading.{HasCursorOf, ReadsOnChannel};
 ghost use Rattle.plain_machine.specs.Sessions.{Takes, are_open, chain_in, changed_on, left_session, reading_on, session_on, session_seen};
 
 use crate::channel::Channel;
@@ -107,7 +107,7 @@ impl Sessions {
         reply: &mut Reply,
     ) -> Result<(), StatusWord>
         requires { HasCursorOf database.now self.old channel }
-        ensures { Reads (λ sessions. reading_on sessions channel) (λ reading. changed_on (model.reading_so reading) self.old channel) self.old self.new reply.new result
+        ensures { ReadsOnChannel (λ sessions. reading_on sessions channel) (λ reading. changed_on (model.reading_so reading) self.old channel) self.old self.new reply.new result
             (moved database.now actor (reading_on self.old channel) (command_seen command.now)) }
     {
         let place = channel.place();
@@ -127,7 +127,7 @@ impl Sessions {
     ) -> Result<(), StatusWord>
         requires valid { IsValid database.old }
         requires reads { HasCursorOf database.old self.now channel }
-        ensures ends { Ends database.old database.new result (change_of database.old actor (reading_on self.now channel).cursor operation.now) }
+        ensures ends { EndsAsMeant database.old database.new result (change_of database.old actor (reading_on self.now channel).cursor operation.now) }
         ensures cells { database.new.cells ≡ database.old.cells }
     {
         let place = channel.place();

@@ -25,7 +25,7 @@ abbrev pub sought_among : Cursor → Sought → Contents → Option StampedRow
 sought_among c sought contents = find (λ (r : StampedRow). admits sought r.stamp) (moves.chosen contents c)
 
 -- What a cursor of a database is over.
-pub record IsOver (db : Database) (c : Cursor) (o : Object) : Type 0 where
+pub record IsCursorOver (db : Database) (c : Cursor) (o : Object) : Type 0 where
   -- the cursor is one of the database
   pub cursor : IsCursorOf db c
   -- and its object is this one

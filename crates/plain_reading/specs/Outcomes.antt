@@ -12,7 +12,7 @@ use Rattle.scql_model.specs.Replies.{Reply}
 use Rattle.plain_database.specs.Effects.{ended}
 
 -- How a command ended: answered, or refused.
-pub record Answers {A : Type 0} (old new : A) (reply : Reply) (result : Result (Unit {0}) StatusWord) (meant : Result (Move A) StatusWord) : Type 0 where
+pub record AnswersAsMeant {A : Type 0} (old new : A) (reply : Reply) (result : Result (Unit {0}) StatusWord) (meant : Result (Move A) StatusWord) : Type 0 where
   -- it gave the reply that is meant and left what is meant, or was refused with the word that is meant
   pub answered : (let move : Move A = record { reply = reply; after = new } in ended result move) ≡ meant
   -- where it was refused, what it works on is as it was

@@ -3,7 +3,7 @@ ghost use Rattle.std.specs.Prelude.{◌≡◌, option_map};
 ghost use Rattle.scql_model.specs.Contents.{contents_of};
 ghost use Rattle.scql_model.specs.Moves as moves;
 ghost use Rattle.plain_database.specs.Sought.{row_shown, sought_row};
-ghost use Rattle.plain_reading.specs.Found.{IsOver};
+ghost use Rattle.plain_reading.specs.Found.{IsCursorOver};
 
 use crate::dictionary::find_told;
 use plain_database::{ShownRow, Sought, ValidDatabase};
@@ -16,7 +16,7 @@ pub(crate) fn find_row(
     cursor: &Cursor,
     sought: Sought,
 ) -> Option<ShownRow>
-    requires { IsOver database.now cursor.now object.now }
+    requires { IsCursorOver database.now cursor.now object.now }
     ensures { option_map row_shown result ≡ sought_row database.now cursor.now sought }
 {
     match &object.kind {
@@ -38,7 +38,7 @@ pub(crate) fn row_behind(
     object: &Object,
     cursor: &Cursor,
 ) -> Option<ShownRow>
-    requires { IsOver database.now cursor.now object.now }
+    requires { IsCursorOver database.now cursor.now object.now }
     ensures { option_map row_shown result ≡ moves.row_behind cursor.now.place (moves.chosen (contents_of database.now cursor.now.object) cursor.now) }
 {
     match cursor.place {

@@ -8,7 +8,7 @@ ghost use Rattle.scql_model.specs.ReadingCommands as commands;
 ghost use Rattle.plain_database.specs.Sought.{row_shown};
 ghost use Rattle.plain_reading.specs.Commands.{command_seen};
 ghost use Rattle.plain_database.specs.Effects.{ended};
-ghost use Rattle.plain_reading.specs.Outcomes.{Answers, given};
+ghost use Rattle.plain_reading.specs.Outcomes.{AnswersAsMeant, given};
 
 use crate::found::{find_row, row_behind};
 use crate::readable::{opened, readable};
@@ -28,7 +28,7 @@ pub fn read(
     reply: &mut Reply,
 ) -> Result<(), StatusWord>
     requires { IfSome reading.old.cursor (IsCursorOf database.now) }
-    ensures { Answers reading.old reading.new reply.new result (moves.moved database.now actor reading.old (command_seen command.now)) }
+    ensures { AnswersAsMeant reading.old reading.new reply.new result (moves.moved database.now actor reading.old (command_seen command.now)) }
 {
     match command {
         ReadingCommand::Declare {
@@ -54,7 +54,7 @@ fn declare(
     conditions: &Conditions,
     reply: &mut Reply,
 ) -> Result<(), StatusWord>
-    ensures { Answers reading.old reading.new reply.new result (moves.moved database.now actor reading.old (commands.declare object.now columns.now conditions.now)) }
+    ensures { AnswersAsMeant reading.old reading.new reply.new result (moves.moved database.now actor reading.old (commands.declare object.now columns.now conditions.now)) }
 {
     let records = database.database();
     let Some(object) = records.seen_named(actor, object) else {
@@ -85,7 +85,7 @@ fn open_cursor(
     reply: &mut Reply,
 ) -> Result<(), StatusWord>
     requires { IfSome reading.old.cursor (IsCursorOf database.now) }
-    ensures { Answers reading.old reading.new reply.new result (moves.moved database.now actor reading.old commands.open_cursor) }
+    ensures { AnswersAsMeant reading.old reading.new reply.new result (moves.moved database.now actor reading.old commands.open_cursor) }
 {
     let Some(cursor) = &reading.cursor else {
         return Err(StatusWord::CONDITIONS_NOT_SATISFIED);
@@ -104,7 +104,7 @@ fn next(
     reply: &mut Reply,
 ) -> Result<(), StatusWord>
     requires { IfSome reading.old.cursor (IsCursorOf database.now) }
-    ensures { Answers reading.old reading.new reply.new result (moves.moved database.now actor reading.old commands.next) }
+    ensures { AnswersAsMeant reading.old reading.new reply.new result (moves.moved database.now actor reading.old commands.next) }
 {
     let cursor = opened(&reading.cursor)?;
     let object = readable(database, actor, cursor)?;
@@ -122,7 +122,7 @@ fn fetch(
     reply: &mut Reply,
 ) -> Result<(), StatusWord>
     requires { IfSome reading.old.cursor (IsCursorOf database.now) }
-    ensures { Answers reading.old reading.new reply.new result (moves.moved database.now actor reading.old (commands.fetch le)) }
+    ensures { AnswersAsMeant reading.old reading.new reply.new result (moves.moved database.now actor reading.old (commands.fetch le)) }
 {
     let cursor = opened(&reading.cursor)?;
     let object = readable(database, actor, cursor)?;
@@ -150,7 +150,7 @@ fn fetch_next(
     reply: &mut Reply,
 ) -> Result<(), StatusWord>
     requires { IfSome reading.old.cursor (IsCursorOf database.now) }
-    ensures { Answers reading.old reading.new reply.new result (moves.moved database.now actor reading.old (commands.fetch_next le)) }
+    ensures { AnswersAsMeant reading.old reading.new reply.new result (moves.moved database.now actor reading.old (commands.fetch_next le)) }
 {
     let cursor = opened(&reading.cursor)?;
     let object = readable(database, actor, cursor)?;
@@ -174,7 +174,7 @@ fn get_response(
     le: Le,
     reply: &mut Reply,
 ) -> Result<(), StatusWord>
-    ensures { Answers reading.old reading.new reply.new result (moves.moved database.now actor reading.old (commands.get_response le)) }
+    ensures { AnswersAsMeant reading.old reading.new reply.new result (moves.moved database.now actor reading.old (commands.get_response le)) }
 {
     let Some(cursor) = &reading.cursor else {
         return Err(StatusWord::CONDITIONS_NOT_SATISFIED);
@@ -208,7 +208,7 @@ fn give_row(
     le: Le,
     reply: &mut Reply,
 ) -> Result<(), StatusWord>
-    ensures { (c : cursors.Cursor) → reading.old.cursor ≡ Some c → Answers reading.old reading.new reply.new result (given place c le values.now) }
+    ensures { (c : cursors.Cursor) → reading.old.cursor ≡ Some c → AnswersAsMeant reading.old reading.new reply.new result (given place c le values.now) }
 {
     prove!(values.len() <= Row::MOST);
     let octets = values.octets();

@@ -34,7 +34,7 @@ use Rattle.planner.proofs.Asking.{reads_so, moved_answer}
 use Rattle.planner.proofs.Changing.{Follows, changed-follows, refusal-of}
 use Rattle.planner.proofs.Selecting.{SelectEnds, sends-ends, at, open-move}
 use Rattle.planner.proofs.Stepping.{ChangesRow, who_in, machine_with, answer-reads, change_answer, resting, answer-changed}
-use Rattle.scql_model.proofs.RefusalWords.{Gives}
+use Rattle.scql_model.proofs.RefusalWords.{OrRefuses}
 
 -- a statement that changes rows, by the operation that changes one
 pub record ChangesBy (s : Statement) (object : List ℕ) (conditions : List Condition) (operation : Operation) : Type 0 where
@@ -121,7 +121,7 @@ module _ (m : Machine) (channel : ℕ) (s : Session) (near : channel ≤ 3) (the
             ∙ (behind-move next.working a c r.stamp rows stands.listed
             ∙ ap (went_to c) (behind-first r.stamp rows ∙ ap first_row is_above)))
 
-        go : (result : Result Transaction StatusWord) → row_changed m.committed a operation (at_stamp r.stamp c) t ≡ result → Gives (Follows r.stamp t) result
+        go : (result : Result Transaction StatusWord) → row_changed m.committed a operation (at_stamp r.stamp c) t ≡ result → OrRefuses (Follows r.stamp t) result
             → SelectEnds (machine_at t (at c (At r.stamp) [])) (Some (said done)) (plan_at last count) (final (once_changed r.stamp t (λ next. changed rest next) result))
         go (Err word) is refuses =
             sends-ends (machine_at t (at c (At r.stamp) [])) (machine_at t (at c (At r.stamp) [])) (Some (said done)) (said word) (plan_at last count) (plan_at Changing (count + 1)) (asking channel operation)

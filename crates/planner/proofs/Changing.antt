@@ -28,7 +28,7 @@ use Rattle.scql_model.specs.Writing.{Assignment, written_through, record_at_curs
 use Rattle.scql_model.proofs.ChangeLaws.{AreMade-with_edits}
 use Rattle.scql_model.proofs.KeepsRows.{written_through-outcome}
 use Rattle.scql_model.proofs.Outcomes.{gives-outcome}
-use Rattle.scql_model.proofs.RefusalWords.{Refuses, Gives, behind, asked, or_word, gives-with_edits}
+use Rattle.scql_model.proofs.RefusalWords.{Refuses, OrRefuses, behind, asked, or_word, gives-with_edits}
 use Rattle.scql_model.proofs.LongerLists.{find-passes}
 use Rattle.planner.specs.Words.{is_refusal}
 use Rattle.planner.specs.Meaning.{at_stamp, row_changed}
@@ -101,7 +101,7 @@ opened-again : (stamp : ℕ) (c opened : Cursor) → Some (at_stamp stamp c) ≡
 opened-again stamp c opened is = same_Some (at_stamp stamp c) opened is
 
 found-record : {B : Type 0} (P : B → Type 0) (db : Database) (c : Cursor) (stamp : ℕ) (word : StatusWord) (f : RowRecord → Result B StatusWord) → Refuses word
-    → ((r : RowRecord) → r.stamp ≡ stamp → Gives P (f r)) → Gives P (or_refused (record_at_cursor db (at_stamp stamp c)) word >>= f)
+    → ((r : RowRecord) → r.stamp ≡ stamp → OrRefuses P (f r)) → OrRefuses P (or_refused (record_at_cursor db (at_stamp stamp c)) word >>= f)
 found-record P db c stamp word f is each =
     behind P (or_refused (record_at_cursor db (at_stamp stamp c)) word) f (or_word (record_at_cursor db (at_stamp stamp c)) word is) (λ r at. each r (record-stamp db c stamp r (found (record_at_cursor db (at_stamp stamp c)) r at)))
   where
@@ -109,10 +109,10 @@ found-record P db c stamp word f is each =
     found None r at = absurd cc
     found (Some x) r at = ap result_ok at
 
-at-cursor : {B : Type 0} (P : B → Type 0) (c : Cursor) (stamp : ℕ) (f : Cursor → Result B StatusWord) → Gives P (f (at_stamp stamp c)) → Gives P (opened (Some (at_stamp stamp c)) >>= f)
+at-cursor : {B : Type 0} (P : B → Type 0) (c : Cursor) (stamp : ℕ) (f : Cursor → Result B StatusWord) → OrRefuses P (f (at_stamp stamp c)) → OrRefuses P (opened (Some (at_stamp stamp c)) >>= f)
 at-cursor P c stamp f gives = gives
 
-updated-row : (db : Database) (a : Actor) (c : Cursor) (stamp : ℕ) (assignments : List Assignment) → Gives (AreOfRow stamp db) (row_updated db a (Some (at_stamp stamp c)) assignments)
+updated-row : (db : Database) (a : Actor) (c : Cursor) (stamp : ℕ) (assignments : List Assignment) → OrRefuses (AreOfRow stamp db) (row_updated db a (Some (at_stamp stamp c)) assignments)
 unfolding row_updated
 updated-row db a c stamp assignments =
     behind (AreOfRow stamp db) (written_through db a update_privilege (at_stamp stamp c)) _ (gives-outcome (written_through db a update_privilege (at_stamp stamp c)) (written_through-outcome db a update_privilege (at_stamp stamp c))) (λ o _.
@@ -120,13 +120,13 @@ updated-row db a c stamp assignments =
     (found-record (AreOfRow stamp db) db c stamp record_not_found _ refl (λ r at.
     asked (AreOfRow stamp db) (nat_le (row_size (row_after db assignments r).row) db.limit) wrong_data _ refl (changed-row stamp db (row_after db assignments r) at))))
 
-deleted-row : (db : Database) (a : Actor) (c : Cursor) (stamp : ℕ) → Gives (AreOfRow stamp db) (row_deleted db a (Some (at_stamp stamp c)))
+deleted-row : (db : Database) (a : Actor) (c : Cursor) (stamp : ℕ) → OrRefuses (AreOfRow stamp db) (row_deleted db a (Some (at_stamp stamp c)))
 unfolding row_deleted
 deleted-row db a c stamp =
     behind (AreOfRow stamp db) (written_through db a delete_privilege (at_stamp stamp c)) _ (gives-outcome (written_through db a delete_privilege (at_stamp stamp c)) (written_through-outcome db a delete_privilege (at_stamp stamp c))) (λ _ _.
     found-record (AreOfRow stamp db) db c stamp record_not_found _ refl (λ r at. removed-row stamp db r at))
 
-edited-row : (db : Database) (a : Actor) (c : Cursor) (stamp : ℕ) (operation : Operation) → ChangesRow operation → Gives (AreOfRow stamp db) (edits_of db a (Some (at_stamp stamp c)) operation)
+edited-row : (db : Database) (a : Actor) (c : Cursor) (stamp : ℕ) (operation : Operation) → ChangesRow operation → OrRefuses (AreOfRow stamp db) (edits_of db a (Some (at_stamp stamp c)) operation)
 unfolding edits_of
 edited-row db a c stamp (Update changes) is = updated-row db a c stamp changes
 edited-row db a c stamp Delete is = deleted-row db a c stamp
@@ -138,12 +138,12 @@ pub record Follows (stamp : ℕ) (t next : Transaction) : Type 0 where
   pub leaves : LeavesAbove stamp t.working next.working
 
 pub changed-follows : (committed : Database) (a : Actor) (operation : Operation) (c : Cursor) (stamp : ℕ) (t : Transaction) → ChangesRow operation
-    → Gives (Follows stamp t) (row_changed committed a operation (at_stamp stamp c) t)
+    → OrRefuses (Follows stamp t) (row_changed committed a operation (at_stamp stamp c) t)
 unfolding row_changed
 changed-follows committed a operation c stamp t is = go (edits_of t.working a (Some (at_stamp stamp c)) operation) (edited-row t.working a c stamp operation is)
   where
-    go : (edits : Result (List Edit) StatusWord) → Gives (AreOfRow stamp t.working) edits
-        → Gives (Follows stamp t) (edits >>= λ edits. (with_edits t.working edits >>= λ db. Ok (transaction_after committed t edits db)))
+    go : (edits : Result (List Edit) StatusWord) → OrRefuses (AreOfRow stamp t.working) edits
+        → OrRefuses (Follows stamp t) (edits >>= λ edits. (with_edits t.working edits >>= λ db. Ok (transaction_after committed t edits db)))
     go (Err word) gives = gives
     go (Ok edits) leaves =
         behind (Follows stamp t) (with_edits t.working edits) _ (gives-with_edits t.working edits) (λ db made.

@@ -17,7 +17,7 @@ use Rattle.scql_model.specs.Edits.{Edit, applied, is_overfull, takes_stamp, touc
 use Rattle.scql_model.specs.Opens.{Holds}
 use Rattle.scql_model.proofs.EditLaws.{applied-cells, applied-limit}
 use Rattle.scql_model.proofs.Keeping.{Keeps}
-use Rattle.scql_model.proofs.RightEdits.{Gives}
+use Rattle.scql_model.proofs.RightEdits.{Yields}
 use Rattle.scql_model.proofs.Room.{cells-filled}
 use Rattle.catalog_codec.specs.Catalog.{row_kind}
 use Rattle.catalog_codec.specs.Kinds.{Kind}
@@ -70,7 +70,7 @@ KeepsRows-left old new before after stands told left = go (slots_of old Working 
     go (Some slots) some left = λ last is. (slots, some, subst (λ s. (place : ℕ) → at_slot row_kind place s ≡ at_slot row_kind place slots) (same_Some left.0 last (sym left.1 ∙ is)) left.2)
 
 -- A store whose slots lost records has made edits that take no stamp, where the database with them is what the slots hold.
-pub Makes-left : (db : Database) (edits : List Edit) (outcome : Result (List Edit) StatusWord) (left : Slots) (old new : Held) (chip : Chip) (held : IsHeld old Working chip db) → Gives (Keeps db) outcome → outcome ≡ Ok edits
+pub Makes-left : (db : Database) (edits : List Edit) (outcome : Result (List Edit) StatusWord) (left : Slots) (old new : Held) (chip : Chip) (held : IsHeld old Working chip db) → Yields (Keeps db) outcome → outcome ≡ Ok edits
     → Holds left (applied db edits) → takes_stamp edits ≡ false → sum_by cells_of left ≤ sum_by cells_of held.slots → slots_of new Working chip ≡ Some left
     → new.chains.cells ≡ old.chains.cells → new.row_limit ≡ old.row_limit → slots_of new Committed chip ≡ slots_of old Committed chip → entries new ≤ entries old + length (touched edits)
     → Touches (touched edits) db.next held.slots left old new → Makes db edits old new chip chip

@@ -40,10 +40,10 @@ use Rattle.std.proofs.lemmas.Option.{same_Some}
 use Rattle.scql_model.specs.Answering.{IsTriesLeft, AreCommand, FindsNone, ComesToEnd, ComparesWrong}
 use Rattle.scql_model.proofs.ReadingSteps.{stepped-reading}
 use Rattle.scql_model.proofs.OperationLaws.{gives-edits_of}
-use Rattle.scql_model.proofs.RefusalWords.{IsPlain, plain-done, plain-rest, end-not_try, plain-refusal, Gives, behind, or_word, if_word, asked, there, gives-selected, gives-rows, gives-opened, gives-fitting, gives-named_among, Plain, gives-with_edits, gives-session_named, plain-opened, plain-closed, RefusedSo, refused-form_of}
+use Rattle.scql_model.proofs.RefusalWords.{IsPlain, plain-done, plain-rest, end-not_try, plain-refusal, OrRefuses, behind, or_word, if_word, asked, there, gives-selected, gives-rows, gives-opened, gives-fitting, gives-named_among, Plain, gives-with_edits, gives-session_named, plain-opened, plain-closed, RefusedSo, refused-form_of}
 
 -- A move to a cursor's end.
-record Ends (db : Database) (actor : Actor) (reading : Reading) (command : ReadingCommand) (move : Move Reading) : Type 0 where
+record MovesToEnd (db : Database) (actor : Actor) (reading : Reading) (command : ReadingCommand) (move : Move Reading) : Type 0 where
   cursor : Cursor
   stood : reading.cursor ≡ Some cursor
   rows : List StampedRow
@@ -62,7 +62,7 @@ opened-parts (Some d) c is = go (is_opened d.place) refl is
 
 module _ (db : Database) (actor : Actor) (reading : Reading) (command : ReadingCommand) where
   abbrev Tells : Move Reading → Type 0
-  Tells move = IsPlain move.reply.word ⊎ Ends db actor reading command move
+  Tells move = IsPlain move.reply.word ⊎ MovesToEnd db actor reading command move
 
   abbrev Ended : Cursor → List StampedRow → Type 0
   Ended c rows = (reading.cursor ≡ Some c) × ((rows_under db actor c ≡ Ok rows) × FindsNone command c.place rows)
@@ -74,18 +74,18 @@ module _ (db : Database) (actor : Actor) (reading : Reading) (command : ReadingC
   tells-went_to c rows None ended = ends c rows (ended refl)
   tells-went_to c rows (Some r) ended = inl plain-done
 
-  tells-gave_next : (c : Cursor) (le : ℕ) (rows : List StampedRow) (found : Option StampedRow) → (found ≡ None → Ended c rows) → Gives Tells (gave_next c le found)
+  tells-gave_next : (c : Cursor) (le : ℕ) (rows : List StampedRow) (found : Option StampedRow) → (found ≡ None → Ended c rows) → OrRefuses Tells (gave_next c le found)
   tells-gave_next c le rows None ended = ends c rows (ended refl)
   tells-gave_next c le rows (Some r) ended = behind Tells (fitting le (row_octets r.values)) _ (gives-fitting le (row_octets r.values)) (λ octets _. inl (plain-rest (drop le octets)))
 
-  tells-gave : (c : Cursor) (le : ℕ) (rows : List StampedRow) (place : Place) → (place ≡ End → Ended c rows) → Gives Tells (gave c le place rows)
+  tells-gave : (c : Cursor) (le : ℕ) (rows : List StampedRow) (place : Place) → (place ≡ End → Ended c rows) → OrRefuses Tells (gave c le place rows)
   tells-gave c le rows NotOpen ended = refl
   tells-gave c le rows End ended = ends c rows (ended refl)
   tells-gave c le rows (At stamp) ended =
       behind Tells (or_refused (row_at stamp rows) record_not_found) _ (or_word (row_at stamp rows) record_not_found refl) (λ r _.
       behind Tells (fitting le (row_octets r.values)) _ (gives-fitting le (row_octets r.values)) (λ octets _. inl (plain-rest (drop le octets))))
 
-  tells-gave_more : (c : Cursor) (le : ℕ) (pending : List ℕ) → Gives Tells (gave_more c le pending)
+  tells-gave_more : (c : Cursor) (le : ℕ) (pending : List ℕ) → OrRefuses Tells (gave_more c le pending)
   tells-gave_more c le [] = refl
   tells-gave_more c le (octet ∷ octets) = inl (plain-rest (drop le (octet ∷ octets)))
 
@@ -93,7 +93,7 @@ no_first : (rows : List StampedRow) → first_row rows ≡ None → rows ≡ []
 no_first [] is = refl
 no_first (r ∷ rows) is = absurd cc
 
-tells-moved : (db : Database) (actor : Actor) (reading : Reading) (command : ReadingCommand) → Gives (Tells db actor reading command) (moved db actor reading command)
+tells-moved : (db : Database) (actor : Actor) (reading : Reading) (command : ReadingCommand) → OrRefuses (Tells db actor reading command) (moved db actor reading command)
 tells-moved db actor reading (declare object columns conditions) =
     let P = Tells db actor reading (declare object columns conditions) in
     behind P (or_refused (seen_named db actor object) not_found) _ (or_word (seen_named db actor object) not_found refl) (λ o _.
@@ -136,11 +136,11 @@ no_row (fetch_next le) place rows none = inr none.none
 no_row (get_response le) place rows none = absurd none
 
 -- What an answer says of the machine before the command.
-abbrev Answers : Machine → Command → Answer → Type 0
-Answers m c answer = IsPlain answer.reply.word ⊎ ((ComesToEnd m c × EndsCursor m c.channel answer) ⊎ (ComparesWrong m c × CostsTry m c.channel answer))
+abbrev TellsBefore : Machine → Command → Answer → Type 0
+TellsBefore m c answer = IsPlain answer.reply.word ⊎ ((ComesToEnd m c × EndsCursor m c.channel answer) ⊎ (ComparesWrong m c × CostsTry m c.channel answer))
 
 -- operations that change the database
-plain-changed : (m : Machine) (channel : ℕ) (operation : Operation) → Gives Plain (changed m channel operation)
+plain-changed : (m : Machine) (channel : ℕ) (operation : Operation) → OrRefuses Plain (changed m channel operation)
 plain-changed m channel operation =
     behind Plain (edits_of (base m channel) (actor m channel) (cursor_of m channel) operation) _ (gives-edits_of (base m channel) (actor m channel) (cursor_of m channel) operation) (λ edits _.
     behind Plain (with_edits (base m channel) edits) _ (gives-with_edits (base m channel) edits) (λ db _. go edits db (own_transaction m.transaction channel)))
@@ -149,15 +149,15 @@ plain-changed m channel operation =
     go edits db None = plain-done
     go edits db (Some t) = plain-done
 
-plain-deleted : (m : Machine) (channel : ℕ) (name : List ℕ) → Gives Plain (user_and_sessions_deleted m channel name)
+plain-deleted : (m : Machine) (channel : ℕ) (name : List ℕ) → OrRefuses Plain (user_and_sessions_deleted m channel name)
 plain-deleted m channel name = go (changed m channel (DeleteUser name)) (plain-changed m channel (DeleteUser name))
   where
-    go : (r : Result Answer StatusWord) → Gives Plain r
-        → Gives Plain (r >>= λ (answer : Answer). or_refused (user_named (base m channel).users name) not_found >>= λ (u : User). Ok (record answer { machine = without_user answer.machine u.stamp }))
+    go : (r : Result Answer StatusWord) → OrRefuses Plain r
+        → OrRefuses Plain (r >>= λ (answer : Answer). or_refused (user_named (base m channel).users name) not_found >>= λ (u : User). Ok (record answer { machine = without_user answer.machine u.stamp }))
     go (Err word) plain = plain
     go (Ok answer) plain = behind Plain (or_refused (user_named (base m channel).users name) not_found) _ (or_word (user_named (base m channel).users name) not_found refl) (λ _ _. plain)
 
-plain-answers : (m : Machine) (c : Command) (r : Result Answer StatusWord) → Gives Plain r → Gives (Answers m c) r
+plain-answers : (m : Machine) (c : Command) (r : Result Answer StatusWord) → OrRefuses Plain r → OrRefuses (TellsBefore m c) r
 plain-answers m c (Ok answer) plain = inl plain
 plain-answers m c (Err word) is = is
 
@@ -177,13 +177,13 @@ module _ (m : Machine) (c : Command) where
       go None = refl
       go (Some s) = refl
 
-  answers-reading : (command : ReadingCommand) → reading_command c.operation c.le ≡ Some command → Answers m c (reading_done ended channel command)
+  answers-reading : (command : ReadingCommand) → reading_command c.operation c.le ≡ Some command → TellsBefore m c (reading_done ended channel command)
   unfolding move_of
   answers-reading command reads =
       go (moved (base m channel) (actor ended channel) (reading_of ended channel) command) (tells-moved (base m channel) (actor ended channel) (reading_of ended channel) command)
     where
-      go : (r : Result (Move Reading) StatusWord) → Gives (Tells (base m channel) (actor ended channel) (reading_of ended channel) command) r
-          → Answers m c (record {
+      go : (r : Result (Move Reading) StatusWord) → OrRefuses (Tells (base m channel) (actor ended channel) (reading_of ended channel) command) r
+          → TellsBefore m c (record {
             reply = (or_stays (reading_of ended channel) r).reply;
             machine = changing_session (reading_so (or_stays (reading_of ended channel) r).after) ended channel;
             commits = [];
@@ -207,12 +207,12 @@ module _ (m : Machine) (c : Command) where
             },
           ))
 
-  answers-verified : (secret : List ℕ) → c.operation ≡ Verify secret → m.transaction ≡ None → Gives (Answers m c) (verified ended channel secret)
+  answers-verified : (secret : List ℕ) → c.operation ≡ Verify secret → m.transaction ≡ None → OrRefuses (TellsBefore m c) (verified ended channel secret)
   answers-verified secret verifies outside =
-      behind (Answers m c) (or_refused (user_of ended channel) conditions_not_satisfied) _ (or_word (user_of ended channel) conditions_not_satisfied refl) (λ p at.
-      behind (Answers m c) (provided (not p.proved) conditions_not_satisfied) _ (if_word (not p.proved) conditions_not_satisfied refl) (λ y unproved.
-      behind (Answers m c) (or_refused (user_stamped m.committed.users p.stamp) conditions_not_satisfied) _ (or_word (user_stamped m.committed.users p.stamp) conditions_not_satisfied refl) (λ u stored.
-      behind (Answers m c) (provided (not (u.tries == 0)) authentication_blocked) _ (if_word (not (u.tries == 0)) authentication_blocked refl) (λ x had.
+      behind (TellsBefore m c) (or_refused (user_of ended channel) conditions_not_satisfied) _ (or_word (user_of ended channel) conditions_not_satisfied refl) (λ p at.
+      behind (TellsBefore m c) (provided (not p.proved) conditions_not_satisfied) _ (if_word (not p.proved) conditions_not_satisfied refl) (λ y unproved.
+      behind (TellsBefore m c) (or_refused (user_stamped m.committed.users p.stamp) conditions_not_satisfied) _ (or_word (user_stamped m.committed.users p.stamp) conditions_not_satisfied refl) (λ u stored.
+      behind (TellsBefore m c) (provided (not (u.tries == 0)) authentication_blocked) _ (if_word (not (u.tries == 0)) authentication_blocked refl) (λ x had.
       go p u (sym (ended-user m channel) ∙ not_refused (user_of ended channel) conditions_not_satisfied p at)
       (not-true p.proved (not_unless (not p.proved) conditions_not_satisfied y unproved))
       (not_refused (user_stamped m.committed.users p.stamp) conditions_not_satisfied u stored)
@@ -223,7 +223,7 @@ module _ (m : Machine) (c : Command) where
       not-true false is = refl
 
       go : (p : PresentedUser) (u : User) → user_of m channel ≡ Some p → p.proved ≡ false → user_stamped m.committed.users p.stamp ≡ Some u → not (u.tries == 0) ≡ true
-          → (b : Bool) → bytes_eq secret u.secret ≡ b → Answers m c (if b then secret_right ended channel u else secret_wrong ended u)
+          → (b : Bool) → bytes_eq secret u.secret ≡ b → TellsBefore m c (if b then secret_right ended channel u else secret_wrong ended u)
       go p u at unproved stored had true is = inl plain-done
       go p u at unproved stored had false is =
           let had_tries = λ (none : u.tries ≡ 0). false≢true (ap (λ (n : ℕ). not (n == 0)) (sym none) ∙ had) in
@@ -245,7 +245,7 @@ module _ (m : Machine) (c : Command) where
 
   -- VERIFY waits for every transaction
   answers-operated : (operation : Operation) → c.operation ≡ operation → is_kept_waiting (waits (kind_of operation)) m.transaction channel ≡ false
-      → Gives (Answers m c) (operated ended channel operation)
+      → OrRefuses (TellsBefore m c) (operated ended channel operation)
   answers-operated Begin is free = plain-answers m c (operated ended channel Begin) (asked Plain (not (is_some m.transaction)) conditions_not_satisfied _ refl plain-done)
   answers-operated Commit is free = plain-answers m c (operated ended channel Commit) (there Plain (own_transaction m.transaction channel) conditions_not_satisfied _ refl (λ _. plain-done))
   answers-operated Rollback is free = plain-answers m c (operated ended channel Rollback) (there Plain (own_transaction m.transaction channel) conditions_not_satisfied _ refl (λ _. plain-done))
@@ -261,25 +261,25 @@ module _ (m : Machine) (c : Command) where
   answers-operated (CloseChannel number) is free = plain-answers m c (operated ended channel (CloseChannel number)) (plain-closed ended channel (if number == 0 then channel else number))
   answers-operated operation is free = plain-answers m c (changed ended channel operation) (plain-changed ended channel operation)
 
-answers-carried_out : (m : Machine) (c : Command) → Gives (Answers m c) (carried_out (changing_session without_chain m c.channel) c)
+answers-carried_out : (m : Machine) (c : Command) → OrRefuses (TellsBefore m c) (carried_out (changing_session without_chain m c.channel) c)
 answers-carried_out m c = free (is_kept_waiting (waits (kind_of c.operation)) m.transaction c.channel) refl
   where
     either : (command : Option ReadingCommand) → reading_command c.operation c.le ≡ command → is_kept_waiting (waits (kind_of c.operation)) m.transaction c.channel ≡ false
-        → Gives (Answers m c) (option_map_or (λ command. Ok (reading_done (changing_session without_chain m c.channel) c.channel command)) command (operated (changing_session without_chain m c.channel) c.channel c.operation))
+        → OrRefuses (TellsBefore m c) (option_map_or (λ command. Ok (reading_done (changing_session without_chain m c.channel) c.channel command)) command (operated (changing_session without_chain m c.channel) c.channel c.operation))
     either None reads free = answers-operated m c c.operation refl free
     either (Some command) reads free = answers-reading m c command reads
 
     free : (b : Bool) → is_kept_waiting (waits (kind_of c.operation)) m.transaction c.channel ≡ b
-        → Gives (Answers m c) (provided (not b) conditions_not_satisfied >>= λ _.
+        → OrRefuses (TellsBefore m c) (provided (not b) conditions_not_satisfied >>= λ _.
         option_map_or (λ command. Ok (reading_done (changing_session without_chain m c.channel) c.channel command)) (reading_command c.operation c.le) (operated (changing_session without_chain m c.channel) c.channel c.operation))
     free true is = refl
     free false is = either (reading_command c.operation c.le) refl is
 
 -- A step: its answer is plain, or that of a command.
 abbrev AnswersTo : Machine → Form → Answer → Type 0
-AnswersTo m form answer = IsPlain answer.reply.word ⊎ ((c : Command) × ((form ≡ a_command c) × Answers m c answer))
+AnswersTo m form answer = IsPlain answer.reply.word ⊎ ((c : Command) × ((form ≡ a_command c) × TellsBefore m c answer))
 
-answers-answered : (m before : Machine) (c : Command) (r : Result Answer StatusWord) → Gives (Answers m c) r → Answers m c (answered before r)
+answers-answered : (m before : Machine) (c : Command) (r : Result Answer StatusWord) → OrRefuses (TellsBefore m c) r → TellsBefore m c (answered before r)
 answers-answered m before c (Ok answer) gives = gives
 answers-answered m before c (Err word) is = inl (plain-refusal word is)
 

@@ -39,7 +39,7 @@ use Rattle.scql_model.proofs.Keeping.{IsThere-found}
 use Rattle.scql_model.proofs.KeepsViews.{among-wanted}
 use Rattle.scql_model.proofs.LongerLists.{find-all}
 use Rattle.scql_model.proofs.ObjectsFollow.{StandsOn-follows}
-use Rattle.scql_model.proofs.RightEdits.{Gives, bound-gives, done-gives}
+use Rattle.scql_model.proofs.RightEdits.{Yields, bound-yields, done-yields}
 
 -- a cursor stands wherever its place is
 StandsOn-place : (db : Database) (c : Cursor) (place : Place) → StandsOn db c → StandsOn db (record c { place = place })
@@ -106,23 +106,23 @@ module _ (db : Database) (c : Cursor) (stands : StandsOn db c) where
   after-went_to None = after-moved_to End end_reached
   after-went_to (Some r) = after-moved_to (At r.stamp) done
 
-  after-gave_next : (le : ℕ) (found : Option StampedRow) → Gives (After db) (gave_next c le found)
-  after-gave_next le None = done-gives (After db) _ (after-moved_to End end_reached)
+  after-gave_next : (le : ℕ) (found : Option StampedRow) → Yields (After db) (gave_next c le found)
+  after-gave_next le None = done-yields (After db) _ (after-moved_to End end_reached)
   after-gave_next le (Some r) =
-      bound-gives (After db) (fitting le (row_octets r.values)) _ λ octets _.
-      done-gives (After db) _ (after-giving (At r.stamp) le octets)
+      bound-yields (After db) (fitting le (row_octets r.values)) _ λ octets _.
+      done-yields (After db) _ (after-giving (At r.stamp) le octets)
 
-  after-gave : (le : ℕ) (place : Place) (rows : List StampedRow) → Gives (After db) (gave c le place rows)
+  after-gave : (le : ℕ) (place : Place) (rows : List StampedRow) → Yields (After db) (gave c le place rows)
   after-gave le NotOpen rows = record { each = λ move (is : Err conditions_not_satisfied ≡ Ok move). absurd cc }
-  after-gave le End rows = done-gives (After db) _ (after-moved_to End end_reached)
+  after-gave le End rows = done-yields (After db) _ (after-moved_to End end_reached)
   after-gave le (At stamp) rows =
-      bound-gives (After db) (or_refused (row_at stamp rows) record_not_found) _ λ r _.
-      bound-gives (After db) (fitting le (row_octets r.values)) _ λ octets _.
-      done-gives (After db) _ (after-giving (At stamp) le octets)
+      bound-yields (After db) (or_refused (row_at stamp rows) record_not_found) _ λ r _.
+      bound-yields (After db) (fitting le (row_octets r.values)) _ λ octets _.
+      done-yields (After db) _ (after-giving (At stamp) le octets)
 
-  after-gave_more : (le : ℕ) (pending : List ℕ) → Gives (After db) (gave_more c le pending)
+  after-gave_more : (le : ℕ) (pending : List ℕ) → Yields (After db) (gave_more c le pending)
   after-gave_more le [] = record { each = λ move (is : Err conditions_not_satisfied ≡ Ok move). absurd cc }
-  after-gave_more le (octet ∷ octets) = done-gives (After db) _ (after-giving c.place le (octet ∷ octets))
+  after-gave_more le (octet ∷ octets) = done-yields (After db) _ (after-giving c.place le (octet ∷ octets))
 
 -- the names of the columns that DECLARE chooses are different
 abbrev pub HasChosen : ReadingCommand → Type 0
@@ -133,44 +133,44 @@ module _ (db : Database) (actor : Actor) (reading : Reading) (valid : IsValid db
   stood : (c : Cursor) → reading.cursor ≡ Some c → StandsOn db c
   stood c is = subst (λ (cursor : Option Cursor). IfSome cursor (StandsOn db)) is before.cursor
 
-  after-moved : (command : ReadingCommand) → HasChosen command → Gives (After db) (moved db actor reading command)
+  after-moved : (command : ReadingCommand) → HasChosen command → Yields (After db) (moved db actor reading command)
   after-moved (declare object columns conditions) chosen =
-      bound-gives (After db) (or_refused (seen_named db actor object) not_found) _ λ o at.
+      bound-yields (After db) (or_refused (seen_named db actor object) not_found) _ λ o at.
       let seen = not_refused (seen_named db actor object) not_found o at in
-      bound-gives (After db) (selected db actor o) _ λ contents shown.
-      bound-gives (After db) (named_among contents.columns columns conditions) _ λ x among.
-      done-gives (After db) _ (after-moved_to db _ (StandsOn-declared db actor object columns conditions o contents.columns valid chosen seen
+      bound-yields (After db) (selected db actor o) _ λ contents shown.
+      bound-yields (After db) (named_among contents.columns columns conditions) _ λ x among.
+      done-yields (After db) _ (after-moved_to db _ (StandsOn-declared db actor object columns conditions o contents.columns valid chosen seen
       (ap (λ (cs : Contents). cs.columns) (of_object o contents shown) ∙ contents-columns db o (IsThere-found db _ o valid seen).stamped)
       (not_unless (are_named_among contents.columns columns conditions) not_found x among)) NotOpen done)
     where
       of_object : (o : Object) (contents : Contents) → selected db actor o ≡ Ok contents → contents ≡ contents_of db o.stamp
       of_object o contents is = bound (provided (holds db actor o select_privilege) security_not_satisfied) _ contents is (λ x _ same. sym (same_Ok (contents_of db o.stamp) contents same))
   after-moved open_cursor chosen =
-      bound-gives (After db) (or_refused reading.cursor conditions_not_satisfied) _ λ c at.
-      bound-gives (After db) (rows_under db actor c) _ λ rows _.
-      done-gives (After db) _ (after-went_to db c (stood c (not_refused reading.cursor conditions_not_satisfied c at)) (first_row rows))
+      bound-yields (After db) (or_refused reading.cursor conditions_not_satisfied) _ λ c at.
+      bound-yields (After db) (rows_under db actor c) _ λ rows _.
+      done-yields (After db) _ (after-went_to db c (stood c (not_refused reading.cursor conditions_not_satisfied c at)) (first_row rows))
   after-moved next chosen =
-      bound-gives (After db) (opened reading.cursor) _ λ c at.
-      bound-gives (After db) (rows_under db actor c) _ λ rows _.
-      done-gives (After db) _ (after-went_to db c (stood c (opened-parts reading.cursor c at).0) (row_behind c.place rows))
+      bound-yields (After db) (opened reading.cursor) _ λ c at.
+      bound-yields (After db) (rows_under db actor c) _ λ rows _.
+      done-yields (After db) _ (after-went_to db c (stood c (opened-parts reading.cursor c at).0) (row_behind c.place rows))
   after-moved (fetch le) chosen =
-      bound-gives (After db) (opened reading.cursor) _ λ c at.
-      bound-gives (After db) (rows_under db actor c) _ λ rows _.
+      bound-yields (After db) (opened reading.cursor) _ λ c at.
+      bound-yields (After db) (rows_under db actor c) _ λ rows _.
       after-gave db c (stood c (opened-parts reading.cursor c at).0) le c.place rows
   after-moved (fetch_next le) chosen =
-      bound-gives (After db) (opened reading.cursor) _ λ c at.
-      bound-gives (After db) (rows_under db actor c) _ λ rows _.
+      bound-yields (After db) (opened reading.cursor) _ λ c at.
+      bound-yields (After db) (rows_under db actor c) _ λ rows _.
       after-gave_next db c (stood c (opened-parts reading.cursor c at).0) le (row_behind c.place rows)
   after-moved (get_response le) chosen =
-      bound-gives (After db) (or_refused reading.cursor conditions_not_satisfied) _ λ c at.
-      bound-gives (After db) (rows_under db actor c) _ λ rows _.
+      bound-yields (After db) (or_refused reading.cursor conditions_not_satisfied) _ λ c at.
+      bound-yields (After db) (rows_under db actor c) _ λ rows _.
       after-gave_more db c (stood c (not_refused reading.cursor conditions_not_satisfied c at)) le reading.pending
 
   pub IsReadingOf-move_of : (command : ReadingCommand) → HasChosen command → IsReadingOf db (move_of db actor reading command).after
   unfolding move_of
   IsReadingOf-move_of command chosen = go (moved db actor reading command) (after-moved command chosen)
     where
-      go : (outcome : Result (Move Reading) StatusWord) → Gives (After db) outcome → IsReadingOf db (or_stays reading outcome).after
+      go : (outcome : Result (Move Reading) StatusWord) → Yields (After db) outcome → IsReadingOf db (or_stays reading outcome).after
       go (Ok move) gives = gives.each move refl
       go (Err word) gives = before
 

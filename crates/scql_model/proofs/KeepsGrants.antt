@@ -22,7 +22,7 @@ use Rattle.scql_model.specs.Edits.{has_record, making, changing, removing}
 use Rattle.scql_model.proofs.ChangedGrants.{IsValid-with_grant, IsValid-with_privileges, IsValid-with_grants_left}
 use Rattle.scql_model.proofs.FoundAgain.{any-find}
 use Rattle.scql_model.proofs.LongerLists.{find-all}
-use Rattle.scql_model.proofs.RightEdits.{Gives, bound-gives, done-gives, owned-there, has_record-grant, found-there}
+use Rattle.scql_model.proofs.RightEdits.{Yields, bound-yields, done-yields, owned-there, has_record-grant, found-there}
 use Rattle.scql_model.proofs.FormedCommands.{not_refused}
 use Rattle.scql_model.proofs.Outcomes.{AreProper, proper-sparing, proper-making, IsOutcome, outcome-done, outcome-bound, outcome-there, outcome-owned}
 use Rattle.scql_model.proofs.Keeping.{HasRoomFor, Keeps, next-making, IsThere, IsThere-found}
@@ -140,12 +140,12 @@ more_granted-keeps db o grantee privileges (Some g) valid there to some is =
     (more-privileges g.privileges privileges (held-privileges db (is_granted_to o grantee) g valid is) some) room.room
 
 pub granted-keeps : (db : Database) (actor : Actor) (privileges : ℕ) (name grantee_name : List ℕ) → IsValid db → is_privileges privileges ≡ true
-    → Gives (Keeps db) (privileges_granted db actor privileges name grantee_name)
+    → Yields (Keeps db) (privileges_granted db actor privileges name grantee_name)
 unfolding privileges_granted
 granted-keeps db actor privileges name grantee_name valid some =
-    bound-gives (Keeps db) (owned_by actor (seen_named db actor name)) _ λ o is.
-    bound-gives (Keeps db) (or_refused (grantee_named db grantee_name) not_found) _ λ grantee to.
-    done-gives (Keeps db) (more_granted db o grantee privileges (grant_to db o grantee))
+    bound-yields (Keeps db) (owned_by actor (seen_named db actor name)) _ λ o is.
+    bound-yields (Keeps db) (or_refused (grantee_named db grantee_name) not_found) _ λ grantee to.
+    done-yields (Keeps db) (more_granted db o grantee privileges (grant_to db o grantee))
     (more_granted-keeps db o grantee privileges (grant_to db o grantee) valid (IsThere-found db _ o valid ((owned-there actor _).each o is))
     (IsGrantee-named db grantee_name grantee valid (not_refused (grantee_named db grantee_name) not_found grantee to)) some refl)
 
@@ -161,13 +161,13 @@ less_granted-keeps db q g privileges valid found = go (privileges_left g.privile
         IsValid-with_privileges db q g (privileges_left g.privileges privileges) valid found (less-privileges g.privileges privileges (held-privileges db q g valid found) is) room.room
 
 pub revoked-keeps : (db : Database) (actor : Actor) (privileges : ℕ) (name grantee_name : List ℕ) → IsValid db
-    → Gives (Keeps db) (privileges_revoked db actor privileges name grantee_name)
+    → Yields (Keeps db) (privileges_revoked db actor privileges name grantee_name)
 unfolding privileges_revoked
 revoked-keeps db actor privileges name grantee_name valid =
-    bound-gives (Keeps db) (owned_by actor (seen_named db actor name)) _ λ o _.
-    bound-gives (Keeps db) (or_refused (grantee_named db grantee_name) not_found) _ λ grantee _.
-    bound-gives (Keeps db) (or_refused (grant_to db o grantee) not_found) _ λ g is.
-    done-gives (Keeps db) (less_granted g privileges) (less_granted-keeps db (is_granted_to o grantee) g privileges valid (not_refused (grant_to db o grantee) not_found g is))
+    bound-yields (Keeps db) (owned_by actor (seen_named db actor name)) _ λ o _.
+    bound-yields (Keeps db) (or_refused (grantee_named db grantee_name) not_found) _ λ grantee _.
+    bound-yields (Keeps db) (or_refused (grant_to db o grantee) not_found) _ λ g is.
+    done-yields (Keeps db) (less_granted g privileges) (less_granted-keeps db (is_granted_to o grantee) g privileges valid (not_refused (grant_to db o grantee) not_found g is))
 
 -- GRANT adds the privileges that it names and no others, and REVOKE takes those, of all that there are
 abbrev numbers : List ℕ

@@ -32,7 +32,7 @@ use Rattle.scql_model.proofs.FewerObjects.{is_view_of, IsValid-without_object}
 use Rattle.scql_model.proofs.LongerLists.{any-map, all-weaker}
 use Rattle.scql_model.proofs.RecordLengths.{short-table, short-dictionary}
 use Rattle.scql_model.proofs.Removing.{applied-removing_object, applied-removing_table}
-use Rattle.scql_model.proofs.RightEdits.{is_right, AreRight, Gives, bound-gives, done-gives, owned-there, has_record-object, has_record-row, found-there, all-there, right-grants}
+use Rattle.scql_model.proofs.RightEdits.{is_right, AreRight, Yields, bound-yields, done-yields, owned-there, has_record-object, has_record-row, found-there, all-there, right-grants}
 use Rattle.scql_model.proofs.FormedCommands.{not_unless}
 use Rattle.scql_model.proofs.Outcomes.{AreProper, AreSparing, spares, proper-sparing, proper-making, sparing-grants, sparing-rows, IsOutcome, outcome-done, outcome-bound, outcome-asked, outcome-owned}
 use Rattle.scql_model.proofs.Keeping.{HasRoomFor, Keeps, next-making, IsThere, IsThere-found, of_kind-parts}
@@ -94,26 +94,26 @@ fits-actor db Public valid acts = refl
 fits-actor db (a_user stamp profile) valid acts = actor_fits db stamp profile valid acts
 
 -- an object is made, whose name no other has
-pub named_anew-keeps : (db : Database) (o : Object) → IsValid db → o.stamp ≡ db.next → IsObjectOf db.users db.objects o → Gives (Keeps db) (named_anew db o)
+pub named_anew-keeps : (db : Database) (o : Object) → IsValid db → o.stamp ≡ db.next → IsObjectOf db.users db.objects o → Yields (Keeps db) (named_anew db o)
 named_anew-keeps db o valid stamp is =
-    bound-gives (Keeps db) (provided (not (list_any (λ (other : Object). bytes_eq o.name other.name) db.objects)) already_exists) _ λ x free.
-    done-gives (Keeps db) (making db (of_object o)) (λ (room : HasRoomFor db (making db (of_object o))).
+    bound-yields (Keeps db) (provided (not (list_any (λ (other : Object). bytes_eq o.name other.name) db.objects)) already_exists) _ λ x free.
+    done-yields (Keeps db) (making db (of_object o)) (λ (room : HasRoomFor db (making db (of_object o))).
     IsValid-with_object db o valid is
     (any-map (bytes_eq o.name) (λ (other : Object). other.name) db.objects ∙ not-true _ (not_unless (not (list_any (λ (other : Object). bytes_eq o.name other.name) db.objects)) already_exists x free))
     stamp room.room (next-making db (of_object o) valid room))
 
 object_created-keeps : (db : Database) (actor : Actor) (name : List ℕ) (kind : ObjectKind) → IsValid db → IsActorOf db actor
     → object_fits (new_object db actor name kind) ≡ true → is_short (new_object db actor name kind) ≡ true → is_founded db.objects (new_object db actor name kind) ≡ true
-    → Gives (Keeps db) (object_created db actor name kind)
+    → Yields (Keeps db) (object_created db actor name kind)
 unfolding object_created
 object_created-keeps db actor name kind valid acts fits short founded =
-    bound-gives (Keeps db) (provided (makes_objects actor) security_not_satisfied) _ λ x may.
+    bound-yields (Keeps db) (provided (makes_objects actor) security_not_satisfied) _ λ x may.
     named_anew-keeps db (new_object db actor name kind) valid refl
     (record { fits = fits; short = short; maker = maker-actor db actor acts (not_unless (makes_objects actor) security_not_satisfied x may); founded = founded })
 
 -- CREATE TABLE and CREATE DICTIONARY
 pub table_created-keeps : (db : Database) (actor : Actor) (name : List ℕ) (columns : List (List ℕ)) → IsValid db → IsActorOf db actor → is_name name ≡ true → are_columns columns ≡ true
-    → Gives (Keeps db) (object_created db actor name (Table columns))
+    → Yields (Keeps db) (object_created db actor name (Table columns))
 table_created-keeps db actor name columns valid acts named are =
     let a = and_parts (is_count_of_columns (length columns)) (list_all is_name columns && are_different columns) are in
     let b = and_parts (list_all is_name columns) (are_different columns) a.1 in
@@ -122,7 +122,7 @@ table_created-keeps db actor name columns valid acts named are =
     object_created-keeps db actor name (Table columns) valid acts fits (short-table o columns refl fits) b.1
 
 pub dictionary_created-keeps : (db : Database) (actor : Actor) (name : List ℕ) (subject : Subject) → IsValid db → IsActorOf db actor → is_name name ≡ true
-    → Gives (Keeps db) (object_created db actor name (Dictionary subject))
+    → Yields (Keeps db) (object_created db actor name (Dictionary subject))
 dictionary_created-keeps db actor name subject valid acts named =
     let o : Object = new_object db actor name (Dictionary subject) in
     let fits : object_fits o ≡ true = rw (valid.counter, fits-actor db actor valid acts, named) refl in
@@ -151,12 +151,12 @@ no_view-left db o none = all-none_of (λ (v : Object). is_based_on o v.kind) (λ
     of_kind (Dictionary subject) other = refl
 
 -- DROP TABLE: its rows and the grants on it go, and then nothing names it
-pub table_dropped-keeps : (db : Database) (actor : Actor) (name : List ℕ) → IsValid db → Gives (Keeps db) (table_dropped db actor name)
+pub table_dropped-keeps : (db : Database) (actor : Actor) (name : List ℕ) → IsValid db → Yields (Keeps db) (table_dropped db actor name)
 unfolding table_dropped
 table_dropped-keeps db actor name valid =
-    bound-gives (Keeps db) (owned_by actor (of_kind is_table (seen_named db actor name))) _ λ o _.
-    bound-gives (Keeps db) (provided (not (has_view db o)) conditions_not_satisfied) _ λ x none.
-    done-gives (Keeps db) (removing_object db o ++ removing_rows db o) (λ room.
+    bound-yields (Keeps db) (owned_by actor (of_kind is_table (seen_named db actor name))) _ λ o _.
+    bound-yields (Keeps db) (provided (not (has_view db o)) conditions_not_satisfied) _ λ x none.
+    done-yields (Keeps db) (removing_object db o ++ removing_rows db o) (λ room.
     subst IsValid (sym (applied-removing_table db o valid.grants.rises valid.rows.rises))
     (IsValid-without_object (left o) o.stamp
     (IsValid-with_rows_left (with_grants_left db (λ (g : Grant). not (g.object == o.stamp))) (λ (r : RowRecord). not (r.table == o.stamp))
@@ -185,14 +185,14 @@ no_row-left db o valid there other = all-weaker (has_table db.objects) (λ (r : 
         ]
 
 -- DROP VIEW: the grants on it go, and then nothing names it
-pub view_dropped-keeps : (db : Database) (actor : Actor) (name : List ℕ) → IsValid db → Gives (Keeps db) (view_dropped db actor name)
+pub view_dropped-keeps : (db : Database) (actor : Actor) (name : List ℕ) → IsValid db → Yields (Keeps db) (view_dropped db actor name)
 unfolding view_dropped
 view_dropped-keeps db actor name valid =
-    bound-gives (Keeps db) (owned_by actor (of_kind (λ kind. not (is_table kind)) (seen_named db actor name))) _ λ o is.
-    bound-gives (Keeps db) (provided (not (has_view db o)) conditions_not_satisfied) _ λ x none.
+    bound-yields (Keeps db) (owned_by actor (of_kind (λ kind. not (is_table kind)) (seen_named db actor name))) _ λ o is.
+    bound-yields (Keeps db) (provided (not (has_view db o)) conditions_not_satisfied) _ λ x none.
     let parts = of_kind-parts (λ kind. not (is_table kind)) (seen_named db actor name) o ((owned-there actor _).each o is) in
     let there = IsThere-found db _ o valid parts.0 in
-    done-gives (Keeps db) (removing_object db o) (λ room.
+    done-yields (Keeps db) (removing_object db o) (λ room.
     subst IsValid (sym (applied-removing_object db o valid.grants.rises))
     (IsValid-without_object (with_grants_left db (λ (g : Grant). not (g.object == o.stamp))) o.stamp (IsValid-with_grants_left db (λ (g : Grant). not (g.object == o.stamp)) valid)
     (record {

@@ -28,7 +28,7 @@ use Rattle.scql_model.specs.Edits.{has_record, making, changing, removing}
 use Rattle.scql_model.proofs.Assigning.{length-all_assigned}
 use Rattle.scql_model.proofs.ChangedRows.{IsRowOf, IsValid-with_row, IsValid-with_row_changed, IsValid-with_rows_left}
 use Rattle.scql_model.proofs.LongerLists.{find-all}
-use Rattle.scql_model.proofs.RightEdits.{Gives, bound-gives, done-gives, has_record-row, found-there}
+use Rattle.scql_model.proofs.RightEdits.{Yields, bound-yields, done-yields, has_record-row, found-there}
 use Rattle.scql_model.proofs.FormedCommands.{not_unless, not_refused}
 use Rattle.scql_model.proofs.Outcomes.{AreProper, proper-sparing, proper-making, IsOutcome, outcome-done, outcome-bound, outcome-asked, outcome-there}
 use Rattle.scql_model.proofs.Keeping.{HasRoomFor, Keeps, next-making, IsThere-found, of_kind-parts}
@@ -82,17 +82,17 @@ deleted-outcome db actor cursor =
 
 -- INSERT: the row takes the next stamp, in a table that is there
 pub inserted-keeps : (db : Database) (actor : Actor) (name : List ℕ) (values : Values) → IsValid db → is_row values ≡ true → nat_le (row_size values) db.limit ≡ true
-    → Gives (Keeps db) (row_inserted db actor name values)
+    → Yields (Keeps db) (row_inserted db actor name values)
 unfolding row_inserted
 inserted-keeps db actor name values valid row within =
-    bound-gives (Keeps db) (or_refused (of_kind is_table (seen_named db actor name)) not_found) _ λ o is.
-    bound-gives (Keeps db) (provided (holds db actor o insert_privilege) security_not_satisfied) _ λ _ _.
-    bound-gives (Keeps db) (provided (length values == length (columns_of o.kind)) wrong_data) _ λ x same.
+    bound-yields (Keeps db) (or_refused (of_kind is_table (seen_named db actor name)) not_found) _ λ o is.
+    bound-yields (Keeps db) (provided (holds db actor o insert_privilege) security_not_satisfied) _ λ _ _.
+    bound-yields (Keeps db) (provided (length values == length (columns_of o.kind)) wrong_data) _ λ x same.
     let parts = of_kind-parts is_table (seen_named db actor name) o (not_refused (of_kind is_table (seen_named db actor name)) not_found o is) in
     let there = IsThere-found db _ o valid parts.0 in
     let as_many = eqb-true (length values) (length (columns_of o.kind)) (not_unless (length values == length (columns_of o.kind)) wrong_data x same) in
     let r : RowRecord = record { stamp = db.next; table = o.stamp; row = values } in
-    done-gives (Keeps db) (making db (of_row r)) (λ (room : HasRoomFor db (making db (of_row r))).
+    done-yields (Keeps db) (making db (of_row r)) (λ (room : HasRoomFor db (making db (of_row r))).
     IsValid-with_row db r valid (record {
       fits = rw (valid.counter, there.fits, row) refl;
       within = within;
@@ -149,25 +149,25 @@ record_at-found db cursor r found = go (row_at_place (contents_of db cursor.obje
     go (Some s) found = (s.stamp, found)
 
 pub updated-keeps : (db : Database) (actor : Actor) (cursor : Option Cursor) (assignments : List Assignment) → IsValid db → are_changes assignments ≡ true
-    → Gives (Keeps db) (row_updated db actor cursor assignments)
+    → Yields (Keeps db) (row_updated db actor cursor assignments)
 unfolding row_updated
 updated-keeps db actor cursor assignments valid changes =
-    bound-gives (Keeps db) (opened cursor) _ λ c _.
-    bound-gives (Keeps db) (written_through db actor update_privilege c) _ λ o _.
-    bound-gives (Keeps db) (provided (are_among (map (λ (a : Assignment). a.0) assignments) (columns_of o.kind)) not_found) _ λ _ _.
-    bound-gives (Keeps db) (or_refused (record_at_cursor db c) record_not_found) _ λ r is.
-    bound-gives (Keeps db) (provided (nat_le (row_size (row_after db assignments r).row) db.limit) wrong_data) _ λ x within.
+    bound-yields (Keeps db) (opened cursor) _ λ c _.
+    bound-yields (Keeps db) (written_through db actor update_privilege c) _ λ o _.
+    bound-yields (Keeps db) (provided (are_among (map (λ (a : Assignment). a.0) assignments) (columns_of o.kind)) not_found) _ λ _ _.
+    bound-yields (Keeps db) (or_refused (record_at_cursor db c) record_not_found) _ λ r is.
+    bound-yields (Keeps db) (provided (nat_le (row_size (row_after db assignments r).row) db.limit) wrong_data) _ λ x within.
     let found = record_at-found db c r (not_refused (record_at_cursor db c) record_not_found r is) in
     let new : RowRecord = row_after db assignments r in
-    done-gives (Keeps db) (changing (of_row new) ∷ []) (λ (room : HasRoomFor db (changing (of_row new) ∷ [])).
+    done-yields (Keeps db) (changing (of_row new) ∷ []) (λ (room : HasRoomFor db (changing (of_row new) ∷ [])).
     IsValid-with_row_changed db new valid
     (IsRowOf-row_after db assignments (λ (s : RowRecord). s.stamp == found.0) r valid found.1 changes (not_unless (nat_le (row_size new.row) db.limit) wrong_data x within)) room.room)
 
 -- DELETE: one row goes
-pub deleted-keeps : (db : Database) (actor : Actor) (cursor : Option Cursor) → IsValid db → Gives (Keeps db) (row_deleted db actor cursor)
+pub deleted-keeps : (db : Database) (actor : Actor) (cursor : Option Cursor) → IsValid db → Yields (Keeps db) (row_deleted db actor cursor)
 unfolding row_deleted
 deleted-keeps db actor cursor valid =
-    bound-gives (Keeps db) (opened cursor) _ λ c _.
-    bound-gives (Keeps db) (written_through db actor delete_privilege c) _ λ _ _.
-    bound-gives (Keeps db) (or_refused (record_at_cursor db c) record_not_found) _ λ r _.
-    done-gives (Keeps db) (removing (of_row r) ∷ []) (λ room. IsValid-with_rows_left db (λ (s : RowRecord). not (s.stamp == r.stamp)) valid)
+    bound-yields (Keeps db) (opened cursor) _ λ c _.
+    bound-yields (Keeps db) (written_through db actor delete_privilege c) _ λ _ _.
+    bound-yields (Keeps db) (or_refused (record_at_cursor db c) record_not_found) _ λ r _.
+    done-yields (Keeps db) (removing (of_row r) ∷ []) (λ room. IsValid-with_rows_left db (λ (s : RowRecord). not (s.stamp == r.stamp)) valid)

@@ -21,7 +21,7 @@ use Rattle.scql_model.proofs.AddedUser.{IsValid-with_user}
 use Rattle.scql_model.proofs.ChangedGrants.{with_grants_left, IsValid-with_grants_left}
 use Rattle.scql_model.proofs.FewerUsers.{MayGo, IsValid-without_user}
 use Rattle.scql_model.proofs.Removing.{applied-removing_user}
-use Rattle.scql_model.proofs.RightEdits.{Gives, bound-gives, done-gives, has_record-user, found-there, right-making, right-grants}
+use Rattle.scql_model.proofs.RightEdits.{Yields, bound-yields, done-yields, has_record-user, found-there, right-making, right-grants}
 use Rattle.scql_model.proofs.FormedCommands.{not_unless, not_refused}
 use Rattle.scql_model.proofs.UsersFollow.{making_one, taking_one, applied-users}
 use Rattle.scql_model.proofs.Outcomes.{AreProper, proper-kept, proper-leaving, sparing-grants, IsOutcome, outcome-done, outcome-asked, outcome-there}
@@ -55,12 +55,12 @@ user_deleted-outcome db actor name =
 
 -- CREATE USER
 pub user_added-keeps : (db : Database) (actor : Actor) (name : List ℕ) (profile : Profile) (secret : List ℕ) → IsValid db → IsAsked db actor name profile secret
-    → Gives (Keeps db) (user_added db actor name profile secret)
+    → Yields (Keeps db) (user_added db actor name profile secret)
 user_added-keeps db actor name profile secret valid asked =
-    bound-gives (Keeps db) (provided (may_create actor profile) security_not_satisfied) _ λ x may.
-    bound-gives (Keeps db) (provided (not (is_taken db name)) already_exists) _ λ y free.
+    bound-yields (Keeps db) (provided (may_create actor profile) security_not_satisfied) _ λ x may.
+    bound-yields (Keeps db) (provided (not (is_taken db name)) already_exists) _ λ y free.
     let u : User = new_user db actor name profile secret in
-    done-gives (Keeps db) (making db (of_user u)) (λ (room : HasRoomFor db (making db (of_user u))).
+    done-yields (Keeps db) (making db (of_user u)) (λ (room : HasRoomFor db (making db (of_user u))).
     IsValid-with_user db u valid
     (IsAddable-new_user db actor name profile secret valid asked (not_unless (may_create actor profile) security_not_satisfied x may)
     (not-true (is_taken db name) (not_unless (not (is_taken db name)) already_exists y free)))
@@ -87,13 +87,13 @@ other-stamp db q u valid found other =
     ]
 
 -- DELETE USER: the grants to the user go, and then nothing names the user
-pub user_deleted-keeps : (db : Database) (actor : Actor) (name : List ℕ) → IsValid db → Gives (Keeps db) (user_deleted db actor name)
+pub user_deleted-keeps : (db : Database) (actor : Actor) (name : List ℕ) → IsValid db → Yields (Keeps db) (user_deleted db actor name)
 unfolding user_deleted
 user_deleted-keeps db actor name valid =
-    bound-gives (Keeps db) (or_refused (user_named db.users name) not_found) _ λ u is.
-    bound-gives (Keeps db) (provided (owns_user actor u) security_not_satisfied) _ λ _ _.
-    bound-gives (Keeps db) (provided (not (is_needed db u)) conditions_not_satisfied) _ λ x free.
-    done-gives (Keeps db) (removing_user db u) (λ room.
+    bound-yields (Keeps db) (or_refused (user_named db.users name) not_found) _ λ u is.
+    bound-yields (Keeps db) (provided (owns_user actor u) security_not_satisfied) _ λ _ _.
+    bound-yields (Keeps db) (provided (not (is_needed db u)) conditions_not_satisfied) _ λ x free.
+    done-yields (Keeps db) (removing_user db u) (λ room.
     subst IsValid (sym (applied-removing_user db u valid.grants.rises))
     (IsValid-without_user (with_grants_left db (λ (g : Grant). not (g.grantee == u.stamp))) u.stamp (IsValid-with_grants_left db (λ (g : Grant). not (g.grantee == u.stamp)) valid)
     (may_go u (not_refused (user_named db.users name) not_found u is) (not-true (is_needed db u) (not_unless (not (is_needed db u)) conditions_not_satisfied x free)))))

@@ -31,7 +31,7 @@ use Rattle.scql_model.specs.Defining.{makes_objects, of_kind, is_table_or_view, 
 use Rattle.scql_model.proofs.Creating.{name-size}
 use Rattle.scql_model.proofs.LongerLists.{find-all, all-weaker}
 use Rattle.scql_model.proofs.RecordLengths.{names-size}
-use Rattle.scql_model.proofs.RightEdits.{Gives, bound-gives, done-gives}
+use Rattle.scql_model.proofs.RightEdits.{Yields, bound-yields, done-yields}
 use Rattle.scql_model.proofs.FormedCommands.{not_unless, not_refused}
 use Rattle.scql_model.proofs.Outcomes.{AreProper, IsOutcome, outcome-bound, outcome-asked, outcome-owned}
 use Rattle.scql_model.proofs.Keeping.{Keeps, IsThere-found, of_kind-parts}
@@ -108,11 +108,11 @@ among-wanted all [] conditions among =
 among-wanted all (name ∷ names) conditions among = among
 
 -- an object that the actor owns
-owned-parts : (actor : Actor) (found : Option Object) → Gives (λ o. (found ≡ Some o) × (owns actor o ≡ true)) (owned_by actor found)
+owned-parts : (actor : Actor) (found : Option Object) → Yields (λ o. (found ≡ Some o) × (owns actor o ≡ true)) (owned_by actor found)
 owned-parts actor found =
-    bound-gives (λ o. (found ≡ Some o) × (owns actor o ≡ true)) (or_refused found not_found) _ λ o is.
-    bound-gives (λ o. (found ≡ Some o) × (owns actor o ≡ true)) (provided (owns actor o) security_not_satisfied) _ λ x its.
-    done-gives (λ o. (found ≡ Some o) × (owns actor o ≡ true)) o (not_refused found not_found o is, not_unless (owns actor o) security_not_satisfied x its)
+    bound-yields (λ o. (found ≡ Some o) × (owns actor o ≡ true)) (or_refused found not_found) _ λ o is.
+    bound-yields (λ o. (found ≡ Some o) × (owns actor o ≡ true)) (provided (owns actor o) security_not_satisfied) _ λ x its.
+    done-yields (λ o. (found ≡ Some o) × (owns actor o ≡ true)) o (not_refused found not_found o is, not_unless (owns actor o) security_not_satisfied x its)
 
 own-stamp : (actor : Actor) (o : Object) → owns actor o ≡ true → (o.owner == actor_stamp actor) ≡ true
 own-stamp Public o its = absurd (false≢true its)
@@ -131,13 +131,13 @@ short-view o base columns conditions is named are few =
 
 -- CREATE VIEW
 pub view_created-keeps : (db : Database) (actor : Actor) (name base_name : List ℕ) (columns : Columns) (conditions : List Condition) → IsValid db → IsActorOf db actor → is_name name ≡ true
-    → are_chosen_columns columns ≡ true → are_conditions conditions ≡ true → length (records.conditions.spell conditions) ≤ 255 → Gives (Keeps db) (view_created db actor name base_name columns conditions)
+    → are_chosen_columns columns ≡ true → are_conditions conditions ≡ true → length (records.conditions.spell conditions) ≤ 255 → Yields (Keeps db) (view_created db actor name base_name columns conditions)
 unfolding view_created
 view_created-keeps db actor name base_name columns conditions valid acts named chosen are few =
-    bound-gives (Keeps db) (provided (makes_objects actor) security_not_satisfied) _ λ x may.
-    bound-gives (Keeps db) (owned_by actor (of_kind is_table_or_view (seen_named db actor base_name))) _ λ base is.
-    bound-gives (Keeps db) (provided (may_have_view db.objects base) conditions_not_satisfied) _ λ y deep.
-    bound-gives (Keeps db) (named_among (columns_of base.kind) columns conditions) _ λ z among.
+    bound-yields (Keeps db) (provided (makes_objects actor) security_not_satisfied) _ λ x may.
+    bound-yields (Keeps db) (owned_by actor (of_kind is_table_or_view (seen_named db actor base_name))) _ λ base is.
+    bound-yields (Keeps db) (provided (may_have_view db.objects base) conditions_not_satisfied) _ λ y deep.
+    bound-yields (Keeps db) (named_among (columns_of base.kind) columns conditions) _ λ z among.
     let found = (owned-parts actor _).each base is in
     let parts = of_kind-parts is_table_or_view (seen_named db actor base_name) base found.0 in
     let there = IsThere-found db _ base valid parts.0 in

@@ -18,10 +18,10 @@ use Rattle.scql_model.specs.Changing.{edits_of, lacks_room, with_edits, change_o
 use Rattle.scql_model.specs.Cursors.{Follows}
 use Rattle.scql_model.specs.ValidMachine.{IsPresentedIn}
 use Rattle.scql_model.proofs.ChangeLaws.{AreMade, AreMade-with_edits, change_of-refused, change_of-edits, same_Err, lacks}
-use Rattle.scql_model.proofs.RightEdits.{Gives, next-right}
+use Rattle.scql_model.proofs.RightEdits.{Yields, next-right}
 use Rattle.scql_model.proofs.ObjectsFollow.{Follows-applied}
 use Rattle.scql_model.proofs.UsersFollow.{presented-applied}
-use Rattle.scql_model.proofs.RefusalWords.{Anything, Gives as GivesOrRefuses}
+use Rattle.scql_model.proofs.RefusalWords.{Anything, OrRefuses}
 use Rattle.scql_model.proofs.Outcomes.{AreProper, IsOutcome, outcome-refused, gives-outcome, outcome-not_full}
 use Rattle.scql_model.proofs.Keeping.{HasRoomFor, Keeps}
 use Rattle.scql_model.proofs.KeepsRows.{inserted-outcome, updated-outcome, deleted-outcome, inserted-keeps, updated-keeps, deleted-keeps}
@@ -33,7 +33,7 @@ use Rattle.scql_model.proofs.KeepsUsers.{user_added-outcome, user_deleted-outcom
 -- how an operation ends, and that its edits keep a database valid
 record IsLawful (db : Database) (actor : Actor) (operation : Operation) (r : Result (List Edit) StatusWord) : Type 0 where
   ends : IsOutcome (AreProper db) r
-  keeps : IsValid db → IsActorOf db actor → HasForm operation → FitsCard db.limit operation → Gives (Keeps db) r
+  keeps : IsValid db → IsActorOf db actor → HasForm operation → FitsCard db.limit operation → Yields (Keeps db) r
 
 edits_of-lawful : (db : Database) (actor : Actor) (cursor : Option Cursor) (operation : Operation) → IsLawful db actor operation (edits_of db actor cursor operation)
 unfolding edits_of
@@ -94,7 +94,7 @@ edits_of-lawful db actor cursor operation = record {
 pub edits_of-proper : (db : Database) (actor : Actor) (cursor : Option Cursor) (operation : Operation) (edits : List Edit) → edits_of db actor cursor operation ≡ Ok edits → AreProper db edits
 edits_of-proper db actor cursor operation edits made = (edits_of-lawful db actor cursor operation).ends.each edits made
 
-pub gives-edits_of : (db : Database) (actor : Actor) (cursor : Option Cursor) (operation : Operation) → GivesOrRefuses Anything (edits_of db actor cursor operation)
+pub gives-edits_of : (db : Database) (actor : Actor) (cursor : Option Cursor) (operation : Operation) → OrRefuses Anything (edits_of db actor cursor operation)
 gives-edits_of db actor cursor operation = gives-outcome (edits_of db actor cursor operation) (edits_of-lawful db actor cursor operation).ends
 
 -- So the next stamp is one more where a stamp was taken, and else it stays.

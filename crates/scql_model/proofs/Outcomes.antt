@@ -20,7 +20,7 @@ use Rattle.scql_model.proofs.LongerLists.{all-weaker}
 use Rattle.scql_model.proofs.RightEdits.{AreRight, counts_on, right-making}
 use Rattle.scql_model.proofs.ObjectsFollow.{keeps_object, AreKept}
 use Rattle.scql_model.proofs.UsersFollow.{leaves_users, leaving-all, DoesTo}
-use Rattle.scql_model.proofs.RefusalWords.{Gives, Anything}
+use Rattle.scql_model.proofs.RefusalWords.{OrRefuses, Anything}
 
 -- each edit is right; none changes an object; users stay, one more is made, or one is taken away
 pub record AreProper (db : Database) (edits : List Edit) : Type 0 where
@@ -109,7 +109,7 @@ outcome-owned actor found =
     outcome-there found not_found _ refl λ o is. outcome-asked (owns actor o) security_not_satisfied _ refl λ _. outcome-done o is
 
 -- the word of a refusal is one of refusals
-pub gives-outcome : {A : Type 0} {P : A → Type 0} (r : Result A StatusWord) → IsOutcome P r → Gives Anything r
+pub gives-outcome : {A : Type 0} {P : A → Type 0} (r : Result A StatusWord) → IsOutcome P r → OrRefuses Anything r
 gives-outcome (Ok x) ends = tt
 gives-outcome (Err word) ends = (and_parts (nat_le 25600 word.word && nat_lt word.word done.word) (not (word.word == no_space.word)) (ends.word word refl)).0
 

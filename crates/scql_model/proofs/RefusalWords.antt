@@ -87,44 +87,44 @@ pub refuses-wrong_le : (n : ℕ) → Refuses (wrong_le n)
 refuses-wrong_le n = and_from (nat_le 25600 (27648 + in_sw2 n)) (nat_lt (27648 + in_sw2 n) done.word) (le-leb 25600 (27648 + in_sw2 n) (omega arith)) (lt-ltb (27648 + in_sw2 n) done.word (omega (arith, one_octet n)))
 
 -- An outcome is so, or a refusal.
-abbrev pub Gives : {A : Type 0} → (A → Type 0) → Result A StatusWord → Type 0
-Gives P (Ok x) = P x
-Gives P (Err word) = Refuses word
+abbrev pub OrRefuses : {A : Type 0} → (A → Type 0) → Result A StatusWord → Type 0
+OrRefuses P (Ok x) = P x
+OrRefuses P (Err word) = Refuses word
 
 abbrev pub Anything : {A : Type 0} → A → Type 0
 Anything x = Unit {0}
 
-pub behind : {A B : Type 0} (P : B → Type 0) (r : Result A StatusWord) (f : A → Result B StatusWord) → Gives Anything r → ((x : A) → r ≡ Ok x → Gives P (f x)) → Gives P (r >>= f)
+pub behind : {A B : Type 0} (P : B → Type 0) (r : Result A StatusWord) (f : A → Result B StatusWord) → OrRefuses Anything r → ((x : A) → r ≡ Ok x → OrRefuses P (f x)) → OrRefuses P (r >>= f)
 behind P (Ok x) f gives each = each x refl
 behind P (Err word) f gives each = gives
 
-pub or_word : {A : Type 0} (o : Option A) (word : StatusWord) → Refuses word → Gives Anything (or_refused o word)
+pub or_word : {A : Type 0} (o : Option A) (word : StatusWord) → Refuses word → OrRefuses Anything (or_refused o word)
 or_word None word is = is
 or_word (Some x) word is = tt
 
-pub if_word : (test : Bool) (word : StatusWord) → Refuses word → Gives Anything (provided test word)
+pub if_word : (test : Bool) (word : StatusWord) → Refuses word → OrRefuses Anything (provided test word)
 if_word true word is = tt
 if_word false word is = is
 
 -- what is asked of a command, and what there has to be
-pub asked : {B : Type 0} (P : B → Type 0) (test : Bool) (word : StatusWord) (f : Unit {0} → Result B StatusWord) → Refuses word → Gives P (f tt) → Gives P (provided test word >>= f)
+pub asked : {B : Type 0} (P : B → Type 0) (test : Bool) (word : StatusWord) (f : Unit {0} → Result B StatusWord) → Refuses word → OrRefuses P (f tt) → OrRefuses P (provided test word >>= f)
 asked P true word f is gives = gives
 asked P false word f is gives = is
 
-pub there : {A B : Type 0} (P : B → Type 0) (o : Option A) (word : StatusWord) (f : A → Result B StatusWord) → Refuses word → ((x : A) → Gives P (f x)) → Gives P (or_refused o word >>= f)
+pub there : {A B : Type 0} (P : B → Type 0) (o : Option A) (word : StatusWord) (f : A → Result B StatusWord) → Refuses word → ((x : A) → OrRefuses P (f x)) → OrRefuses P (or_refused o word >>= f)
 there P None word f is each = is
 there P (Some x) word f is each = each x
 
 -- Reading.
-pub gives-selected : (db : Database) (actor : Actor) (o : Object) → Gives Anything (selected db actor o)
+pub gives-selected : (db : Database) (actor : Actor) (o : Object) → OrRefuses Anything (selected db actor o)
 gives-selected db actor o = asked Anything (holds db actor o select_privilege) security_not_satisfied _ refl tt
 
-pub gives-rows : (db : Database) (actor : Actor) (c : Cursor) → Gives Anything (rows_under db actor c)
+pub gives-rows : (db : Database) (actor : Actor) (c : Cursor) → OrRefuses Anything (rows_under db actor c)
 gives-rows db actor c =
     behind Anything (or_refused (seen_stamped db actor c.object) not_found) _ (or_word (seen_stamped db actor c.object) not_found refl) (λ o _.
     behind Anything (selected db actor o) _ (gives-selected db actor o) (λ _ _. tt))
 
-pub gives-opened : (cursor : Option Cursor) → Gives Anything (opened cursor)
+pub gives-opened : (cursor : Option Cursor) → OrRefuses Anything (opened cursor)
 gives-opened cursor =
     behind Anything (or_refused cursor conditions_not_satisfied) _ (or_word cursor conditions_not_satisfied refl) (λ c _.
     behind Anything (provided (is_opened c.place) conditions_not_satisfied) _ (if_word (is_opened c.place) conditions_not_satisfied refl) (λ _ _. tt))
@@ -137,21 +137,21 @@ opened-is (Some d) c is = go (is_opened d.place) is
     go true is = ap result_ok is
     go false is = refused-not conditions_not_satisfied c is
 
-pub gives-fitting : (le : ℕ) (octets : List ℕ) → Gives Anything (fitting le octets)
+pub gives-fitting : (le : ℕ) (octets : List ℕ) → OrRefuses Anything (fitting le octets)
 gives-fitting le octets = go (nat_le (length octets) le || le == 256)
   where
-    go : (b : Bool) → Gives Anything (if b then Ok octets else Err (wrong_le (length octets)))
+    go : (b : Bool) → OrRefuses Anything (if b then Ok octets else Err (wrong_le (length octets)))
     go true = tt
     go false = refuses-wrong_le (length octets)
 
-pub gives-named_among : (columns named : Columns) (conditions : List Condition) → Gives Anything (named_among columns named conditions)
+pub gives-named_among : (columns named : Columns) (conditions : List Condition) → OrRefuses Anything (named_among columns named conditions)
 gives-named_among columns named conditions = if_word (are_among named columns && are_among (map (λ (c : Condition). c.column) conditions) columns) not_found refl
 
 -- Edits, where there is room for them.
-pub gives-with_edits : (db : Database) (edits : List Edit) → Gives Anything (with_edits db edits)
+pub gives-with_edits : (db : Database) (edits : List Edit) → OrRefuses Anything (with_edits db edits)
 gives-with_edits db edits = go (lacks_room db edits)
   where
-    go : (b : Bool) → Gives Anything (if b then Err no_space else Ok (applied db edits))
+    go : (b : Bool) → OrRefuses Anything (if b then Err no_space else Ok (applied db edits))
     go true = refl
     go false = tt
 
@@ -159,18 +159,18 @@ gives-with_edits db edits = go (lacks_room db edits)
 abbrev pub Plain : Answer → Type 0
 Plain answer = IsPlain answer.reply.word
 
-pub gives-session_named : (db : Database) (name : List ℕ) → Gives Anything (session_named db name)
+pub gives-session_named : (db : Database) (name : List ℕ) → OrRefuses Anything (session_named db name)
 gives-session_named db name = go (bytes_eq name public_name)
   where
-    go : (b : Bool) → Gives Anything (if b then Ok new_session else (or_refused (user_named db.users name) not_found >>= λ u. Ok (session_for (Some (presented u)))))
+    go : (b : Bool) → OrRefuses Anything (if b then Ok new_session else (or_refused (user_named db.users name) not_found >>= λ u. Ok (session_for (Some (presented u)))))
     go true = tt
     go false = behind Anything (or_refused (user_named db.users name) not_found) _ (or_word (user_named db.users name) not_found refl) (λ _ _. tt)
 
-pub plain-opened : (m : Machine) (channel number : ℕ) → Gives Plain (channel_opened m channel number)
+pub plain-opened : (m : Machine) (channel number : ℕ) → OrRefuses Plain (channel_opened m channel number)
 plain-opened m channel zero = behind Plain (or_refused (least_closed m) function_not_supported) _ (or_word (least_closed m) function_not_supported refl) (λ _ _. plain-done)
 plain-opened m channel (suc n) = asked Plain (not (is_channel_open m (suc n))) conditions_not_satisfied _ refl plain-done
 
-pub plain-closed : (m : Machine) (channel number : ℕ) → Gives Plain (channel_closed m channel number)
+pub plain-closed : (m : Machine) (channel number : ℕ) → OrRefuses Plain (channel_closed m channel number)
 plain-closed m channel number =
     asked Plain (is_channel_open m number) channel_not_supported _ refl
     (asked Plain (not (is_some (own_transaction m.transaction number))) conditions_not_satisfied _ refl plain-done)
@@ -182,26 +182,26 @@ RefusedSo (refused_on channel word) = Refuses word
 RefusedSo (part_on channel kind part) = Unit {0}
 RefusedSo (a_command c) = Unit {0}
 
-pub gives-class_of : (cla : ℕ) → Gives Anything (class_of cla)
+pub gives-class_of : (cla : ℕ) → OrRefuses Anything (class_of cla)
 gives-class_of cla = go (not (cla / 32 == 0)) (not (cla / 4 % 4 == 0))
   where
-    go : (other secure : Bool) → Gives {A = Unit {0}} Anything (if other then Err class_not_supported else if secure then Err secure_messaging_not_supported else Ok tt)
+    go : (other secure : Bool) → OrRefuses {A = Unit {0}} Anything (if other then Err class_not_supported else if secure then Err secure_messaging_not_supported else Ok tt)
     go true secure = refl
     go false true = refl
     go false false = tt
 
-pub gives-channel_of : (cla : ℕ) (channels : List Bool) → Gives Anything (channel_of cla channels)
+pub gives-channel_of : (cla : ℕ) (channels : List Bool) → OrRefuses Anything (channel_of cla channels)
 gives-channel_of cla channels = go (is_open (slice_get channels (cla % 4)))
   where
-    go : (b : Bool) → Gives Anything (if b then Ok (cla % 4) else Err channel_not_supported)
+    go : (b : Bool) → OrRefuses Anything (if b then Ok (cla % 4) else Err channel_not_supported)
     go true = tt
     go false = refl
 
-pub refused-formed : (r : Result ℕ StatusWord) (f : ℕ → Result Form StatusWord) → Gives Anything r → ((channel : ℕ) → Gives RefusedSo (f channel)) → RefusedSo (formed r f)
+pub refused-formed : (r : Result ℕ StatusWord) (f : ℕ → Result Form StatusWord) → OrRefuses Anything r → ((channel : ℕ) → OrRefuses RefusedSo (f channel)) → RefusedSo (formed r f)
 refused-formed (Err word) f gives each = gives
 refused-formed (Ok channel) f gives each = go (f channel) (each channel)
   where
-    go : (r : Result Form StatusWord) → Gives RefusedSo r → RefusedSo (formed_on channel r)
+    go : (r : Result Form StatusWord) → OrRefuses RefusedSo r → RefusedSo (formed_on channel r)
     go (Err word) is = is
     go (Ok form) is = is
 
@@ -219,18 +219,18 @@ refused-form_of table (cla ∷ ins ∷ p1 ∷ p2 ∷ after) channels chain limit
     behind RefusedSo (line_on table channel ins p1 p2) _ (gives-line channel) (λ line _.
     behind RefusedSo (taken_in line.takes (is_chained cla) after) _ (gives-taken line.takes) (λ tail _. go (is_chained cla) channel line tail)))
   where
-    gives-line : (channel : ℕ) → Gives Anything (line_on table channel ins p1 p2)
+    gives-line : (channel : ℕ) → OrRefuses Anything (line_on table channel ins p1 p2)
     gives-line channel =
         there Anything (line_of table ins p1 p2) wrong_parameters _ refl (λ line.
         asked Anything (is_for_channel channel line.kind) wrong_parameters _ refl tt)
 
-    gives-taken : (takes : Takes) → Gives Anything (taken_in takes (is_chained cla) after)
+    gives-taken : (takes : Takes) → OrRefuses Anything (taken_in takes (is_chained cla) after)
     gives-taken takes =
         there Anything (tail_of after) wrong_length _ refl (λ tail.
         asked Anything (takes_case takes tail && (not (is_chained cla) || is_case_3 tail)) wrong_length _ refl tt)
 
     go : (more : Bool) (channel : ℕ) (line : Line) (tail : Tail)
-        → Gives RefusedSo (if more then part_in channel line.kind (parts_of line.kind (chain channel)) tail else command_in (has_secrets table) channel line.kind limit (parts_of line.kind (chain channel)) tail)
+        → OrRefuses RefusedSo (if more then part_in channel line.kind (parts_of line.kind (chain channel)) tail else command_in (has_secrets table) channel line.kind limit (parts_of line.kind (chain channel)) tail)
     go true channel line tail =
         asked RefusedSo (comes_in_parts line.kind) chaining_not_supported _ refl
         (asked RefusedSo (not (length (parts_of line.kind (chain channel)) == 4)) wrong_length _ refl tt)

@@ -90,26 +90,26 @@ all-there key has q (x ∷ xs) each =
     elim (cases_Bool (q x)) [ inl t ↦ rw (t, here) rest | inr f ↦ rw f rest ]
 
 -- what a value is made of that isn't refused
-pub record Gives {A : Type 0} (P : A → Type 0) (r : Result A StatusWord) : Type 0 where
+pub record Yields {A : Type 0} (P : A → Type 0) (r : Result A StatusWord) : Type 0 where
   pub each : (x : A) → r ≡ Ok x → P x
 
-pub bound-gives : {A B : Type 0} (P : B → Type 0) (r : Result A StatusWord) (f : A → Result B StatusWord) → ((x : A) → r ≡ Ok x → Gives P (f x)) → Gives P (r >>= f)
-bound-gives P (Ok x) f each = each x refl
-bound-gives P (Err word) f each = record { each = λ x (is : Err word ≡ Ok x). cc }
+pub bound-yields : {A B : Type 0} (P : B → Type 0) (r : Result A StatusWord) (f : A → Result B StatusWord) → ((x : A) → r ≡ Ok x → Yields P (f x)) → Yields P (r >>= f)
+bound-yields P (Ok x) f each = each x refl
+bound-yields P (Err word) f each = record { each = λ x (is : Err word ≡ Ok x). cc }
 
-pub done-gives : {A : Type 0} (P : A → Type 0) (x : A) → P x → Gives P (let r : Result A StatusWord = Ok x in r)
-done-gives P x holds = record { each = λ y (is : Ok x ≡ Ok y). subst P (same_Some x y (ap result_ok is)) holds }
+pub done-yields : {A : Type 0} (P : A → Type 0) (x : A) → P x → Yields P (let r : Result A StatusWord = Ok x in r)
+done-yields P x holds = record { each = λ y (is : Ok x ≡ Ok y). subst P (same_Some x y (ap result_ok is)) holds }
 
 -- a record that is made takes the next stamp
 pub right-making : (db : Database) (r : AnyRecord) → record_stamp r ≡ db.next → counts_on db.next r ≡ true → AreRight db (making db r)
 right-making db r next counts = rw (next, counts, eq-eqb (db.next + 1) (db.next + 1) refl, eq-eqb db.next db.next refl) refl
 
 -- an object that the actor owns is there
-pub owned-there : (actor : Actor) (found : Option Object) → Gives (λ o. found ≡ Some o) (owned_by actor found)
+pub owned-there : (actor : Actor) (found : Option Object) → Yields (λ o. found ≡ Some o) (owned_by actor found)
 owned-there actor found =
-    bound-gives (λ o. found ≡ Some o) (or_refused found not_found) _ λ o is.
-    bound-gives (λ o. found ≡ Some o) (provided (owns actor o) security_not_satisfied) _ λ _ _.
-    done-gives (λ o. found ≡ Some o) o (not_refused found not_found o is)
+    bound-yields (λ o. found ≡ Some o) (or_refused found not_found) _ λ o is.
+    bound-yields (λ o. found ≡ Some o) (provided (owns actor o) security_not_satisfied) _ λ _ _.
+    done-yields (λ o. found ≡ Some o) o (not_refused found not_found o is)
 
 pub right-grants : (db : Database) (q : Grant → Bool) → AreRight db (map (λ (g : Grant). removing (of_grant g)) (filter q db.grants))
 right-grants db q =

@@ -75,15 +75,15 @@ are_presented-in db new sessions each are =
     each-weaker (Presents db) (Presents new) sessions (λ session is. if_some-weaker (IsPresentedIn db) (IsPresentedIn new) (option_and_then (λ (s : Session). s.user) session) each is) are
 
 -- What sessions read.
-abbrev Reads : Database → Option Session → Type 0
-Reads db session = IsReadingOf db (option_map_or (λ (s : Session). s.reading) session no_reading)
+abbrev ReadsIn : Database → Option Session → Type 0
+ReadsIn db session = IsReadingOf db (option_map_or (λ (s : Session). s.reading) session no_reading)
 
 -- what each session reads, of the database of its channel
 abbrev AreReading : (ℕ → Database) → List (Option Session) → Type 0
-AreReading db sessions = (channel : ℕ) → Reads (db channel) (option_flatten (slice_get sessions channel))
+AreReading db sessions = (channel : ℕ) → ReadsIn (db channel) (option_flatten (slice_get sessions channel))
 
 reading-set : (db : ℕ → Database) (sessions : List (Option Session)) (channel : ℕ) (session : Option Session)
-    → ((other : ℕ) → (other ≡ channel → ⊥) → Reads (db other) (option_flatten (slice_get sessions other))) → Reads (db channel) session → AreReading db (slice_set sessions channel session)
+    → ((other : ℕ) → (other ≡ channel → ⊥) → ReadsIn (db other) (option_flatten (slice_get sessions other))) → ReadsIn (db channel) session → AreReading db (slice_set sessions channel session)
 reading-set db [] channel session others here other = no_reading-of (db other)
 reading-set db (s ∷ sessions) zero session others here zero = here
 reading-set db (s ∷ sessions) zero session others here (suc other) = others (suc other) (λ (same : suc other ≡ zero). omega arith)
@@ -136,7 +136,7 @@ valid-sessions m sessions each reading basic valid = record {
 }
 
 -- the session of a channel is none, a new one, or one of the same user
-valid-with_session : (m : Machine) (channel : ℕ) (session : Option Session) → ((db : Database) → ArePresentedIn db m.sessions → Presents db session) → Reads (base m channel) session
+valid-with_session : (m : Machine) (channel : ℕ) (session : Option Session) → ((db : Database) → ArePresentedIn db m.sessions → Presents db session) → ReadsIn (base m channel) session
     → IsBasicOpen (slice_set m.sessions channel session) → IsValidMachine m → IsValidMachine (with_session m channel session)
 valid-with_session m channel session is reads basic valid =
     valid-sessions m (slice_set m.sessions channel session) (λ db are. all-set (Presents db) m.sessions channel session are (is db are))
@@ -152,7 +152,7 @@ valid-changing m channel change keeps reads valid =
     go db None is = tt
     go db (Some s) is = keeps db s is
 
-    read : (session : Option Session) → Reads (base m channel) session → Reads (base m channel) (option_map change session)
+    read : (session : Option Session) → ReadsIn (base m channel) session → ReadsIn (base m channel) (option_map change session)
     read None is = is
     read (Some s) is = reads s is
 
@@ -393,16 +393,16 @@ valid-rolled_back m channel valid =
     presents None is = tt
     presents (Some s) is = is
 
-    nothing : (session : Option Session) → Reads m.committed (option_map without_cursor session)
+    nothing : (session : Option Session) → ReadsIn m.committed (option_map without_cursor session)
     nothing None = no_reading-of m.committed
     nothing (Some s) = no_reading-of m.committed
 
     elsewhere_not : (t : Transaction) (channel other : ℕ) → (t.channel == channel) ≡ true → (other ≡ channel → ⊥) → (t.channel == other) ≡ false
     elsewhere_not t channel other own apart = let here = eqb-true t.channel channel own in ne_eqb t.channel other (λ (same : t.channel ≡ other). apart (omega arith))
 
-    elsewhere : (t : Transaction) → m.transaction ≡ Some t → (other : ℕ) → (t.channel == other) ≡ false → Reads m.committed (session_of m other)
+    elsewhere : (t : Transaction) → m.transaction ≡ Some t → (other : ℕ) → (t.channel == other) ≡ false → ReadsIn m.committed (session_of m other)
     elsewhere t is other not_own =
-        let read = subst (λ (o : Option Transaction). Reads (base_of o m.committed other) (session_of m other)) is (valid.readings other) in
+        let read = subst (λ (o : Option Transaction). ReadsIn (base_of o m.committed other) (session_of m other)) is (valid.readings other) in
         rw not_own at read
 
 -- PRESENT USER: who is found has the secret that it has

@@ -15,13 +15,13 @@ use Rattle.search_cond.specs.Bound.{first_unknown, is_met, passes}
 use Rattle.search_cond.specs.declared.placed.Placed.{Placed}
 
 -- a column that is found, counted from a number on: it is among the columns, and a row's value in it is the one at its place
-record IsAt (columns : Columns) (values : Values) (column : List ℕ) (from k : ℕ) : Type 0 where
+record IsPlaceOf (columns : Columns) (values : Values) (column : List ℕ) (from k : ℕ) : Type 0 where
   at : ℕ
   is : k ≡ from + at
   known : list_any (bytes_eq column) columns ≡ true
   value : value_of columns values column ≡ get_or values at []
 
-found_at : (columns : Columns) (values : Values) (column : List ℕ) (from k : ℕ) → position_from (bytes_eq column) from columns ≡ Some k → IsAt columns values column from k
+found_at : (columns : Columns) (values : Values) (column : List ℕ) (from k : ℕ) → position_from (bytes_eq column) from columns ≡ Some k → IsPlaceOf columns values column from k
 found_at [] values column from k found = absurd (none-some k found)
 found_at (c ∷ columns) [] column from k found =
     elim (cases_Bool (bytes_eq column c)) [

@@ -28,7 +28,7 @@ use Rattle.scql_model.specs.Step.{Answer, answered, stepped}
 use Rattle.scql_model.specs.Writing.{row_inserted}
 use Rattle.scql_model.proofs.KeepsRows.{inserted-outcome}
 use Rattle.scql_model.proofs.Outcomes.{gives-outcome}
-use Rattle.scql_model.proofs.RefusalWords.{Gives, Anything, there, asked, gives-with_edits, not_done-refusal}
+use Rattle.scql_model.proofs.RefusalWords.{OrRefuses, Anything, there, asked, gives-with_edits, not_done-refusal}
 use Rattle.card_link.specs.Link.{Answered, Holds, IsOneOf}
 use Rattle.script.specs.Commands.{asking, IsSendable}
 use Rattle.script.proofs.Sendable.{asked-sent}
@@ -191,7 +191,7 @@ module _ (d : Machine) (db : Database) (m : Machine) (c : IsCopying d db m) wher
       only (inr none) = absurd none
 
 -- An INSERT leaves the users.
-made-by : (db : Database) (a : Actor) (table : List ℕ) (row : Values) → Gives (λ (edits : List Edit). (r : RowRecord) × (edits ≡ making db (of_row r))) (row_inserted db a table row)
+made-by : (db : Database) (a : Actor) (table : List ℕ) (row : Values) → OrRefuses (λ (edits : List Edit). (r : RowRecord) × (edits ≡ making db (of_row r))) (row_inserted db a table row)
 unfolding row_inserted
 made-by db a table row =
     let P : List Edit → Type 0 = λ edits. (r : RowRecord) × (edits ≡ making db (of_row r)) in
@@ -207,7 +207,7 @@ acting-same s db next same =
 users-same : (db next : Database) (a : Actor) (table : List ℕ) (row : Values) (edits : List Edit) → row_inserted db a table row ≡ Ok edits → with_edits db edits ≡ Ok next → next.users ≡ db.users
 users-same db next a table row edits is with_room =
     let made : (r : RowRecord) × (edits ≡ making db (of_row r)) =
-    subst (Gives (λ (edits : List Edit). (r : RowRecord) × (edits ≡ making db (of_row r)))) is (made-by db a table row) in
+    subst (OrRefuses (λ (edits : List Edit). (r : RowRecord) × (edits ≡ making db (of_row r)))) is (made-by db a table row) in
     ap (λ (db : Database). db.users) (go (lacks_room db edits) with_room) ∙ ap (λ (edits : List Edit). (applied db edits).users) made.1
   where
     go : (lacks : Bool) → (if lacks then Err no_space else Ok (applied db edits)) ≡ Ok next → next ≡ applied db edits
@@ -286,12 +286,12 @@ module _ (d : Machine) (db : Database) (m : Machine) (c : IsCopying d db m) (tab
 
     by-edits : (edits : Result (List Edit) StatusWord) → row_inserted db (actor d 0) table row ≡ edits → answer_to m (asking 0 (Insert table row)) ≡ answered_by (after_edits edits)
         → InsertsSo is_at d db (edits >>= λ edits. with_edits db edits) r now
-    by-edits (Err word) made a = refused-insert word a (not_done-refusal word (subst (Gives Anything) made (gives-outcome (row_inserted db (actor d 0) table row) (inserted-outcome db (actor d 0) table row))))
+    by-edits (Err word) made a = refused-insert word a (not_done-refusal word (subst (OrRefuses Anything) made (gives-outcome (row_inserted db (actor d 0) table row) (inserted-outcome db (actor d 0) table row))))
     by-edits (Ok edits) made a = room (with_edits db edits) refl a
       where
         room : (next : Result Database StatusWord) → with_edits db edits ≡ next
             → answer_to m (asking 0 (Insert table row)) ≡ answered_by (next >>= λ next. Ok (transaction_after m.committed c.transaction edits next)) → InsertsSo is_at d db next r now
-        room (Err word) is a = refused-insert word a (not_done-refusal word (subst (Gives Anything) is (gives-with_edits db edits)))
+        room (Err word) is a = refused-insert word a (not_done-refusal word (subst (OrRefuses Anything) is (gives-with_edits db edits)))
         room (Ok next) is a = done-insert next edits made is a
 
     pub inserts-so : InsertsSo is_at d db (row_copied d.committed.limit (actor d 0) table db row) r now

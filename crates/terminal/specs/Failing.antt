@@ -42,7 +42,7 @@ pub record RunLeaves {L T : Type 0} (is_live : L → Bool) (faults sink_faults :
   pub goes_on : goes old new
 
 -- A text is given to a desk.
-pub record Gives {L T : Type 0} (is_at : L → Machine → Type 0) (given : L → Option (List ℕ)) (is_live : L → Bool) (faults sink_faults mark : L → ℕ) (chip : L → Chip) (goes : L → L → Type 0) (text : List ℕ) (result : Result T Failure) (old new : L) : Type 0 where
+pub record GivesToDesk {L T : Type 0} (is_at : L → Machine → Type 0) (given : L → Option (List ℕ)) (is_live : L → Bool) (faults sink_faults mark : L → ℕ) (chip : L → Chip) (goes : L → L → Type 0) (text : List ℕ) (result : Result T Failure) (old new : L) : Type 0 where
   -- It went out,
   pub printed : OnOk result (Prints text (given old) (given new))
   -- or its start did,

@@ -5,7 +5,7 @@ ghost use Rattle.script.specs.Commands.{IsSendable};
 ghost use Rattle.planner.specs.Planned.{IfSent};
 ghost use Rattle.card_asking.specs.Following.{ComesOn, OnlyReads, given_by, run_of};
 ghost use Rattle.terminal.specs.Going.{printed_row, rows_text, PlanRuns, StepRuns};
-ghost use Rattle.terminal.specs.Failing.{Gives, RunLeaves};
+ghost use Rattle.terminal.specs.Failing.{GivesToDesk, RunLeaves};
 
 use crate::failure::Failure;
 use crate::printing::{LONGEST_ROW, put_row_text};
@@ -38,7 +38,7 @@ impl Room {
 
 /// Gives a piece of output.
 pub(crate) fn give<L: Desk>(desk: &mut L, octets: &[u8]) -> Result<(), Failure>
-    ensures { Gives L.is_at L.given L.is_live L.faults L.sink_faults L.mark L.chip L.goes_on octets.now result desk.old desk.new }
+    ensures { GivesToDesk L.is_at L.given L.is_live L.faults L.sink_faults L.mark L.chip L.goes_on octets.now result desk.old desk.new }
 {
     match desk.give(octets) {
         Ok(()) => Ok(()),
@@ -64,7 +64,7 @@ fn follow<L: Desk>(desk: &mut L, plan: &mut Plan, room: &mut Room) -> Result<(),
 // The row that a step has is printed, if it has one.
 fn print_given<L: Desk>(desk: &mut L, plan: &Plan, room: &mut Room) -> Result<(), Failure>
     ensures step { room.new.step ≡ room.old.step }
-    ensures gives { Gives L.is_at L.given L.is_live L.faults L.sink_faults L.mark L.chip L.goes_on (rows_text (given_by plan.now room.old.step)) result desk.old desk.new }
+    ensures gives { GivesToDesk L.is_at L.given L.is_live L.faults L.sink_faults L.mark L.chip L.goes_on (rows_text (given_by plan.now room.old.step)) result desk.old desk.new }
     ensures row { OnErr result (given_by plan.now room.old.step ≢ []) }
     ensures still { given_by plan.now room.old.step ≡ [] → L.mark desk.new ≡ L.mark desk.old }
 {
@@ -80,7 +80,7 @@ fn print_row<L: Desk>(
     plan: &Plan,
     text: &mut ArrayVec<u8, LONGEST_ROW>,
 ) -> Result<(), Failure>
-    ensures { Gives L.is_at L.given L.is_live L.faults L.sink_faults L.mark L.chip L.goes_on (printed_row plan.now.row) result desk.old desk.new }
+    ensures { GivesToDesk L.is_at L.given L.is_live L.faults L.sink_faults L.mark L.chip L.goes_on (printed_row plan.now.row) result desk.old desk.new }
 {
     put_row_text(plan.row(), text);
     give(desk, text.as_slice())

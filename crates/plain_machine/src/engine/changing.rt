@@ -1,7 +1,7 @@
 // Commands that change what a channel reads.
 ghost use Rattle.scql_model.specs.Step as stepping;
-ghost use Rattle.plain_database.specs.Effects.{Ends};
-ghost use Rattle.plain_reading.specs.Outcomes.{Answers};
+ghost use Rattle.plain_database.specs.Effects.{EndsAsMeant};
+ghost use Rattle.plain_reading.specs.Outcomes.{AnswersAsMeant};
 ghost use Rattle.plain_machine.specs.Answers.{base_changed, outcome_left};
 ghost use Rattle.plain_machine.specs.Serving.{IsServed};
 
@@ -19,7 +19,7 @@ impl Engine {
         reply: &mut Reply,
     ) -> Result<(), StatusWord>
         requires { IsServed self.old channel }
-        ensures { Answers self.old self.new reply.new result (outcome_left (stepping.changed self.old channel operation.now)) }
+        ensures { AnswersAsMeant self.old self.new reply.new result (outcome_left (stepping.changed self.old channel operation.now)) }
     {
         self.change_base(channel, operation)?;
         self.finish(channel, reply);
@@ -29,7 +29,7 @@ impl Engine {
     // Changes what a channel reads and changes.
     fn change_base(&mut self, channel: Channel, operation: &Operation) -> Result<(), StatusWord>
         requires { IsServed self.old channel }
-        ensures { Ends self.old self.new result (base_changed self.old channel operation.now) }
+        ensures { EndsAsMeant self.old self.new result (base_changed self.old channel operation.now) }
     {
         let actor = self.actor(channel);
         if self.has_transaction(channel) {

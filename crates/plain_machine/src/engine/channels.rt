@@ -1,6 +1,6 @@
 // MANAGE CHANNEL: channels are opened and closed (ISO/IEC 7816-4).
 ghost use Rattle.scql_model.specs.Step as stepping;
-ghost use Rattle.plain_reading.specs.Outcomes.{Answers};
+ghost use Rattle.plain_reading.specs.Outcomes.{AnswersAsMeant};
 ghost use Rattle.plain_machine.specs.Answers.{outcome_left};
 
 use crate::channel::Channel;
@@ -16,7 +16,7 @@ impl Engine {
         number: Channel,
         reply: &mut Reply,
     ) -> Result<(), StatusWord>
-        ensures { Answers self.old self.new reply.new result (outcome_left (stepping.channel_opened self.old channel number)) }
+        ensures { AnswersAsMeant self.old self.new reply.new result (outcome_left (stepping.channel_opened self.old channel number)) }
     {
         if number.number() == 0 {
             let Some(least) = self.sessions.least_closed() else {
@@ -42,7 +42,7 @@ impl Engine {
         number: Channel,
         reply: &mut Reply,
     ) -> Result<(), StatusWord>
-        ensures { Answers self.old self.new reply.new result (outcome_left (stepping.channel_closed self.old channel number)) }
+        ensures { AnswersAsMeant self.old self.new reply.new result (outcome_left (stepping.channel_closed self.old channel number)) }
     {
         if !self.sessions.is_open(number) {
             return Err(StatusWord::CHANNEL_NOT_SUPPORTED);

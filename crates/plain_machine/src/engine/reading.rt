@@ -7,7 +7,7 @@ ghost use Rattle.scql_model.specs.Step as stepping;
 ghost use Rattle.scql_model.specs.Touched.{without_touched};
 ghost use Rattle.plain_reading.specs.Commands.{command_seen};
 ghost use Rattle.plain_machine.specs.Answers.{left_by_answer};
-ghost use Rattle.plain_machine.specs.Reading.{Reads};
+ghost use Rattle.plain_machine.specs.Reading.{ReadsOnChannel};
 ghost use Rattle.plain_machine.specs.Serving.{IsServed};
 
 use crate::channel::Channel;
@@ -35,7 +35,7 @@ impl Engine {
         reply: &mut Reply,
     ) -> Result<(), StatusWord>
         requires { IsServed self.old channel }
-        ensures { Reads (λ m. model.reading_of m channel) (λ reading. without_touched (model.changing_session (model.reading_so reading) self.old channel)) self.old self.new reply.new result
+        ensures { ReadsOnChannel (λ m. model.reading_of m channel) (λ reading. without_touched (model.changing_session (model.reading_so reading) self.old channel)) self.old self.new reply.new result
             (moved (machine.base self.old channel) (machine.actor self.old channel) (model.reading_of self.old channel) (command_seen command.now)) }
     {
         let actor = self.actor(channel);

@@ -4,7 +4,7 @@ ghost use Rattle.scql_model.specs.Operations.{kind_of};
 ghost use Rattle.scql_model.specs.Step as stepping;
 ghost use Rattle.scql_model.specs.Transactions.{is_kept_waiting, waits};
 ghost use Rattle.scql_model.specs.ValidMachine.{IsValidMachine};
-ghost use Rattle.plain_reading.specs.Outcomes.{Answers};
+ghost use Rattle.plain_reading.specs.Outcomes.{AnswersAsMeant};
 ghost use Rattle.plain_machine.specs.Answers.{left_by_answer, outcome_left};
 ghost use Rattle.plain_machine.specs.Serving.{ServesCommand, ServesOperation};
 
@@ -41,7 +41,7 @@ impl Engine {
     // An open transaction may stand against a command; else it reads, or does what its operation does.
     fn carry_out(&mut self, command: &Command, reply: &mut Reply) -> Result<(), StatusWord>
         requires { ServesCommand self.old command.now }
-        ensures { Answers self.old self.new reply.new result (outcome_left (stepping.carried_out self.old command.now)) }
+        ensures { AnswersAsMeant self.old self.new reply.new result (outcome_left (stepping.carried_out self.old command.now)) }
     {
         let channel = Channel::new(command.channel);
         if self.keeps_waiting(channel, &command.operation) {
@@ -64,7 +64,7 @@ impl Engine {
         reply: &mut Reply,
     ) -> Result<(), StatusWord>
         requires { ServesOperation self.old channel operation.now }
-        ensures { Answers self.old self.new reply.new result (outcome_left (stepping.operated self.old channel operation.now)) }
+        ensures { AnswersAsMeant self.old self.new reply.new result (outcome_left (stepping.operated self.old channel operation.now)) }
     {
         match operation {
             Operation::Begin => self.begin(channel, reply),

@@ -1,7 +1,7 @@
 // BEGIN, COMMIT and ROLLBACK on a channel.
 ghost use Rattle.scql_model.specs.Database.{IsValid};
 ghost use Rattle.scql_model.specs.Step as stepping;
-ghost use Rattle.plain_reading.specs.Outcomes.{Answers};
+ghost use Rattle.plain_reading.specs.Outcomes.{AnswersAsMeant};
 ghost use Rattle.plain_machine.specs.Answers.{outcome_left};
 
 use crate::channel::Channel;
@@ -14,7 +14,7 @@ impl Engine {
     // BEGIN: the working database begins as the committed one.
     pub(super) fn begin(&mut self, channel: Channel, reply: &mut Reply) -> Result<(), StatusWord>
         requires { IsValid self.old.committed }
-        ensures { Answers self.old self.new reply.new result (outcome_left (stepping.transaction_begun self.old channel)) }
+        ensures { AnswersAsMeant self.old self.new reply.new result (outcome_left (stepping.transaction_begun self.old channel)) }
     {
         if self.transaction.is_some() {
             return Err(StatusWord::CONDITIONS_NOT_SATISFIED);
@@ -27,7 +27,7 @@ impl Engine {
 
     // COMMIT: the working database is committed.
     pub(super) fn commit(&mut self, channel: Channel, reply: &mut Reply) -> Result<(), StatusWord>
-        ensures { Answers self.old self.new reply.new result (outcome_left (stepping.transaction_committed self.old channel)) }
+        ensures { AnswersAsMeant self.old self.new reply.new result (outcome_left (stepping.transaction_committed self.old channel)) }
     {
         if !self.has_transaction(channel) {
             return Err(StatusWord::CONDITIONS_NOT_SATISFIED);
@@ -44,7 +44,7 @@ impl Engine {
         channel: Channel,
         reply: &mut Reply,
     ) -> Result<(), StatusWord>
-        ensures { Answers self.old self.new reply.new result (outcome_left (stepping.transaction_rolled_back self.old channel)) }
+        ensures { AnswersAsMeant self.old self.new reply.new result (outcome_left (stepping.transaction_rolled_back self.old channel)) }
     {
         if !self.has_transaction(channel) {
             return Err(StatusWord::CONDITIONS_NOT_SATISFIED);

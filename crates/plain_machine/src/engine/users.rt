@@ -5,7 +5,7 @@ ghost use Rattle.scql_base.specs.declared.operation.Operation.TheVariants as ask
 ghost use Rattle.scql_model.specs.Database.{IsValid, user_stamped};
 ghost use Rattle.scql_model.specs.Machine as machine;
 ghost use Rattle.scql_model.specs.Step as stepping;
-ghost use Rattle.plain_reading.specs.Outcomes.{Answers};
+ghost use Rattle.plain_reading.specs.Outcomes.{AnswersAsMeant};
 ghost use Rattle.plain_machine.specs.Answers.{outcome_left, presented_named, unproved_user};
 ghost use Rattle.plain_machine.specs.Serving.{IsServed};
 
@@ -22,7 +22,7 @@ impl Engine {
         name: &Name,
         reply: &mut Reply,
     ) -> Result<(), StatusWord>
-        ensures { Answers self.old self.new reply.new result (outcome_left (stepping.user_presented self.old channel name.now)) }
+        ensures { AnswersAsMeant self.old self.new reply.new result (outcome_left (stepping.user_presented self.old channel name.now)) }
     {
         let user = self.presented(channel, name)?;
         self.sessions.open(channel, user);
@@ -38,7 +38,7 @@ impl Engine {
         reply: &mut Reply,
     ) -> Result<(), StatusWord>
         requires { IsValid self.old.committed }
-        ensures { Answers self.old self.new reply.new result (outcome_left (stepping.verified self.old channel secret.now)) }
+        ensures { AnswersAsMeant self.old self.new reply.new result (outcome_left (stepping.verified self.old channel secret.now)) }
     {
         let Some(user) = self.unproved_user(channel) else {
             return Err(StatusWord::CONDITIONS_NOT_SATISFIED);
@@ -69,7 +69,7 @@ impl Engine {
     ) -> Result<(), StatusWord>
         requires served { IsServed self.old channel }
         requires deletes { operation.now ≡ asks.DeleteUser name.now }
-        ensures { Answers self.old self.new reply.new result (outcome_left (stepping.user_and_sessions_deleted self.old channel name.now)) }
+        ensures { AnswersAsMeant self.old self.new reply.new result (outcome_left (stepping.user_and_sessions_deleted self.old channel name.now)) }
     {
         let Some(user) = self.base(channel).user_named(name) else {
             return Err(StatusWord::NOT_FOUND);

@@ -3,12 +3,12 @@ use Rattle.std.proofs.Common.{refl}
 use Rattle.std.proofs.lemmas.Result.{err_from_is_err_and}
 use Rattle.scql_model.specs.Changing.{change_of}
 use Rattle.plain_database.specs.Changes.{edits_for}
-use Rattle.plain_database.specs.Effects.{Ends}
+use Rattle.plain_database.specs.Effects.{EndsAsMeant}
 use Rattle.plain_database.proofs.ChangesValid.{decided-change, decided-refusal, same-cells, stays-valid}
 use Rattle.plain_database.proofs.database.PlainDatabase.change.Goals.{After-make}
 use Rattle.plain_database.proofs.database.PlainDatabase.change.Goals as goal
 
-ends : (c : After-make) → Ends c.args.self.now c.make.new.self c.make.result (change_of c.args.self.now c.args.actor c.args.cursor.now c.args.operation.now)
+ends : (c : After-make) → EndsAsMeant c.args.self.now c.make.new.self c.make.result (change_of c.args.self.now c.args.actor c.args.cursor.now c.args.operation.now)
 ends c =
     let decided = rw (c.in_ok-change.was, c.as_valid.ensures) at c.decided.ensures in
     rw (← decided-change c.args.self.now c.args.actor c.args.cursor.now c.args.operation.now (edits_for c.args.self.now c.in_ok-change.change) decided) c.make.ensures
