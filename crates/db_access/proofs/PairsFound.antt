@@ -10,12 +10,16 @@ use Rattle.record_store.specs.Held.{Held}
 use Rattle.record_store.specs.declared.side.Side.{Side}
 use Rattle.scql_base.specs.Words.{not_found}
 use Rattle.scql_base.specs.declared.records.Grant.{Grant}
+use Rattle.scql_base.specs.declared.records.Object.{Object}
 use Rattle.scql_base.specs.declared.records.User.{User}
+use Rattle.scql_base.specs.declared.words.Actor.{Actor}
 use Rattle.scql_base.specs.declared.words.StatusWord.{StatusWord}
 use Rattle.scql_model.specs.Database.{Database, public_name, user_named, weight}
+use Rattle.scql_model.specs.Defining.{owned_by}
 use Rattle.scql_model.specs.Edits.{Edit, applied, with_edits}
 use Rattle.scql_model.specs.Granting.{grantee_named}
 use Rattle.scql_model.specs.Refusals.{◌>>=◌, or_refused}
+use Rattle.scql_model.specs.Rights.{seen_named}
 use Rattle.scql_model.specs.Rules.{is_of_pair}
 use Rattle.scql_model.proofs.ChangeLaws.{AreMade-with_edits}
 use Rattle.scql_model.proofs.Keeping.{Keeps}
@@ -28,6 +32,7 @@ use Rattle.record_table.specs.Making.{Ends, IsHeld, IsValidWith}
 use Rattle.record_table.specs.declared.stop.Stop.{Stop}
 use Rattle.record_table.specs.declared.stop.Stop.TheVariants.{Refused, Fault}
 use Rattle.db_access.specs.Asked.{AnswersNamed}
+use Rattle.db_access.specs.Pairs.{pair_named}
 use Rattle.db_access.proofs.Apart.{one-apart}
 
 -- what is answered of a whole, a part of which is refused
@@ -46,10 +51,22 @@ Ends-unfound {S} {T} {U} named asked db outcome (Err given) (Refused word) store
 Ends-unfound {S} {T} {U} named asked db outcome (Err given) Fault store before after gives answers refuses same = subst (λ stop. Ends {T = U} db outcome (Err stop) store store before after) (sym gives) tt
 
 -- two things are found one after the other, and then what is done with both
-pub paired : {A B C : Type 0} (a : Result A StatusWord) (b : Result B StatusWord) (done : A → B → Result C StatusWord) → (a >>= λ x. b >>= λ y. done x y) ≡ ((a >>= λ x. b >>= λ y. Ok (x, y)) >>= λ (p : A × B). done p.0 p.1)
+paired : {A B C : Type 0} (a : Result A StatusWord) (b : Result B StatusWord) (done : A → B → Result C StatusWord) → (a >>= λ x. b >>= λ y. done x y) ≡ ((a >>= λ x. b >>= λ y. Ok (x, y)) >>= λ (p : A × B). done p.0 p.1)
 paired (Err word) b done = refl
 paired (Ok x) (Err word) done = refl
 paired (Ok x) (Ok y) done = refl
+
+-- where the names are of no pair nothing is done with it
+pub named-none : (db : Database) (actor : Actor) (name grantee_name : List ℕ) (done : Object → ℕ → Result (List Edit) StatusWord) (word : StatusWord) → pair_named db actor name grantee_name ≡ Err word
+    → (owned_by actor (seen_named db actor name) >>= λ o. or_refused (grantee_named db grantee_name) not_found >>= λ grantee. done o grantee) ≡ Err word
+named-none db actor name grantee_name done word none =
+    paired (owned_by actor (seen_named db actor name)) (or_refused (grantee_named db grantee_name) not_found) done ∙ ap (λ r. r >>= λ (p : Object × ℕ). done p.0 p.1) none
+
+-- and else with the one of which they are
+pub named-done : (db : Database) (actor : Actor) (name grantee_name : List ℕ) (done : Object → ℕ → Result (List Edit) StatusWord) (o : Object) (grantee : ℕ) → pair_named db actor name grantee_name ≡ Ok (o, grantee)
+    → (owned_by actor (seen_named db actor name) >>= λ o. or_refused (grantee_named db grantee_name) not_found >>= λ grantee. done o grantee) ≡ done o grantee
+named-done db actor name grantee_name done o grantee pair =
+    paired (owned_by actor (seen_named db actor name)) (or_refused (grantee_named db grantee_name) not_found) done ∙ ap (λ r. r >>= λ (p : Object × ℕ). done p.0 p.1) pair
 
 -- the database with edits that keep it valid where there is room for them is valid
 pub IsValidWith-kept : (db : Database) (outcome : Result (List Edit) StatusWord) (edits : List Edit) → Yields (Keeps db) outcome → outcome ≡ Ok edits → IsValidWith db edits

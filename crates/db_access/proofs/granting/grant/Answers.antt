@@ -2,18 +2,14 @@
 use Rattle.std.proofs.Common.{rules, ◌≡◌, ℕ, true, List, [], ◌∷◌, None, Some, Result, Ok, Err, refl, sym, ap, subst, ◌∙◌}
 use Rattle.std.specs.Prelude.{bit_or}
 use Rattle.record_store.specs.declared.side.Side.TheVariants.{Working}
-use Rattle.scql_base.specs.Words.{not_found}
 use Rattle.scql_base.specs.declared.records.Grant.{Grant}
 use Rattle.scql_base.specs.declared.records.Object.{Object}
 use Rattle.scql_base.specs.declared.words.Actor.{Actor}
 use Rattle.scql_base.specs.declared.words.StatusWord.{StatusWord}
 use Rattle.scql_model.specs.Database.{Database, IsValid}
-use Rattle.scql_model.specs.Defining.{owned_by}
 use Rattle.scql_model.specs.Edits.{Edit, changing, making}
-use Rattle.scql_model.specs.Granting.{grant_to, grantee_named, more_granted, privileges_granted}
+use Rattle.scql_model.specs.Granting.{grant_to, more_granted, privileges_granted}
 use Rattle.scql_model.specs.Records.{AnyRecord, is_privileges, of_grant}
-use Rattle.scql_model.specs.Refusals.{◌>>=◌, or_refused}
-use Rattle.scql_model.specs.Rights.{seen_named}
 use Rattle.scql_model.proofs.KeepsGrants.{granted-keeps}
 use Rattle.record_table.specs.Making.{IsHeld, IsValidWith}
 use Rattle.record_table.proofs.Asking.{same-slots}
@@ -21,27 +17,24 @@ use Rattle.record_table.proofs.Asked.{Ends-of}
 use Rattle.record_table.proofs.Ending.{Ends-stopped}
 use Rattle.db_access.specs.Pairs.{pair_named}
 use Rattle.db_access.specs.declared.pairs.Pair.{Pair}
-use Rattle.db_access.proofs.PairsFound.{Ends-unfound, IsValidWith-kept, pair-held, paired}
+use Rattle.db_access.proofs.PairsFound.{Ends-unfound, IsValidWith-kept, named-done, named-none, pair-held}
 use Rattle.row_table.proofs.Endings.{Ended-after, Ended-before}
 use Rattle.db_access.proofs.granting.grant.Goals as goal
 
 abbrev granting : Database → ℕ → Object → ℕ → Result (List Edit) StatusWord
 granting db privileges o grantee = Ok (more_granted db o grantee privileges (grant_to db o grantee))
 
-granted : (db : Database) (actor : Actor) (privileges : ℕ) (name grantee_name : List ℕ)
-    → privileges_granted db actor privileges name grantee_name ≡ (pair_named db actor name grantee_name >>= λ (p : Object × ℕ). granting db privileges p.0 p.1)
-unfolding privileges_granted
-granted db actor privileges name grantee_name = paired (owned_by actor (seen_named db actor name)) (or_refused (grantee_named db grantee_name) not_found) (granting db privileges)
-
 -- where there is no such pair nothing is granted
 grants-none : (db : Database) (actor : Actor) (privileges : ℕ) (name grantee_name : List ℕ) (word : StatusWord) → pair_named db actor name grantee_name ≡ Err word
     → privileges_granted db actor privileges name grantee_name ≡ Err word
-grants-none db actor privileges name grantee_name word none = granted db actor privileges name grantee_name ∙ ap (λ r. r >>= λ (p : Object × ℕ). granting db privileges p.0 p.1) none
+unfolding privileges_granted
+grants-none db actor privileges name grantee_name word none = named-none db actor name grantee_name (granting db privileges) word none
 
 -- where there is one
 grants : (db : Database) (actor : Actor) (privileges : ℕ) (name grantee_name : List ℕ) (o : Object) (grantee : ℕ) → pair_named db actor name grantee_name ≡ Ok (o, grantee)
     → privileges_granted db actor privileges name grantee_name ≡ Ok (more_granted db o grantee privileges (grant_to db o grantee))
-grants db actor privileges name grantee_name o grantee pair = granted db actor privileges name grantee_name ∙ ap (λ r. r >>= λ (p : Object × ℕ). granting db privileges p.0 p.1) pair
+unfolding privileges_granted
+grants db actor privileges name grantee_name o grantee pair = named-done db actor name grantee_name (granting db privileges) o grantee pair
 
 -- the database stays valid
 valid-granted : (db : Database) (actor : Actor) (privileges : ℕ) (name grantee_name : List ℕ) (edits : List Edit) → IsValid db → is_privileges privileges ≡ true

@@ -9,12 +9,10 @@ use Rattle.scql_base.specs.declared.records.Object.{Object}
 use Rattle.scql_base.specs.declared.words.Actor.{Actor}
 use Rattle.scql_base.specs.declared.words.StatusWord.{StatusWord}
 use Rattle.scql_model.specs.Database.{Database, IsValid}
-use Rattle.scql_model.specs.Defining.{owned_by}
 use Rattle.scql_model.specs.Edits.{Edit, changing, removing, with_edits}
-use Rattle.scql_model.specs.Granting.{grant_to, grantee_named, less_granted, privileges_left, privileges_revoked}
+use Rattle.scql_model.specs.Granting.{grant_to, less_granted, privileges_left, privileges_revoked}
 use Rattle.scql_model.specs.Records.{of_grant}
 use Rattle.scql_model.specs.Refusals.{◌>>=◌, or_refused}
-use Rattle.scql_model.specs.Rights.{seen_named}
 use Rattle.scql_model.proofs.KeepsGrants.{revoked-keeps}
 use Rattle.catalog_codec.specs.Catalog.{grant_kind, row_kind}
 use Rattle.catalog_codec.specs.KindLaws.{HaveOtherMarks-sym}
@@ -24,26 +22,23 @@ use Rattle.record_table.proofs.Asking.{same-slots}
 use Rattle.row_table.proofs.Endings.{Ended-after, Ended-before, Ended-in_memory}
 use Rattle.db_access.specs.Pairs.{pair_named}
 use Rattle.db_access.specs.declared.pairs.Pair.{Pair}
-use Rattle.db_access.proofs.PairsFound.{Ends-unfound, IsValidWith-kept, pair-held, paired}
+use Rattle.db_access.proofs.PairsFound.{Ends-unfound, IsValidWith-kept, named-done, named-none, pair-held}
 use Rattle.db_access.proofs.revoking.revoke.Goals as goal
 
 abbrev revoking : Database → ℕ → Object → ℕ → Result (List Edit) StatusWord
 revoking db privileges o grantee = or_refused (grant_to db o grantee) not_found >>= λ (g : Grant). Ok (less_granted g privileges)
 
-revoked : (db : Database) (actor : Actor) (privileges : ℕ) (name grantee_name : List ℕ)
-    → privileges_revoked db actor privileges name grantee_name ≡ (pair_named db actor name grantee_name >>= λ (p : Object × ℕ). revoking db privileges p.0 p.1)
-unfolding privileges_revoked
-revoked db actor privileges name grantee_name = paired (owned_by actor (seen_named db actor name)) (or_refused (grantee_named db grantee_name) not_found) (revoking db privileges)
-
 -- where there is no such pair nothing is revoked
 revokes-none : (db : Database) (actor : Actor) (privileges : ℕ) (name grantee_name : List ℕ) (word : StatusWord) → pair_named db actor name grantee_name ≡ Err word
     → privileges_revoked db actor privileges name grantee_name ≡ Err word
-revokes-none db actor privileges name grantee_name word none = revoked db actor privileges name grantee_name ∙ ap (λ r. r >>= λ (p : Object × ℕ). revoking db privileges p.0 p.1) none
+unfolding privileges_revoked
+revokes-none db actor privileges name grantee_name word none = named-none db actor name grantee_name (revoking db privileges) word none
 
 -- where there is one
 revokes : (db : Database) (actor : Actor) (privileges : ℕ) (name grantee_name : List ℕ) (o : Object) (grantee : ℕ) → pair_named db actor name grantee_name ≡ Ok (o, grantee)
     → privileges_revoked db actor privileges name grantee_name ≡ revoking db privileges o grantee
-revokes db actor privileges name grantee_name o grantee pair = revoked db actor privileges name grantee_name ∙ ap (λ r. r >>= λ (p : Object × ℕ). revoking db privileges p.0 p.1) pair
+unfolding privileges_revoked
+revokes db actor privileges name grantee_name o grantee pair = named-done db actor name grantee_name (revoking db privileges) o grantee pair
 
 -- the database stays valid
 valid-revoked : (db : Database) (actor : Actor) (privileges : ℕ) (name grantee_name : List ℕ) (edits : List Edit) → IsValid db → privileges_revoked db actor privileges name grantee_name ≡ Ok edits → IsValidWith db edits
