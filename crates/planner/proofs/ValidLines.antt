@@ -16,7 +16,7 @@ use Rattle.script.specs.declared.statement.Statement.{Statement}
 use Rattle.script.specs.declared.statement.Statement.TheVariants.{Blank, Single, Select, UpdateRows, DeleteRows, OpenNumber, CloseNumber, UseNumber, Reset}
 use Rattle.script.specs.Commands.{CanAlwaysBeSent, CanBeSent, IsOnChannel}
 use Rattle.script.specs.Line.{statement_of}
-use Rattle.script.proofs.Sendable.{statement_of-sent}
+use Rattle.script.proofs.SentLines.{statement_of-sent}
 use Rattle.planner.specs.declared.step.Step.{Step}
 use Rattle.planner.specs.declared.step.Step.TheVariants.{Send, Row, ResetCard, Done}
 use Rattle.planner.specs.Held.{channel_after}

@@ -6,7 +6,7 @@ use Rattle.script.specs.Tokens.{Token}
 use Rattle.script.specs.Reading.{Rule, is_end, fault, gives, ◌>>=◌, the}
 use Rattle.script.specs.Grammar.{name}
 use Rattle.script.proofs.Formed.{RuleGives, Anything, gives-reads, after-reads, bind-reads, the-reads, listed-reads}
-use Rattle.script.proofs.FormedRules.{name-reads}
+use Rattle.script.proofs.PartRules.{name-reads}
 use Rattle.query.specs.declared.written.Named.{Named}
 use Rattle.query.specs.declared.written.Source.{Source}
 use Rattle.query.specs.declared.written.Pair.{Pair}

@@ -1,9 +1,10 @@
 -- What stands before a fault is the beginning of a statement: it can be completed.
-use Rattle.std.proofs.Common.{◌≡◌, ℕ, zero, suc, ◌-◌, Bool, true, false, List, [], ◌∷◌, ◌++◌, Option, Some, None, refl, sym, ◌∙◌, ap}
+use Rattle.std.proofs.Common.{◌≡◌, ℕ, Bool, true, false, List, [], ◌∷◌, ◌++◌, Option, Some, None, IfSome, refl, sym, ◌∙◌, ap, subst}
 use Rattle.std.specs.Str.{bytes_eq}
 use Rattle.script.specs.declared.statement.Statement.{Statement}
 use Rattle.script.specs.Tokens.{Token}
-use Rattle.script.specs.Reading.{octets_of, Rule, gives, fault, ◌>>=◌, one, optional, is_next, after, the, more, listed}
+use Rattle.script.specs.Reading.{octets_of, Rule, gives, fault, ◌>>=◌, one, optional, is_next, after, the}
+use Rattle.script.proofs.Formed.{Anything}
 use Rattle.script.proofs.Locality.{one-is, optional-is, after-yes, after-no, bind-is}
 
 -- the tokens before those at fault, and others that make a statement behind them
@@ -24,9 +25,6 @@ pub record IsCompleted (r : Rule Statement) : Type 0 where
 -- with whatever completes what is behind it, where that completes each of what it gives
 pub record CompletesTo (A : Type 0) (P : A → Type 0) (r : Rule A) : Type 0 where
   pub goes_on : (k : A → Rule Statement) → ((x : A) → P x → IsCompleted (k x)) → IsCompleted (r >>= k)
-
-abbrev pub Completes : (A : Type 0) → Rule A → Type 0
-Completes A r = CompletesTo A (λ x. Unit {0}) r
 
 abbrev token_for : List ℕ → Token
 token_for text = record { octets = text; left = 0 }
@@ -50,8 +48,8 @@ completed-same r s same completed = record {
 pub gives-to : {A : Type 0} {P : A → Type 0} (x : A) → P x → CompletesTo A P (gives x)
 gives-to x holds = record { goes_on = λ k completed. completed x holds }
 
-pub gives-completes : {A : Type 0} (x : A) → Completes A (gives x)
-gives-completes x = gives-to x tt
+pub weaker-to : {A : Type 0} {P Q : A → Type 0} {r : Rule A} → ((x : A) → P x → Q x) → CompletesTo A P r → CompletesTo A Q r
+weaker-to gives-it completes = record { goes_on = λ k completed. completes.goes_on k (λ x holds. completed x (gives-it x holds)) }
 
 -- a text, or another thing
 after-from_nothing : (text : List ℕ) (r s : Rule Statement) (tokens rest : List Token) → bytes_eq text text ≡ true → IsCompleted r → tokens ≡ rest
@@ -122,7 +120,8 @@ after-bind : {A : Type 0} (text : List ℕ) (r s : Rule A) (k : A → Rule State
 after-bind text r s k tokens true is = rw is refl
 after-bind text r s k tokens false is = rw is refl
 
-pub after-completes : {A : Type 0} (text : List ℕ) (r s : Rule A) → is_next text [] ≡ false → bytes_eq text text ≡ true → Completes A r → Completes A s → Completes A (after text r s)
+pub after-completes : {A : Type 0} {P : A → Type 0} (text : List ℕ) (r s : Rule A) → is_next text [] ≡ false → bytes_eq text text ≡ true → CompletesTo A P r → CompletesTo A P s
+    → CompletesTo A P (after text r s)
 after-completes text r s none same r-completes s-completes = record {
   goes_on = λ k completed.
       completed-same (after text r s >>= k) (after text (r >>= k) (s >>= k)) (λ tokens. after-bind text r s k tokens (is_next text tokens) refl)
@@ -130,33 +129,33 @@ after-completes text r s none same r-completes s-completes = record {
 }
 
 -- a text, or nothing else
-pub last-completes : {A : Type 0} (text : List ℕ) (r : Rule A) → is_next text [] ≡ false → bytes_eq text text ≡ true → Completes A r → Completes A (after text r fault)
+pub last-completes : {A : Type 0} {P : A → Type 0} (text : List ℕ) (r : Rule A) → is_next text [] ≡ false → bytes_eq text text ≡ true → CompletesTo A P r → CompletesTo A P (after text r fault)
 last-completes text r none same completes = record {
   goes_on = λ k completed.
       completed-same (after text r fault >>= k) (after text (r >>= k) fault) (λ tokens. after-bind text r fault k tokens (is_next text tokens) refl)
       (last-completed text (r >>= k) none same (completes.goes_on k completed));
 }
 
-pub the-completes : (text : List ℕ) → is_next text [] ≡ false → bytes_eq text text ≡ true → Completes (Unit {0}) (the text)
+pub the-completes : (text : List ℕ) → is_next text [] ≡ false → bytes_eq text text ≡ true → CompletesTo (Unit {0}) (Anything (Unit {0})) (the text)
 unfolding the
-the-completes text none same = last-completes text (gives tt) none same (gives-completes tt)
+the-completes text none same = last-completes text (gives tt) none same (gives-to tt tt)
 
 -- one token
-one-begun : {A : Type 0} (meaning : List ℕ → Option A) (octets : List ℕ) (x : A) (k : A → Rule Statement) (tokens rest : List Token) (found : Option A)
-    → meaning octets ≡ Some x → meaning [] ≡ None → ((y : A) → IsCompleted (k y)) → meaning (octets_of tokens) ≡ found → (one meaning >>= k) tokens ≡ (None, rest)
-    → Begun (one meaning >>= k) tokens rest
-one-begun meaning octets x k tokens rest None some none completed found is = record {
+one-begun : {A : Type 0} (P : A → Type 0) (meaning : List ℕ → Option A) (octets : List ℕ) (x : A) (k : A → Rule Statement) (tokens rest : List Token) (found : Option A)
+    → meaning octets ≡ Some x → meaning [] ≡ None → P x → IfSome found P → ((y : A) → P y → IsCompleted (k y)) → meaning (octets_of tokens) ≡ found
+    → (one meaning >>= k) tokens ≡ (None, rest) → Begun (one meaning >>= k) tokens rest
+one-begun P meaning octets x k tokens rest None some none holds found-holds completed found is = record {
   before = [];
   split = ap (λ (p : Option Statement × List Token). p.1) (sym (bind-is (one meaning) k tokens None tokens (one-is meaning tokens None found)) ∙ is);
-  others = token_for octets ∷ (completed x).others;
-  statement = (completed x).statement;
+  others = token_for octets ∷ (completed x holds).others;
+  statement = (completed x holds).statement;
   made =
-      ap (λ (p : Option Statement × List Token). p.0) (bind-is (one meaning) k (token_for octets ∷ (completed x).others) (Some x) (completed x).others
-      (one-is meaning (token_for octets ∷ (completed x).others) (Some x) some)) ∙ (completed x).made;
+      ap (λ (p : Option Statement × List Token). p.0) (bind-is (one meaning) k (token_for octets ∷ (completed x holds).others) (Some x) (completed x holds).others
+      (one-is meaning (token_for octets ∷ (completed x holds).others) (Some x) some)) ∙ (completed x holds).made;
 }
-one-begun meaning octets x k [] rest (Some y) some none completed found is = absurd (cc)
-one-begun meaning octets x k (token ∷ tokens) rest (Some y) some none completed found is =
-    let b = (completed y).begun tokens rest (sym (bind-is (one meaning) k (token ∷ tokens) (Some y) tokens (one-is meaning (token ∷ tokens) (Some y) found)) ∙ is) in
+one-begun P meaning octets x k [] rest (Some y) some none holds found-holds completed found is = absurd (cc)
+one-begun P meaning octets x k (token ∷ tokens) rest (Some y) some none holds found-holds completed found is =
+    let b = (completed y found-holds).begun tokens rest (sym (bind-is (one meaning) k (token ∷ tokens) (Some y) tokens (one-is meaning (token ∷ tokens) (Some y) found)) ∙ is) in
     record {
       before = token ∷ b.before;
       split = ap (λ (all : List Token). token ∷ all) b.split;
@@ -167,17 +166,20 @@ one-begun meaning octets x k (token ∷ tokens) rest (Some y) some none complete
           (one-is meaning (token ∷ (b.before ++ b.others)) (Some y) found)) ∙ b.made;
     }
 
-pub one-completes : {A : Type 0} (meaning : List ℕ → Option A) (octets : List ℕ) {x : A} → meaning octets ≡ Some x → meaning [] ≡ None → Completes A (one meaning)
-one-completes meaning octets {x} some none = record {
-  goes_on = λ k completed. record {
-    others = token_for octets ∷ (completed x tt).others;
-    statement = (completed x tt).statement;
-    made =
-        ap (λ (p : Option Statement × List Token). p.0) (bind-is (one meaning) k (token_for octets ∷ (completed x tt).others) (Some x) (completed x tt).others
-        (one-is meaning (token_for octets ∷ (completed x tt).others) (Some x) some)) ∙ (completed x tt).made;
-    begun = λ tokens rest is. one-begun meaning octets x k tokens rest (meaning (octets_of tokens)) some none (λ y. completed y tt) refl is;
-  };
-}
+pub one-completes : {A : Type 0} (P : A → Type 0) (meaning : List ℕ → Option A) (octets : List ℕ) {x : A} → meaning octets ≡ Some x → meaning [] ≡ None
+    → ((octets : List ℕ) → IfSome (meaning octets) P) → CompletesTo A P (one meaning)
+one-completes {A} P meaning octets {x} some none all =
+    let holds : P x = subst (λ (y : Option A). IfSome y P) some (all octets) in
+    record {
+      goes_on = λ k completed. record {
+        others = token_for octets ∷ (completed x holds).others;
+        statement = (completed x holds).statement;
+        made =
+            ap (λ (p : Option Statement × List Token). p.0) (bind-is (one meaning) k (token_for octets ∷ (completed x holds).others) (Some x) (completed x holds).others
+            (one-is meaning (token_for octets ∷ (completed x holds).others) (Some x) some)) ∙ (completed x holds).made;
+        begun = λ tokens rest is. one-begun P meaning octets x k tokens rest (meaning (octets_of tokens)) some none holds (all (octets_of tokens)) completed refl is;
+      };
+    }
 
 -- one token, or none
 optional-given : {A : Type 0} (meaning : List ℕ → Option A) (otherwise : A) (k : A → Rule Statement) (token : Token) (tokens : List Token) (x : A) → meaning token.octets ≡ Some x
@@ -189,14 +191,14 @@ optional-none : {A : Type 0} (meaning : List ℕ → Option A) (otherwise : A) (
 optional-none meaning otherwise k tokens is = bind-is (optional meaning otherwise) k tokens (Some otherwise) tokens (optional-is meaning otherwise tokens None is)
 
 optional-other : {A : Type 0} (meaning : List ℕ → Option A) (otherwise : A) (octets : List ℕ) (x : A) (k : A → Rule Statement) (tokens rest before others : List Token) (statement : Statement)
-    → meaning octets ≡ Some x → ((y : A) → IsCompleted (k y)) → meaning (octets_of tokens) ≡ None → tokens ≡ before ++ rest
+    → meaning octets ≡ Some x → IsCompleted (k x) → meaning (octets_of tokens) ≡ None → tokens ≡ before ++ rest
     → (k otherwise (before ++ others)).0 ≡ Some statement → Begun (optional meaning otherwise >>= k) tokens rest
 optional-other meaning otherwise octets x k tokens rest [] others one_made some completed found split made = record {
   before = [];
   split = split;
-  others = token_for octets ∷ (completed x).others;
-  statement = (completed x).statement;
-  made = ap (λ (p : Option Statement × List Token). p.0) (optional-given meaning otherwise k (token_for octets) (completed x).others x some) ∙ (completed x).made;
+  others = token_for octets ∷ completed.others;
+  statement = completed.statement;
+  made = ap (λ (p : Option Statement × List Token). p.0) (optional-given meaning otherwise k (token_for octets) completed.others x some) ∙ completed.made;
 }
 optional-other meaning otherwise octets x k tokens rest (token ∷ before) others one_made some completed found split made = record {
   before = token ∷ before;
@@ -208,15 +210,15 @@ optional-other meaning otherwise octets x k tokens rest (token ∷ before) other
       (ap (λ (all : List Token). meaning (octets_of all)) (sym split) ∙ found)) ∙ made;
 }
 
-optional-begun : {A : Type 0} (meaning : List ℕ → Option A) (otherwise : A) (octets : List ℕ) (x : A) (k : A → Rule Statement) (tokens rest : List Token) (found : Option A)
-    → meaning octets ≡ Some x → meaning [] ≡ None → ((y : A) → IsCompleted (k y)) → meaning (octets_of tokens) ≡ found
+optional-begun : {A : Type 0} (P : A → Type 0) (meaning : List ℕ → Option A) (otherwise : A) (octets : List ℕ) (x : A) (k : A → Rule Statement) (tokens rest : List Token) (found : Option A)
+    → meaning octets ≡ Some x → meaning [] ≡ None → P x → P otherwise → IfSome found P → ((y : A) → P y → IsCompleted (k y)) → meaning (octets_of tokens) ≡ found
     → (optional meaning otherwise >>= k) tokens ≡ (None, rest) → Begun (optional meaning otherwise >>= k) tokens rest
-optional-begun meaning otherwise octets x k tokens rest None some none completed found is =
-    let b = (completed otherwise).begun tokens rest (sym (optional-none meaning otherwise k tokens found) ∙ is) in
-    optional-other meaning otherwise octets x k tokens rest b.before b.others b.statement some completed found b.split b.made
-optional-begun meaning otherwise octets x k [] rest (Some y) some none completed found is = absurd (cc)
-optional-begun meaning otherwise octets x k (token ∷ tokens) rest (Some y) some none completed found is =
-    let b = (completed y).begun tokens rest (sym (optional-given meaning otherwise k token tokens y found) ∙ is) in
+optional-begun P meaning otherwise octets x k tokens rest None some none holds other-holds found-holds completed found is =
+    let b = (completed otherwise other-holds).begun tokens rest (sym (optional-none meaning otherwise k tokens found) ∙ is) in
+    optional-other meaning otherwise octets x k tokens rest b.before b.others b.statement some (completed x holds) found b.split b.made
+optional-begun P meaning otherwise octets x k [] rest (Some y) some none holds other-holds found-holds completed found is = absurd (cc)
+optional-begun P meaning otherwise octets x k (token ∷ tokens) rest (Some y) some none holds other-holds found-holds completed found is =
+    let b = (completed y found-holds).begun tokens rest (sym (optional-given meaning otherwise k token tokens y found) ∙ is) in
     record {
       before = token ∷ b.before;
       split = ap (λ (all : List Token). token ∷ all) b.split;
@@ -225,16 +227,19 @@ optional-begun meaning otherwise octets x k (token ∷ tokens) rest (Some y) som
       made = ap (λ (p : Option Statement × List Token). p.0) (optional-given meaning otherwise k token (b.before ++ b.others) y found) ∙ b.made;
     }
 
-pub optional-completes : {A : Type 0} (meaning : List ℕ → Option A) (otherwise : A) (octets : List ℕ) {x : A} → meaning octets ≡ Some x → meaning [] ≡ None
-    → Completes A (optional meaning otherwise)
-optional-completes meaning otherwise octets {x} some none = record {
-  goes_on = λ k completed. record {
-    others = token_for octets ∷ (completed x tt).others;
-    statement = (completed x tt).statement;
-    made = ap (λ (p : Option Statement × List Token). p.0) (optional-given meaning otherwise k (token_for octets) (completed x tt).others x some) ∙ (completed x tt).made;
-    begun = λ tokens rest is. optional-begun meaning otherwise octets x k tokens rest (meaning (octets_of tokens)) some none (λ y. completed y tt) refl is;
-  };
-}
+pub optional-completes : {A : Type 0} (P : A → Type 0) (meaning : List ℕ → Option A) (otherwise : A) (octets : List ℕ) {x : A} → meaning octets ≡ Some x → meaning [] ≡ None
+    → ((octets : List ℕ) → IfSome (meaning octets) P) → P otherwise → CompletesTo A P (optional meaning otherwise)
+optional-completes {A} P meaning otherwise octets {x} some none all other-holds =
+    let holds : P x = subst (λ (y : Option A). IfSome y P) some (all octets) in
+    record {
+      goes_on = λ k completed. record {
+        others = token_for octets ∷ (completed x holds).others;
+        statement = (completed x holds).statement;
+        made = ap (λ (p : Option Statement × List Token). p.0) (optional-given meaning otherwise k (token_for octets) (completed x holds).others x some) ∙ (completed x holds).made;
+        begun = λ tokens rest is.
+            optional-begun P meaning otherwise octets x k tokens rest (meaning (octets_of tokens)) some none holds other-holds (all (octets_of tokens)) completed refl is;
+      };
+    }
 
 -- one thing behind another
 bind-bind : {A B : Type 0} (r : Rule A) (f : A → Rule B) (k : B → Rule Statement) (tokens : List Token) (x : Option A) (rest : List Token) → r tokens ≡ (x, rest)
@@ -249,22 +254,3 @@ bind-to {r = r} {f = f} r-completes f-completes = record {
       completed-same ((r >>= f) >>= k) (r >>= (λ y. f y >>= k)) (λ tokens. bind-bind r f k tokens (r tokens).0 (r tokens).1 refl)
       (r-completes.goes_on (λ y. f y >>= k) (λ y holds. (f-completes y holds).goes_on k completed));
 }
-
-pub bind-completes : {A B : Type 0} (r : Rule A) (f : A → Rule B) → Completes A r → ((x : A) → Completes B (f x)) → Completes B (r >>= f)
-bind-completes r f r-completes f-completes = bind-to r-completes (λ x any. f-completes x)
-
--- up to so many items more, where an item can be read while there is room for it
-more-completes : {A : Type 0} (HasRoomFor : ℕ → A → Type 0) (n : ℕ) (separator : List ℕ) (item : A → Rule A) (items : A) → is_next separator [] ≡ false → bytes_eq separator separator ≡ true
-    → ((m : ℕ) (xs : A) → HasRoomFor (suc m) xs → CompletesTo A (HasRoomFor m) (item xs)) → HasRoomFor n items → Completes A (more n separator item items)
-unfolding more
-more-completes HasRoomFor zero separator item items none same item-completes room = gives-completes items
-more-completes HasRoomFor (suc n) separator item items none same item-completes room =
-    after-completes separator (item items >>= more n separator item) (gives items) none same
-    (bind-to (item-completes n items room) (λ xs further. more-completes HasRoomFor n separator item xs none same item-completes further)) (gives-completes items)
-
-pub listed-completes : {A : Type 0} (HasRoomFor : ℕ → A → Type 0) (most : ℕ) (separator : List ℕ) (item : A → Rule A) (nothing : A) → is_next separator [] ≡ false
-    → bytes_eq separator separator ≡ true → CompletesTo A (HasRoomFor (most - 1)) (item nothing)
-    → ((m : ℕ) (xs : A) → HasRoomFor (suc m) xs → CompletesTo A (HasRoomFor m) (item xs)) → Completes A (listed most separator item nothing)
-unfolding listed
-listed-completes HasRoomFor most separator item nothing none same first-completes item-completes =
-    bind-to first-completes (λ xs further. more-completes HasRoomFor (most - 1) separator item xs none same item-completes further)

@@ -19,7 +19,7 @@ abbrev without : List ℕ → List (List ℕ) → List (List ℕ)
 without octets [] = []
 without octets (name ∷ names) = if bytes_eq name octets then names else name ∷ without octets names
 
-bytes_eq-refl : (octets : List ℕ) → bytes_eq octets octets ≡ true
+pub bytes_eq-refl : (octets : List ℕ) → bytes_eq octets octets ≡ true
 bytes_eq-refl octets = (bytes_eq-Decides octets octets).1 refl
 
 length-without_by : (octets name : List ℕ) (names : List (List ℕ)) (same : Bool) → bytes_eq name octets ≡ same → (same || is_among octets names) ≡ true

@@ -1,8 +1,9 @@
 -- A rule reads tokens from the front, and looks at no more than one token behind them.
-use Rattle.std.proofs.Common.{◌≡◌, ℕ, zero, suc, ◌-◌, Bool, true, false, List, [], ◌∷◌, ◌++◌, take, Option, Some, None, refl, sym, ◌∙◌, ap, subst, append_assoc}
+use Rattle.std.proofs.Common.{◌≡◌, ℕ, Bool, true, false, List, [], ◌∷◌, ◌++◌, take, Option, Some, None, IfSome, refl, sym, ◌∙◌, ap, subst, append_assoc}
 use Rattle.std.specs.Str.{bytes_eq}
 use Rattle.script.specs.Tokens.{Token}
-use Rattle.script.specs.Reading.{octets_of, behind, is_end, Rule, gives, fault, continued, ◌>>=◌, read_token, read_or, one, optional, is_next, after, the, more, listed}
+use Rattle.script.specs.Reading.{octets_of, behind, is_end, Rule, gives, fault, continued, ◌>>=◌, read_token, read_or, one, optional, is_next, after, the}
+use Rattle.script.proofs.Formed.{RuleGives}
 
 -- what was read of tokens, and that it is read again where other tokens stand behind the next one
 pub record Read (A : Type 0) (r : Rule A) (tokens : List Token) (x : Option A) (rest : List Token) : Type 0 where
@@ -142,18 +143,18 @@ pub bind-is : {A B : Type 0} (r : Rule A) (f : A → Rule B) (tokens : List Toke
     → (r >>= f) tokens ≡ continued f x rest
 bind-is {A} r f tokens x rest is = ap (λ (p : Option A × List Token). continued f p.0 p.1) is
 
-bind-by : {A B : Type 0} (r : Rule A) (f : A → Rule B) (tokens : List Token) (x : Option A) (rest : List Token) → IsLocal A r → ((y : A) → IsLocal B (f y))
-    → r tokens ≡ (x, rest) → Read B (r >>= f) tokens ((r >>= f) tokens).0 ((r >>= f) tokens).1
-bind-by r f tokens None rest r-local f-local is =
+bind-by : {A B : Type 0} (P : A → Type 0) (r : Rule A) (f : A → Rule B) (tokens : List Token) (x : Option A) (rest : List Token) → IsLocal A r → ((y : A) → P y → IsLocal B (f y))
+    → IfSome x P → r tokens ≡ (x, rest) → Read B (r >>= f) tokens ((r >>= f) tokens).0 ((r >>= f) tokens).1
+bind-by P r f tokens None rest r-local f-local holds is =
     let read = taken r tokens None rest is (r-local.reads tokens) in
     turned (r >>= f) tokens None rest (bind-is r f tokens None rest is) (record {
       before = read.before;
       split = read.split;
       again = λ others same. bind-is r f (read.before ++ others) None others (read.again others same);
     })
-bind-by r f tokens (Some x) rest r-local f-local is =
+bind-by P r f tokens (Some x) rest r-local f-local holds is =
     let read = taken r tokens (Some x) rest is (r-local.reads tokens) in
-    let second = (f-local x).reads rest in
+    let second = (f-local x holds).reads rest in
     turned (r >>= f) tokens (f x rest).0 (f x rest).1 (bind-is r f tokens (Some x) rest is) (record {
       before = read.before ++ second.before;
       split = read.split ∙ (ap (λ (back : List Token). read.before ++ back) second.split ∙ sym (append_assoc read.before second.before (f x rest).1));
@@ -164,19 +165,5 @@ bind-by r f tokens (Some x) rest r-local f-local is =
           ∙ second.again others same);
     })
 
-pub bind-local : {A B : Type 0} (r : Rule A) (f : A → Rule B) → IsLocal A r → ((y : A) → IsLocal B (f y)) → IsLocal B (r >>= f)
-bind-local r f r-local f-local = record { reads = λ tokens. bind-by r f tokens (r tokens).0 (r tokens).1 r-local f-local refl }
-
-more-local : {A : Type 0} (n : ℕ) (separator : List ℕ) (item : A → Rule A) (items : A) → is_next separator [] ≡ false → ((xs : A) → IsLocal A (item xs))
-    → IsLocal A (more n separator item items)
-unfolding more
-more-local zero separator item items none item-local = gives-local items
-more-local (suc n) separator item items none item-local =
-    after-local separator (item items >>= more n separator item) (gives items) none
-    (bind-local (item items) (more n separator item) (item-local items) (λ xs. more-local n separator item xs none item-local)) (gives-local items)
-
-pub listed-local : {A : Type 0} (most : ℕ) (separator : List ℕ) (item : A → Rule A) (none : A) → is_next separator [] ≡ false → ((xs : A) → IsLocal A (item xs))
-    → IsLocal A (listed most separator item none)
-unfolding listed
-listed-local most separator item none ends item-local =
-    bind-local (item none) (more (most - 1) separator item) (item-local none) (λ xs. more-local (most - 1) separator item xs ends item-local)
+pub bind-local : {A B : Type 0} (P : A → Type 0) (r : Rule A) (f : A → Rule B) → IsLocal A r → RuleGives P r → ((y : A) → P y → IsLocal B (f y)) → IsLocal B (r >>= f)
+bind-local P r f r-local r-reads f-local = record { reads = λ tokens. bind-by P r f tokens (r tokens).0 (r tokens).1 r-local f-local (r-reads.found tokens) refl }

@@ -1,22 +1,19 @@
--- Each command of a statement that is read can be sent.
-use Rattle.std.proofs.Common.{◌≡◌, ℕ, ◌≤◌, nat_le, nat_lt, Bool, true, false, List, [], Option, Some, None, Ok, Err, IfSome, IfOk, if◌then◌else◌, refl, sym, ◌∙◌, ◌==◌, lit≤, arith}
-use Rattle.std.proofs.lemmas.Bool.{false≢true, le-leb, ne_eqb, not-false, or_parts}
+-- A command can be sent: one that is asked, and each of those that a statement becomes.
+use Rattle.std.proofs.Common.{◌≡◌, ℕ, ◌≤◌, true, false, [], refl, sym, ◌∙◌, ◌==◌, lit≤, arith}
+use Rattle.std.specs.List.{AllByRecursion}
+use Rattle.std.proofs.lemmas.Bool.{false≢true, ne_eqb, not-false, or_parts}
 use Rattle.scql_base.specs.declared.operation.Operation.{Operation}
-use Rattle.scql_base.specs.declared.operation.Operation.TheVariants.{CreateTable, CreateView, CreateDictionary, CreateUser, DropTable, DropView, Grant, Revoke, Insert, DeleteUser, PresentUser, Verify, Begin, Commit, Rollback, DeclareCursor, OpenCursor, Next, Fetch, FetchNext, GetResponse, Update, Delete, OpenChannel, CloseChannel}
-use Rattle.scql_base.specs.Row.{row_size}
+use Rattle.scql_base.specs.declared.operation.Operation.TheVariants.{Begin, Commit, Rollback, DeclareCursor, OpenCursor, Next, Fetch, FetchNext, GetResponse, Update, Delete, OpenChannel, CloseChannel}
+use Rattle.scql_base.specs.Name.{is_name}
 use Rattle.scql_model.specs.Operations.{is_for_channel, kind_of}
+use Rattle.scql_model.specs.Parameters.{are_chosen_columns, are_conditions, are_changes}
 use Rattle.scql_model.specs.Spelling.{fits}
 use Rattle.scql_model.specs.WellFormed.{HasForm}
 use Rattle.scql_model.proofs.FormedCommands.{wants_le, wants_le-of}
-use Rattle.script.specs.declared.fault.ScriptFault.TheVariants.{TooLarge}
 use Rattle.script.specs.declared.statement.Statement.{Statement}
 use Rattle.script.specs.declared.statement.Statement.TheVariants.{Blank, Single, Select, UpdateRows, DeleteRows, OpenNumber, CloseNumber, UseNumber, Reset}
-use Rattle.script.specs.Tokens.{Token, after_blanks, tokens_of}
-use Rattle.script.specs.Grammar.{whole}
 use Rattle.script.specs.Sizes.{has_long_row, is_operation_too_large, is_too_large}
-use Rattle.script.specs.Line.{is_nothing, judged, statement_of}
-use Rattle.script.specs.Commands.{asking, wanting, IsSendable, CanBeSent, CanAlwaysBeSent}
-use Rattle.script.proofs.FormedRules.{HasFields, IsFormed, whole-reads}
+use Rattle.script.specs.Commands.{asking, wanting, changing_commands, IsSendable, CanBeSent}
 
 pub asked-sent : (channel : ℕ) (operation : Operation) → channel ≤ 3 → is_for_channel channel (kind_of operation) ≡ true → wants_le (kind_of operation) ≡ false
     → HasForm operation → fits (asking channel operation) ≡ true → IsSendable (asking channel operation)
@@ -38,37 +35,30 @@ wanted-sent channel operation few for_it form fitting = record {
   fitting = fitting;
 }
 
--- what isn't too large
-record IsSmall (operation : Operation) : Type 0 where
-  row : has_long_row operation ≡ false
-  fitting : (channel : ℕ) → fits (asking channel operation) ≡ true
+-- where its row isn't too long and its command fits
+small-sent : (channel : ℕ) (operation : Operation) → channel ≤ 3 → is_for_channel channel (kind_of operation) ≡ true → wants_le (kind_of operation) ≡ false
+    → (has_long_row operation ≡ false → HasForm operation) → is_operation_too_large operation ≡ false → IsSendable (asking channel operation)
+small-sent channel operation few for_it unwanted form small =
+    let parts = or_parts (has_long_row operation) _ small in
+    asked-sent channel operation few for_it unwanted (form parts.0) (not-false (fits (asking channel operation)) parts.1)
 
-small-of : (operation : Operation) → is_operation_too_large operation ≡ false → IsSmall operation
-small-of operation is =
-    let parts = or_parts (has_long_row operation) _ is in
-    record { row = parts.0; fitting = λ channel. not-false (fits (asking channel operation)) parts.1 }
+-- The operation of a statement: every channel takes it, it doesn't want Le, and where its row isn't too long its fields have their form.
+pub record IsFormedOperation (operation : Operation) : Type 0 where
+  pub channels : (channel : ℕ) → is_for_channel channel (kind_of operation) ≡ true
+  pub unwanted : wants_le (kind_of operation) ≡ false
+  pub form : has_long_row operation ≡ false → HasForm operation
 
-single-sent : (channel : ℕ) (operation : Operation) → channel ≤ 3 → HasFields operation → IsSmall operation → IsSendable (asking channel operation)
-single-sent channel (Insert table row) few form small =
-    asked-sent channel (Insert table row) few refl refl (form.0, rw (form.1.count, form.1.narrow, within (row_size row) small.row) refl) (small.fitting channel)
-  where
-    within : (size : ℕ) → nat_lt 1020 size ≡ false → nat_le size 1020 ≡ true
-    within size is = le-leb size 1020 (grind (arith, is))
-single-sent channel (CreateTable name columns) few form small = asked-sent channel (CreateTable name columns) few refl refl form (small.fitting channel)
-single-sent channel (CreateView name base columns conditions) few form small = asked-sent channel (CreateView name base columns conditions) few refl refl form (small.fitting channel)
-single-sent channel (CreateDictionary name subject) few form small = asked-sent channel (CreateDictionary name subject) few refl refl form (small.fitting channel)
-single-sent channel (DropTable name) few form small = asked-sent channel (DropTable name) few refl refl form (small.fitting channel)
-single-sent channel (DropView name) few form small = asked-sent channel (DropView name) few refl refl form (small.fitting channel)
-single-sent channel (Grant privileges object grantee) few form small = asked-sent channel (Grant privileges object grantee) few refl refl form (small.fitting channel)
-single-sent channel (Revoke privileges object grantee) few form small = asked-sent channel (Revoke privileges object grantee) few refl refl form (small.fitting channel)
-single-sent channel Begin few form small = asked-sent channel Begin few refl refl tt refl
-single-sent channel Commit few form small = asked-sent channel Commit few refl refl tt refl
-single-sent channel Rollback few form small = asked-sent channel Rollback few refl refl tt refl
-single-sent channel (PresentUser name) few form small = asked-sent channel (PresentUser name) few refl refl form (small.fitting channel)
-single-sent channel (CreateUser name profile secret) few form small = asked-sent channel (CreateUser name profile secret) few refl refl form (small.fitting channel)
-single-sent channel (DeleteUser name) few form small = asked-sent channel (DeleteUser name) few refl refl form (small.fitting channel)
-single-sent channel (Verify secret) few form small = asked-sent channel (Verify secret) few refl refl form (small.fitting channel)
-single-sent channel operation few form small = absurd form
+-- A statement that isn't too large and is so can be sent.
+abbrev pub IsFormed : Statement → Type 0
+IsFormed (Single operation) = IsFormedOperation operation
+IsFormed (Select object columns conditions) = (is_name object ≡ true) × (are_chosen_columns columns ≡ true) × (are_conditions conditions ≡ true)
+IsFormed (UpdateRows object changes conditions) = (is_name object ≡ true) × (are_changes changes ≡ true) × (are_conditions conditions ≡ true)
+IsFormed (DeleteRows object conditions) = (is_name object ≡ true) × (are_conditions conditions ≡ true)
+IsFormed (OpenNumber number) = (1 ≤ number) × (number ≤ 3)
+IsFormed (CloseNumber number) = (1 ≤ number) × (number ≤ 3)
+IsFormed (UseNumber number) = number ≤ 3
+IsFormed Blank = Unit {0}
+IsFormed Reset = Unit {0}
 
 not_zero : (n : ℕ) → 1 ≤ n → n == 0 ≡ false
 not_zero n some = ne_eqb n 0 (λ is. omega (arith, is, some))
@@ -76,6 +66,28 @@ not_zero n some = ne_eqb n 0 (λ is. omega (arith, is, some))
 -- the commands without fields
 open-sent : (channel : ℕ) → channel ≤ 3 → IsSendable (asking channel OpenCursor)
 open-sent channel few = asked-sent channel OpenCursor few refl refl tt refl
+
+changing-sent : (channel : ℕ) (cursor change : Operation) → channel ≤ 3 → IsSendable (asking channel cursor) → IsSendable (asking channel change)
+    → AllByRecursion IsSendable (changing_commands channel cursor change)
+changing-sent channel cursor change few can_declare can_change = (
+  asked-sent channel Begin few refl refl tt refl,
+  (
+    can_declare,
+    (
+      open-sent channel few,
+      (
+        can_change,
+        (
+          asked-sent channel Next few refl refl tt refl,
+          (
+            asked-sent channel Commit few refl refl tt refl,
+            (asked-sent channel Rollback few refl refl tt refl, tt),
+          ),
+        ),
+      ),
+    ),
+  ),
+)
 
 pub formed-sent : (channel : ℕ) (s : Statement) → channel ≤ 3 → IsFormed s → is_too_large s ≡ false → CanBeSent channel s
 formed-sent channel Blank few form small = record { within = few; number = tt; commands = tt }
@@ -86,13 +98,13 @@ formed-sent channel (OpenNumber number) few form small =
 formed-sent channel (CloseNumber number) few form small =
     record { within = few; number = tt; commands = (asked-sent 0 (CloseChannel number) (lit≤ tt) (rw (not_zero number form.0) refl) refl form.1 refl, tt) }
 formed-sent channel (Single operation) few form small =
-    record { within = few; number = tt; commands = (single-sent channel operation few form (small-of operation small), tt) }
+    record { within = few; number = tt; commands = (small-sent channel operation few (form.channels channel) form.unwanted form.form small, tt) }
 formed-sent channel (Select object columns conditions) few form small =
     record {
       within = few;
       number = tt;
       commands = (
-        asked-sent channel (DeclareCursor object columns conditions) few refl refl form ((small-of (DeclareCursor object columns conditions) small).fitting channel),
+        small-sent channel (DeclareCursor object columns conditions) few refl refl (λ short. form) small,
         (
           open-sent channel few,
           (
@@ -110,62 +122,17 @@ formed-sent channel (UpdateRows object changes conditions) few form small =
     record {
       within = few;
       number = tt;
-      commands = (
-        asked-sent channel Begin few refl refl tt refl,
-        (
-          asked-sent channel (DeclareCursor object [] conditions) few refl refl (form.0, refl, form.2) ((small-of (DeclareCursor object [] conditions) parts.0).fitting channel),
-          (
-            open-sent channel few,
-            (
-              asked-sent channel (Update changes) few refl refl form.1 ((small-of (Update changes) parts.1).fitting channel),
-              (
-                asked-sent channel Next few refl refl tt refl,
-                (
-                  asked-sent channel Commit few refl refl tt refl,
-                  (asked-sent channel Rollback few refl refl tt refl, tt),
-                ),
-              ),
-            ),
-          ),
-        ),
-      );
+      commands =
+          changing-sent channel (DeclareCursor object [] conditions) (Update changes) few
+          (small-sent channel (DeclareCursor object [] conditions) few refl refl (λ short. (form.0, refl, form.2)) parts.0)
+          (small-sent channel (Update changes) few refl refl (λ short. form.1) parts.1);
     }
 formed-sent channel (DeleteRows object conditions) few form small =
     record {
       within = few;
       number = tt;
-      commands = (
-        asked-sent channel Begin few refl refl tt refl,
-        (
-          asked-sent channel (DeclareCursor object [] conditions) few refl refl (form.0, refl, form.1) ((small-of (DeclareCursor object [] conditions) small).fitting channel),
-          (
-            open-sent channel few,
-            (
-              asked-sent channel Delete few refl refl tt refl,
-              (
-                asked-sent channel Next few refl refl tt refl,
-                (
-                  asked-sent channel Commit few refl refl tt refl,
-                  (asked-sent channel Rollback few refl refl tt refl, tt),
-                ),
-              ),
-            ),
-          ),
-        ),
-      );
+      commands =
+          changing-sent channel (DeclareCursor object [] conditions) Delete few
+          (small-sent channel (DeclareCursor object [] conditions) few refl refl (λ short. (form.0, refl, form.1)) small)
+          (asked-sent channel Delete few refl refl tt refl);
     }
-
-pub statement_of-sent : (line : List ℕ) → IfOk (statement_of line) CanAlwaysBeSent
-statement_of-sent line = go (is_nothing (after_blanks line)) (whole (tokens_of line)).0 (whole (tokens_of line)).1 (whole-reads.found (tokens_of line))
-  where
-    small : (s : Statement) (large : Bool) → is_too_large s ≡ large → IsFormed s → IfOk (if large then Err TooLarge else Ok s) CanAlwaysBeSent
-    small s true is form = tt
-    small s false is form = λ channel few. formed-sent channel s few form is
-
-    read : (s : Option Statement) (rest : List Token) → IfSome s IsFormed → IfOk (judged line s rest) CanAlwaysBeSent
-    read None rest form = tt
-    read (Some s) rest form = small s (is_too_large s) refl form
-
-    go : (nothing : Bool) (s : Option Statement) (rest : List Token) → IfSome s IsFormed → IfOk (if nothing then Ok Blank else judged line s rest) CanAlwaysBeSent
-    go true s rest form = λ channel few. formed-sent channel Blank few tt refl
-    go false s rest form = read s rest form

@@ -2,7 +2,7 @@ use Rattle.std.proofs.Common.{◌≡◌, ℕ, List, Result, Ok, Err, OnOk}
 use Rattle.script.specs.declared.statement.Statement.{Statement}
 use Rattle.script.specs.Commands.{CanAlwaysBeSent}
 use Rattle.script.specs.Line.{statement_of}
-use Rattle.script.proofs.Sendable.{statement_of-sent}
+use Rattle.script.proofs.SentLines.{statement_of-sent}
 use Rattle.script.proofs.statement.Statement.read_into.Goals as goal
 
 sent : {A B : Type 0} (line : List ℕ) (result : Result A B) (place : Statement) → OnOk result (statement_of line ≡ Ok place) → OnOk result (CanAlwaysBeSent place)
