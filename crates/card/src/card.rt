@@ -59,7 +59,7 @@ impl Card {
     {
         let opened = open_records(alloc, bench)?;
         Ok(Card {
-            engine: Engine::new(opened.store, opened.index, opened.rooms),
+            engine: Engine::new(opened.tables, opened.rooms),
             command: opened.command,
         })
     }

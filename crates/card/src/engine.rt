@@ -50,8 +50,6 @@ use apdu_chain::{Chains, Taken};
 use db_access::present;
 use db_read::Reader;
 use eeprom::{Eeprom, EepromFault, Heap};
-use record_store::Store;
-use row_index::RowIndex;
 use row_table::Tables;
 use scql_base::{Actor, Command, Copied, Name, Operation, PresentedUser, Row, StatusWord};
 use std::marker::Model;
@@ -83,16 +81,16 @@ impl Model for Engine {
 }
 
 impl Engine {
-    /// One over a store that was opened, in these rooms. Channel 0 is open, without a user.
-    pub(crate) fn new(store: Store, index: RowIndex, rooms: Rooms) -> Engine
+    /// One over tables that were opened, in these rooms. Channel 0 is open, without a user.
+    pub(crate) fn new(tables: Tables, rooms: Rooms) -> Engine
         requires four { (length rooms.sessions.value ≡ 4) × (length rooms.chains.value ≡ 4) }
         requires starts { (db : Database) → sessions_of rooms.sessions.value rooms.chains.value ≡ (machine.start db).sessions }
         requires found { rooms.found.value ≡ record { last = None; scan = None } }
-        ensures kept { result ≡ record { store = store; index = index; sessions = result.sessions; transaction = None; found = record { last = None; scan = None }; live = true } }
+        ensures kept { result ≡ record { store = tables.store; index = tables.index; sessions = result.sessions; transaction = None; found = record { last = None; scan = None }; live = true } }
         ensures starts { (db : Database) → result.sessions ≡ (machine.start db).sessions }
     {
         Engine {
-            tables: Tables { store, index },
+            tables,
             sessions: rooms.sessions,
             chains: rooms.chains,
             transaction: None,

@@ -16,8 +16,9 @@ ghost use Rattle.record_table.specs.Listed.{slots_of};
 ghost use Rattle.scql_model.specs.Records.{counter_in};
 ghost use Rattle.scql_model.specs.Database.{Database};
 ghost use Rattle.scql_model.specs.Opens.{Opens};
-ghost use Rattle.row_index.specs.Index.{ArePlacesIn, HasRows, Indexes};
+ghost use Rattle.row_index.specs.Index.{ArePlacesIn, HasRows};
 ghost use Rattle.row_index.specs.SideRows.{no_rows};
+ghost use Rattle.row_table.specs.Tables.{Stand};
 ghost use Rattle.card.specs.Card.{HoldsSome};
 ghost use Rattle.scql_base.specs.declared.records.TheConstants.RowRecord.{LONGEST};
 ghost use Rattle.card.specs.KeptRecords.{places_in, stamp_of};
@@ -33,14 +34,14 @@ use crate::validity::are_valid;
 use eeprom::{Eeprom, Heap};
 use record_store::{OpenRefusal, Opening, RecordOctets, Store};
 use row_index::{RowIndex, RowPlace};
+use row_table::Tables;
 use scql_base::Command;
 use std::alloc::AllocError;
 
-/// A store that was opened, the index of its rows, and the rooms of a card over it.
+/// A store that was opened with the index of its rows, and the rooms of a card over it.
 #[derive(Drop)]
 pub(crate) struct Opened {
-    pub store: Store,
-    pub index: RowIndex,
+    pub tables: Tables,
     pub rooms: Rooms,
     pub command: Box<Command, Heap>,
 }
@@ -64,13 +65,11 @@ struct Room {
 /// All memory is taken before the first record is read: beyond what a card keeps, for each cell 30 octets and the place of a record,
 /// the place of a row and a number, which are at most 2,048 * (30 + 12 + 12 + 8) = 126,976 octets.
 pub(crate) fn open_records<B: Eeprom>(alloc: Heap, bench: &mut B) -> Result<Opened, OpenRefusal>
-    ensures over { IfOk result (λ opened. IsOver opened.store (B.chip bench.new)) }
+    ensures stand { IfOk result (λ opened. Stand opened.tables (B.chip bench.new)) }
     ensures told { OnOk result (is_some (B.chip bench.new).image ≡ is_some (B.chip bench.old).image) }
-    ensures stored { IfOk result (λ opened. IfSome (B.chip bench.new).image (λ image. store_of image ≡ stored opened.store Committed image)) }
-    ensures idle { IfOk result (λ opened. opened.store.begun ≡ false) }
-    ensures holds { IfOk result (λ opened. HoldsSome opened.store Committed (B.chip bench.new)) }
-    ensures index { IfOk result (λ opened. Indexes opened.index opened.store (B.chip bench.new)) }
-    ensures index_idle { IfOk result (λ opened. opened.index.begun ≡ false) }
+    ensures stored { IfOk result (λ opened. IfSome (B.chip bench.new).image (λ image. store_of image ≡ stored opened.tables.store Committed image)) }
+    ensures idle { IfOk result (λ opened. opened.tables.store.begun ≡ false) }
+    ensures holds { IfOk result (λ opened. HoldsSome opened.tables.store Committed (B.chip bench.new)) }
     ensures four { IfOk result (λ opened. (length opened.rooms.sessions.value ≡ 4) × (length opened.rooms.chains.value ≡ 4)) }
     ensures starts { IfOk result (λ opened. (db : Database) → sessions_of opened.rooms.sessions.value opened.rooms.chains.value ≡ (start db).sessions) }
     ensures nothing_found { IfOk result (λ opened. opened.rooms.found.value ≡ record { last = None; scan = None }) }
@@ -104,8 +103,7 @@ pub(crate) fn open_records<B: Eeprom>(alloc: Heap, bench: &mut B) -> Result<Open
     };
     let index = room.index_of(&store, &records);
     Ok(Opened {
-        store,
-        index,
+        tables: Tables { store, index },
         rooms,
         command,
     })

@@ -7,8 +7,9 @@ mod names;
 mod presenting;
 mod run;
 mod text;
+mod uncalled;
 
 pub use copy_status::CopyStatus;
-pub use lending::copy_shown;
 pub use names::are_names;
 pub use run::run_copy;
+pub use uncalled::copy_shown;

@@ -46,13 +46,6 @@ impl<'a> Resolved<'a> {
         self.all
     }
 
-    /// The columns that are shown.
-    pub fn columns(&self) -> &'a NameList
-        ensures { result.now ≡ self.now.columns }
-    {
-        self.columns
-    }
-
     /// Whether a row of the table passes the conditions of each view.
     pub fn passes(&self, row: &Row) -> bool
         ensures { result ≡ resolving.passes_filters self.now row.now }

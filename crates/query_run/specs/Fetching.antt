@@ -1,5 +1,5 @@
 -- A card whose rows are fetched: what is there of them, and what becomes of the card.
-use Rattle.std.specs.Prelude.{◌≡◌, ◌⊎◌, ℕ, suc, Bool, true, false, List, [], ◌∷◌, ◌++◌, length, Result, Ok, Err, IfErr, IsTrue, OnOk}
+use Rattle.std.specs.Prelude.{◌≡◌, ◌⊎◌, ℕ, suc, Bool, List, [], ◌∷◌, ◌++◌, length, Result, Ok, Err, IfErr, IsTrue, OnOk}
 use Rattle.std.specs.Option.{option_map_or}
 use Rattle.eeprom.specs.Chip.{Chip}
 use Rattle.scql_base.specs.Row.{row_from}
@@ -67,11 +67,6 @@ pub record FetchingLeaves {L A : Type 0} (is_live : L → Bool) (faults mark : L
 abbrev pub fetched_by : Closing → Result (Unit {0}) Unfetched
 fetched_by (Refused word) = Err (unfetched.Refused word)
 fetched_by closing = Ok tt
-
--- whether a step has a row
-abbrev pub has_row : Step → Bool
-has_row (Row command) = true
-has_row step = false
 
 -- the row that a step has, where its octets are a row
 abbrev pub row_at : Step → List ℕ → List Values

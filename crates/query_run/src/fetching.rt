@@ -40,13 +40,6 @@ fn selection(asked: &AskedObject) -> Statement
     }
 }
 
-// Whether a step has a row.
-fn has_row(step: &Step) -> bool
-    ensures { result ≡ model.has_row step.now }
-{
-    matches!(step, Step::Row { .. })
-}
-
 // How a plan ended.
 fn fetched(closing: Closing) -> Result<(), Unfetched>
     ensures { result ≡ model.fetched_by closing }

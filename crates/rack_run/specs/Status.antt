@@ -1,5 +1,5 @@
 -- How a run over a rack ends, by its lines and by its input.
-use Rattle.std.specs.Prelude.{ℕ, Bool, true, false}
+use Rattle.std.specs.Prelude.{Bool, true, false}
 use Rattle.eeprom.specs.declared.fault.SinkFault.{SinkFault}
 use Rattle.line_input.specs.declared.input.InputEnd.{InputEnd}
 use Rattle.line_input.specs.declared.input.InputEnd.TheVariants as input_ends
@@ -34,15 +34,6 @@ status_at input_ends.Ended tally = ended_as tally.muted tally.refused
 status_at input_ends.ReadFault tally = ReadFault
 status_at input_ends.TooLong tally = TooLong
 status_at (input_ends.Stopped stop) tally = WriteFault
-
--- the number of a status
-abbrev pub number_of : RackStatus → ℕ
-number_of Done = 0
-number_of Refused = 1
-number_of Mute = 3
-number_of ReadFault = 4
-number_of WriteFault = 5
-number_of TooLong = 8
 
 -- the status of a program whose run ended so
 abbrev pub program_status : RackStatus → Status

@@ -1,6 +1,6 @@
 // How a run over a rack ends.
 ghost use Rattle.std.specs.Prelude.{◌≡◌};
-ghost use Rattle.rack_run.specs.Status.{number_of, program_status, status_at};
+ghost use Rattle.rack_run.specs.Status.{program_status, status_at};
 
 use crate::tally::Tally;
 use eeprom::SinkFault;
@@ -36,20 +36,6 @@ impl RackStatus {
             InputEnd::ReadFault => RackStatus::ReadFault,
             InputEnd::TooLong => RackStatus::TooLong,
             InputEnd::Stopped(_) => RackStatus::WriteFault,
-        }
-    }
-
-    /// Its number, which is a program's exit status.
-    pub fn number(self) -> u8
-        ensures { result ≡ number_of self }
-    {
-        match self {
-            RackStatus::Done => 0,
-            RackStatus::Refused => 1,
-            RackStatus::Mute => 3,
-            RackStatus::ReadFault => 4,
-            RackStatus::WriteFault => 5,
-            RackStatus::TooLong => 8,
         }
     }
 }

@@ -17,6 +17,7 @@ mod slots;
 mod store;
 mod tags;
 mod touched;
+mod uncalled;
 mod writer;
 
 pub use cell_store::RecordOctets;

@@ -104,13 +104,6 @@ impl Opening {
         self.row_limit
     }
 
-    /// How many slots were claimed.
-    pub fn claimed(&self) -> u16
-        ensures { result ≡ self.now.claimed }
-    {
-        self.claimed
-    }
-
     /// Claims the next slot, and hands out its record, or no octets where the slot is empty. As many octets are read as the
     /// cells of the record have.
     pub fn claim_next<B: Eeprom>(

@@ -7,7 +7,7 @@ ghost use Rattle.record_store.specs.Held.{firsts, tags_of, record_at, first_octe
 ghost use Rattle.record_store.specs.Put.{MayPut, MayRemove, MayTakeOut, Puts, Removes};
 ghost use Rattle.record_store.specs.Get.{EndsUse, FindsTagged, Gets, PassesOver, TellsWeight};
 ghost use Rattle.cell_store.specs.Cells.{CountsCells};
-ghost use Rattle.record_store.specs.Opens.{FinishesOpening, Opens};
+ghost use Rattle.record_store.specs.Opens.{FinishesOpening};
 ghost use Rattle.record_store.specs.Slots.{steps_without};
 ghost use Rattle.record_store.specs.Transaction.{BeginsTransaction, CommitsTransaction, MayCommit, RollsBackTransaction};
 
@@ -18,7 +18,7 @@ use crate::slot_tags::{SideTags, SlotTags};
 use crate::slots::{copy_slots, free_replaced, named_or_empty, search_from, slots_in_use};
 use crate::tags::{Tag, next_with};
 use crate::touched::Touched;
-use crate::{OpenRefusal, Side, StoreRefusal};
+use crate::{Side, StoreRefusal};
 use cell_store::{CellRefusal, CellStore, RecordOctets, cells_for};
 use eeprom::{Eeprom, EepromFault, Heap, ImageBench, NO_CELL};
 use journal::{Entry, Journal};
@@ -92,19 +92,6 @@ impl Opening {
 }
 
 impl Store {
-    /// Opens the store of an image, where it has one. A journal behind an open gate is replayed first. As many octets are read as
-    /// begin the image, and as the cells of the records have.
-    pub fn open<B: Eeprom>(alloc: Heap, bench: &mut B) -> Result<Store, OpenRefusal>
-        ensures { Opens B.chip B.faults B.octets_read bench.old bench.new result }
-    {
-        let mut opening = Opening::new(alloc, bench)?;
-        let mut octets = RecordOctets::new();
-        for _slot in 0..opening.cells() {
-            opening = opening.claim_next(bench, &mut octets)?;
-        }
-        Ok(opening.finish())
-    }
-
     /// The number of slots, and of cells that the records can have.
     pub fn cells(&self) -> u16
         ensures { CountsCells self.now.chains.cells result }
@@ -119,13 +106,6 @@ impl Store {
         ensures most { result ≤ migrated_row_limit }
     {
         self.row_limit
-    }
-
-    /// Whether a transaction was begun.
-    pub fn begun(&self) -> bool
-        ensures { result ≡ self.now.begun }
-    {
-        self.begun
     }
 
     /// How many cells the records of a side have.

@@ -86,9 +86,6 @@ returns-in_default-clause-not_a_card g c = λ _.
     (gathered-all c.loop-slot.opening start.image c.loop-slot.slot c.loop-slot.gathered.counter c.loop-slot.gathered.records.items c.finish-store.result c.finish-store.ensures.opened c.finish-store.ensures.slots c.loop-slot.invariant.opening.over.stands c.loop-slot.invariant.gathers)
     (c.in_default.ensures.refused refl))
 
-pub returns-clause-over : goal.returns-clause-over
-returns-clause-over g c = finished-over c.loop-slot.opening c.finish-store.result (g.B.Eeprom.chip c.loop-slot.bench) c.finish-store.ensures.stands c.finish-store.ensures.cells (over g (goal.at.returns-clause-over g c).After-finish-store)
-
 pub returns-clause-stored : goal.returns-clause-stored
 returns-clause-stored g c =
     finished-opened c.loop-slot.opening c.finish-store.result (g.B.Eeprom.chip c.loop-slot.bench).image c.finish-store.ensures.opened (over g (goal.at.returns-clause-stored g c).After-finish-store).stands
@@ -131,16 +128,20 @@ returns-clause-holds g c =
     holds-opened c.finish-store.result (g.B.Eeprom.chip c.loop-slot.bench) c.loop-slot.slot c.in-Some.ensures.passed.0 c.loop-slot.gathered.records.items (sym (c.finish-store.ensures.cells ∙ all_claimed g at.In-Some)) (opened g at.After-finish-store)
     (now g at.In-Some _ (whole g at.In-Some)) (now g at.In-Some _ (opens g at.In-Some))
 
-pub returns-clause-index : goal.returns-clause-index
-returns-clause-index g c =
-    let at = goal.at.returns-clause-index g c in
+pub returns-clause-stand : goal.returns-clause-stand
+returns-clause-stand g c =
+    let at = goal.at.returns-clause-stand g c in
+    let chip = g.B.Eeprom.chip c.loop-slot.bench in
     let all = all_claimed g at.In-Some in
     let cells = ap (λ (index : Index). index.cells) c.in_ok-room.ensures.index in
-    indexed c.index_of-index.result c.finish-store.result (g.B.Eeprom.chip c.loop-slot.bench) c.in_ok-room.room.index.cells c.loop-slot.slot c.in-Some.ensures.passed.0 c.loop-slot.gathered.records.items c.in-Some.records.items
-    c.index_of-index.ensures.cells c.index_of-index.ensures.both (cells ∙ (c.cells-cells.ensures.number ∙ (sym c.loop-slot.invariant.opening.cells_are ∙ all))) c.finish-store.ensures.idle (sym (c.finish-store.ensures.cells ∙ all))
-    (c.index_of-index.ensures.filled (g.B.Eeprom.chip c.loop-slot.bench)
-    (finished-over c.loop-slot.opening c.finish-store.result (g.B.Eeprom.chip c.loop-slot.bench) c.finish-store.ensures.stands c.finish-store.ensures.cells (over g at.After-finish-store))) (opened g at.After-finish-store)
-    (now g at.In-Some _ (whole g at.In-Some)) c.in-Some.ensures.passed.2.apart (c.in-Some.ensures.records)
+    let store_over = finished-over c.loop-slot.opening c.finish-store.result chip c.finish-store.ensures.stands c.finish-store.ensures.cells (over g at.After-finish-store) in record {
+      over = store_over;
+      index = indexed c.index_of-index.result c.finish-store.result chip c.in_ok-room.room.index.cells c.loop-slot.slot c.in-Some.ensures.passed.0 c.loop-slot.gathered.records.items c.in-Some.records.items
+          c.index_of-index.ensures.cells c.index_of-index.ensures.both (cells ∙ (c.cells-cells.ensures.number ∙ (sym c.loop-slot.invariant.opening.cells_are ∙ all))) c.finish-store.ensures.idle (sym (c.finish-store.ensures.cells ∙ all))
+          (c.index_of-index.ensures.filled chip store_over) (opened g at.After-finish-store)
+          (now g at.In-Some _ (whole g at.In-Some)) c.in-Some.ensures.passed.2.apart (c.in-Some.ensures.records);
+      together = c.index_of-index.ensures.idle ∙ sym c.finish-store.ensures.idle;
+    }
 
 pub returns-in_default-clause-most_read : goal.returns-in_default-clause-most_read
 returns-in_default-clause-most_read g c =

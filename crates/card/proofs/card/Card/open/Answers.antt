@@ -1,5 +1,5 @@
 -- A card is opened exactly where the image opens to a database, and is then at its start.
-use Rattle.std.proofs.Common.{◌≡◌, ℕ, false, List, Option, None, refl, rules, sym, subst}
+use Rattle.std.proofs.Common.{◌≡◌, ◌∙◌, ℕ, false, List, Option, None, refl, rules, sym, subst}
 use Rattle.std.specs.Prelude.{IfSome}
 use Rattle.eeprom.specs.Chip.{Becomes}
 use Rattle.eeprom.specs.StoreOf.{is_gate_open}
@@ -39,22 +39,22 @@ returns g c = record {
   opened = (λ db told.
       let old = g.B.Eeprom.chip c.args.bench.now in
       let new = g.B.Eeprom.chip c.open_records.new.bench in
-      let store = c.in_ok-opened.opened.store in
-      let made = opened store c.in_ok-opened.opened.index (record { last = None; scan = None }) c.new.result.sessions in
+      let store = c.in_ok-opened.opened.tables.store in
+      let made = opened store c.in_ok-opened.opened.tables.index (record { last = None; scan = None }) c.new.result.sessions in
       let reads = λ (o : Option (List ℕ)). IfSome o (λ image. is_gate_open image ≡ false → Becomes (ReadsCard db) (g.B.Eeprom.octets_read c.args.bench.now) (g.B.Eeprom.octets_read c.open_records.new.bench)) in record {
         starts = subst (λ (kept : Kept). IsAt kept new (start db)) (sym c.new.ensures.kept)
             (subst (λ (o : Option (List ℕ)). IfSome o (λ image. (d : Database) → Opens image d → IsAt made new (start d))) told.1
             (kept-image (λ image. (d : Database) → Opens image d → IsAt made new (start d)) (λ image. (d : Database) → Opens image d → IsAt made new (start d)) old new c.in_ok-opened.ensures.frame.store.keeps c.in_ok-opened.ensures.told
             (λ left was same starts d opens. starts d (opens-same was left (sym same) d opens))
-            (starts_at store c.in_ok-opened.opened.index (record { last = None; scan = None }) c.new.result.sessions new new.image c.new.ensures.starts refl c.in_ok-opened.ensures.stored)) db told.2);
+            (starts_at store c.in_ok-opened.opened.tables.index (record { last = None; scan = None }) c.new.result.sessions new new.image c.new.ensures.starts refl c.in_ok-opened.ensures.stored)) db told.2);
         octets_read = subst reads (sym told.1)
             (subst (λ (o : Option (List ℕ)). IfSome o (λ image. (d : Database) → Opens image d → is_gate_open image ≡ false → Becomes (ReadsCard d) (g.B.Eeprom.octets_read c.args.bench.now) (g.B.Eeprom.octets_read c.open_records.new.bench))) told.1
             c.in_ok-opened.ensures.octets_read db told.2);
       });
   ready = (let new = g.B.Eeprom.chip c.open_records.new.bench in
       let e = c.in_ok-opened.ensures in
-      let made = opened c.in_ok-opened.opened.store c.in_ok-opened.opened.index (record { last = None; scan = None }) c.new.result.sessions in
-      subst (λ (kept : Kept). IsReady kept new) (sym c.new.ensures.kept) (record { stands = StandsOver-idle made new refl refl e.idle e.over e.holds e.index_idle e.index; found = tt }));
+      let made = opened c.in_ok-opened.opened.tables.store c.in_ok-opened.opened.tables.index (record { last = None; scan = None }) c.new.result.sessions in
+      subst (λ (kept : Kept). IsReady kept new) (sym c.new.ensures.kept) (record { stands = StandsOver-idle made new refl refl e.idle e.stand.over e.holds (e.stand.together ∙ e.idle) e.stand.index; found = tt }));
   cells = search rules;
   most_read = search rules;
   no_memory = search rules;

@@ -7,7 +7,7 @@ use Rattle.reader_rack.specs.Racks.{reader_at}
 use Rattle.reader_rack.specs.Statements.{IsReader}
 use Rattle.copy_run.specs.Racks.{IsCopied, LinkBecomes}
 use Rattle.copy_run.proofs.Relinking.{Relinked, becomes, copied, links-change, may-lend, may-lend-too, others-still, relinked-from, relinked-to}
-use Rattle.copy_run.proofs.lending.copy_shown.Goals as goal
+use Rattle.copy_run.proofs.uncalled.copy_shown.Goals as goal
 
 pub take-source-requires : goal.take-source-requires
 take-source-requires g c = (search rules, may-lend g.L.CardLink.is_live c.args.rack.now.readers c.args.from c.requires.source)
