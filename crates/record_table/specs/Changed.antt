@@ -59,3 +59,15 @@ pub record Puts {S T : Type 0} (chip : S → Chip) (faults : S → ℕ) (step : 
   pub behind : Keeps (drop (image_size old.chains.cells)) (chip before) (chip after)
   -- A fault of the EEPROM was counted.
   pub cause : CountsFaults is_put_fault (faults before) (faults after) result
+
+-- The record is taken out of a slot, in memory alone.
+pub record Empties (slot : ℕ) (old new : Held) : Type 0 where
+  -- The slot is emptied, and what is committed stays. The store goes on over its EEPROM.
+  pub removed : (image : List ℕ) → StandsFor old image → Rewrites (IsEmptied slot) old new image image
+  pub over : (chip : Chip) → IsOver old chip → IsOver new chip
+  pub begun : new.begun ≡ old.begun
+  pub cells : new.chains.cells ≡ old.chains.cells
+  pub rows : new.row_limit ≡ old.row_limit
+  -- No other slot has another chain, and this one is an entry of a commit at most.
+  pub only : ChangesOnly slot old new
+  pub entries : entries new ≤ entries old + 1

@@ -1,9 +1,6 @@
 // Changes of the records of a kind, on the working side of a transaction.
-ghost use Rattle.std.specs.Prelude.{◌≡◌, ◌<◌, ◌≤◌, ◌+◌, ℕ, List, Some, None, IsTrue};
-ghost use Rattle.eeprom.specs.Chip.{Chip};
-ghost use Rattle.record_store.specs.Held.{IsOver, StandsFor};
-ghost use Rattle.record_store.specs.Transaction.{ChangesOnly, entries};
-ghost use Rattle.record_table.specs.Changed.{IsAdded, IsBegunOver, IsChanged, IsEmptied, Puts, Rewrites};
+ghost use Rattle.std.specs.Prelude.{◌<◌, Some, None, IsTrue};
+ghost use Rattle.record_table.specs.Changed.{Empties, IsAdded, IsBegunOver, IsChanged, Puts};
 
 use catalog_codec::Record;
 use eeprom::Eeprom;
@@ -46,13 +43,7 @@ pub fn change<R: Record, B: Eeprom>(
 pub fn remove(store: &mut Store, slot: u16)
     requires begun { IsTrue store.old.begun }
     requires slot { slot < store.old.chains.cells }
-    ensures removed { (image : List ℕ) → StandsFor store.old image → Rewrites (IsEmptied slot) store.old store.new image image }
-    ensures over { (chip : Chip) → IsOver store.old chip → IsOver store.new chip }
-    ensures begun { store.new.begun ≡ store.old.begun }
-    ensures cells { store.new.chains.cells ≡ store.old.chains.cells }
-    ensures rows { store.new.row_limit ≡ store.old.row_limit }
-    ensures only { ChangesOnly slot store.old store.new }
-    ensures entries { entries store.new ≤ entries store.old + 1 }
+    ensures { Empties slot store.old store.new }
 {
     store.remove(slot);
 }

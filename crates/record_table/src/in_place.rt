@@ -1,16 +1,15 @@
 // A record of a database changed in its place, or taken out.
 ghost use Rattle.std.specs.Prelude.{◌≡◌, ◌<◌, [], ◌∷◌, Some, Ok, IsTrue, IfSome, OnOk};
-ghost use Rattle.eeprom.specs.Chip.{Chip, Becomes};
-ghost use Rattle.record_store.specs.Held.{IsOver};
-ghost use Rattle.record_store.specs.declared.side.Side.TheVariants.{Committed, Working};
+ghost use Rattle.eeprom.specs.Chip.{Becomes};
+ghost use Rattle.record_store.specs.declared.side.Side.TheVariants.{Working};
 ghost use Rattle.scql_model.specs.Database.{Database};
-ghost use Rattle.scql_model.specs.Edits.{changing, removing};
+ghost use Rattle.scql_model.specs.Edits.{changing};
 ghost use Rattle.catalog_codec.specs.Catalog.{row_kind};
 ghost use Rattle.catalog_codec.specs.Kinds.{HaveOtherMarks};
 ghost use Rattle.record_table.specs.Changed.{IsBegunOver, IsChanged};
 ghost use Rattle.record_table.specs.Listed.{at_slot, slots_of};
-ghost use Rattle.record_table.specs.Making.{Ends, GoesOn, IsHeld, IsValidWith, KeepsRows, Makes};
-ghost use Rattle.record_table.specs.OneRecord.{LeavesStore};
+ghost use Rattle.record_table.specs.Making.{Ends, IsHeld, IsValidWith, KeepsRows};
+ghost use Rattle.record_table.specs.OneRecord.{LeavesStore, TakesOut};
 
 use crate::{Editable, Stop, change, remove};
 use eeprom::Eeprom;
@@ -42,12 +41,7 @@ pub fn change_in_place<R: Editable, B: Eeprom>(
 pub fn take_out<R: Editable>(store: &mut Store, slot: u16)
     requires begun { IsTrue store.old.begun }
     requires there { slot < store.old.chains.cells }
-    ensures makes { (db : Database) (was : R) (chip : Chip) → IsHeld store.old Working chip db → IfSome (slots_of store.old Working chip) (λ slots. Some was ≡ at_slot R.kind slot slots)
-        → IsOver store.old chip → IsValidWith db (removing (R.any was) ∷ []) → Makes db (removing (R.any was) ∷ []) store.old store.new chip chip }
-    ensures rows { (was : R) (chip : Chip) → HaveOtherMarks R.kind row_kind → IfSome (slots_of store.old Working chip) (λ slots. Some was ≡ at_slot R.kind slot slots)
-        → IsOver store.old chip → KeepsRows (slots_of store.old Working chip) (slots_of store.new Working chip) }
-    ensures committed { (chip : Chip) → IsOver store.old chip → slots_of store.new Committed chip ≡ slots_of store.old Committed chip }
-    ensures goes_on { (chip : Chip) → IsOver store.old chip → GoesOn store.old store.new chip chip }
+    ensures { TakesOut R.kind R.any slot store.old store.new }
 {
     remove(store, slot);
 }

@@ -3,9 +3,16 @@ use Rattle.std.proofs.Common.{refl}
 use Rattle.record_table.proofs.Rewriting.{removed, over-told, stands-removed}
 use Rattle.record_table.proofs.changing.remove.Goals as goal
 
-pub returns-clause-removed : goal.returns-clause-removed
-returns-clause-removed c = λ image over. removed c.args.store.now c.remove.new.self c.args.slot image (c.remove.ensures.removed image over)
-
-pub returns-clause-over : goal.returns-clause-over
-returns-clause-over c = λ chip over.
-    over-told c.args.store.now c.remove.new.self chip chip over c.remove.ensures.cells refl (stands-removed c.args.store.now c.remove.new.self c.args.slot chip.image c.remove.ensures.removed over.stands)
+pub returns : goal.returns
+returns c =
+    let old = c.args.store.now in
+    let new = c.remove.new.self in
+    record {
+      removed = λ image over. removed old new c.args.slot image (c.remove.ensures.removed image over);
+      over = λ chip over. over-told old new chip chip over c.remove.ensures.cells refl (stands-removed old new c.args.slot chip.image c.remove.ensures.removed over.stands);
+      begun = c.remove.ensures.begun;
+      cells = c.remove.ensures.cells;
+      rows = c.remove.ensures.rows;
+      only = c.remove.ensures.only;
+      entries = c.remove.ensures.entries;
+    }
