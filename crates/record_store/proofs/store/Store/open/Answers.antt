@@ -6,8 +6,8 @@ use Rattle.record_store.specs.Opening.{IsOverSoFar, StandsSoFar, front_octets}
 use Rattle.record_store.specs.Recovery.{KeepsStore}
 use Rattle.record_store.proofs.OpeningSlots.{finished-over, finished-opened, read-told}
 use Rattle.record_store.proofs.Replaying.{kept-image}
-use Rattle.record_store.proofs.uncalled.Store.open.Goals.{After-finish}
-use Rattle.record_store.proofs.uncalled.Store.open.Goals as goal
+use Rattle.record_store.proofs.store.Store.open.Goals.{After-finish}
+use Rattle.record_store.proofs.store.Store.open.Goals as goal
 
 over : (g : _) (c : After-finish g) → IsOverSoFar c.loop-slot.opening (g.B.Eeprom.chip c.loop-slot.bench)
 over g c = subst (IsOverSoFar c.loop-slot.opening) (sym c.loop-slot.invariant.same) c.loop-slot.invariant.opening.over

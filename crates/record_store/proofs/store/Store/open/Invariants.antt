@@ -1,6 +1,6 @@
 use Rattle.std.proofs.Common.{◌≡◌}
 use Rattle.record_store.proofs.OpeningSlots.{IsOpening}
-use Rattle.record_store.proofs.uncalled.Store.open.Given as goal
+use Rattle.record_store.proofs.store.Store.open.Given as goal
 
 abbrev pub invariant-loop-slot : goal.invariant-loop-slot
 invariant-loop-slot g l = record {
