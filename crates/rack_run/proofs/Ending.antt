@@ -209,30 +209,30 @@ lines-prompts {A} {R} {L} {B} {P} rack tally readers current given sink is_at is
 -- So it is where more is told of the lines, and of the one in which the outlet failed.
 module _ {A R L B P : Type 0} (rack : A → R) (tally : A → Tally) (readers : R → List (Reader L)) (current : R → ℕ) (given : R → Option (List ℕ)) (sink : R → ℕ) (is_at : L → Machine → Type 0) (is_live : L → Bool) (faults : L → ℕ)
     (lent : A → B) (person : B → P) (lost : P → Bool) (shown : P → Option (List ℕ)) (name name' : A → ℕ) (told : A → A → Type 0) where
-  abbrev pub Reads : InputEnd SinkFault → A → A → Option (List ℕ) → Option (List ℕ) → Type 0
-  Reads =
+  abbrev pub ReadsInput : InputEnd SinkFault → A → A → Option (List ℕ) → Option (List ℕ) → Type 0
+  ReadsInput =
       IsRead (λ (a : A) (lines : List (Option (List ℕ))) (b : A). AnswersInRack rack tally readers current given sink is_at is_live faults lent person lost shown name name' a lines b × told a b)
       (λ (a : A) (line : Option (List ℕ)) (stop : SinkFault) (b : A). Stops rack tally readers current given sink is_at is_live faults lent name a line stop b × told a b)
 
-  weaker : (end' : InputEnd SinkFault) (old new : A) (start now : Option (List ℕ)) → Reads end' old new start now
+  weaker : (end' : InputEnd SinkFault) (old new : A) (start now : Option (List ℕ)) → ReadsInput end' old new start now
       → IsRead (AnswersInRack rack tally readers current given sink is_at is_live faults lent person lost shown name name') (Stops rack tally readers current given sink is_at is_live faults lent name) end' old new start now
   weaker end' old new start now read = read-weaker (λ (a : A) (lines : List (Option (List ℕ))) (b : A). AnswersInRack rack tally readers current given sink is_at is_live faults lent person lost shown name name' a lines b × told a b) (AnswersInRack rack tally readers current given sink is_at is_live faults lent person lost shown name name')
       (λ (a : A) (line : Option (List ℕ)) (stop : SinkFault) (b : A). Stops rack tally readers current given sink is_at is_live faults lent name a line stop b × told a b) (Stops rack tally readers current given sink is_at is_live faults lent name)
       (λ a lines b both. both.0) (λ a line stop b both. both.0) end' old new start now read
 
   pub read-runs : (end' : InputEnd SinkFault) (old new : A) (first last : R) (start now : Option (List ℕ)) (status : RackStatus)
-      → tally old ≡ nothing_yet → rack old ≡ first → last ≡ rack new → status ≡ status_at end' (tally new) → Reads end' old new start now
+      → tally old ≡ nothing_yet → rack old ≡ first → last ≡ rack new → status ≡ status_at end' (tally new) → ReadsInput end' old new start now
       → Runs is_at is_live faults status start now (readers first) (current first) (readers last) (current last) (given first) (given last)
   read-runs end' old new first last start now status fresh from to is read =
       lines-runs rack tally readers current given sink is_at is_live faults lent person lost shown name name' end' old new first last start now status fresh from to is (weaker end' old new start now read)
 
   pub read-prompts : (end' : InputEnd SinkFault) (old new : A) (before after : P) (number : ℕ) (start now : Option (List ℕ)) (status : RackStatus)
-      → current (rack old) ≡ number → Shows lost shown (prompt number) before (person (lent old)) → after ≡ person (lent new) → status ≡ status_at end' (tally new) → Reads end' old new start now
+      → current (rack old) ≡ number → Shows lost shown (prompt number) before (person (lent old)) → after ≡ person (lent new) → status ≡ status_at end' (tally new) → ReadsInput end' old new start now
       → ShowsPrompts lost shown status start now number before after
   read-prompts end' old new before after number start now status from prompted to is read =
       lines-prompts rack tally readers current given sink is_at is_live faults lent person lost shown name name' end' old new before after number start now status from prompted to is (weaker end' old new start now read)
 
-  pub read-told : ((a b c : A) → told a b → told b c → told a c) → (end' : InputEnd SinkFault) (old new : A) (start now : Option (List ℕ)) → Reads end' old new start now → told old new
+  pub read-told : ((a b c : A) → told a b → told b c → told a c) → (end' : InputEnd SinkFault) (old new : A) (start now : Option (List ℕ)) → ReadsInput end' old new start now → told old new
   read-told follow input_ends.Ended old new start now read = read.1.1
   read-told follow input_ends.ReadFault old new start now read = read.1.1
   read-told follow input_ends.TooLong old new start now read = read.1.1

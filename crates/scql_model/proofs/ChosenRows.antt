@@ -22,24 +22,24 @@ module _ (contents : Contents) (c : Cursor) where
   cut_row r = record r { values = cut_to contents.columns c.columns r.values }
 
   -- what is found among the chosen rows is this row, cut, if there is one; it is one of the rows, and has this position
-  pub record IsAt (found : Option StampedRow) (positioned : Option PositionedRow) : Type 0 where
+  pub record FindsChosen (found : Option StampedRow) (positioned : Option PositionedRow) : Type 0 where
     pub row : Option StampedRow
     pub is_cut : found ≡ option_map cut_row row
     pub is_positioned : option_map (at_position contents.rows) row ≡ positioned
     pub there : (r : StampedRow) → row ≡ Some r → is_there r.stamp contents.rows ≡ true
 
-  pub IsAt-first_row : Rises stamp_of contents.rows → IsAt (first_row (chosen contents c)) (least_from 0 chooses (values_of contents.rows))
-  IsAt-first_row rise = record {
+  pub FindsChosen-first_row : Rises stamp_of contents.rows → FindsChosen (first_row (chosen contents c)) (least_from 0 chooses (values_of contents.rows))
+  FindsChosen-first_row rise = record {
     row = first_from 0 chooses contents.rows;
     is_cut = first_row-narrowed cut_row (λ (r : StampedRow). chooses r.values) contents.rows ∙ ap (option_map cut_row) (first_from-zero chooses contents.rows);
     is_positioned = first_is_least 0 chooses contents.rows rise ∙ ap (λ (k : ℕ). least_from k chooses (values_of contents.rows)) (before_zero contents.rows);
     there = there-find (λ (r : StampedRow). nat_le 0 r.stamp && chooses r.values) contents.rows;
   }
 
-  pub IsAt-row_behind : (place : Place) → Rises stamp_of contents.rows → IsAt (row_behind place (chosen contents c)) (least_behind (place_shown (Some contents) place) chooses (values_of contents.rows))
-  IsAt-row_behind NotOpen rise = record { row = None; is_cut = refl; is_positioned = refl; there = λ r found. absurd (none-some r found) }
-  IsAt-row_behind End rise = record { row = None; is_cut = refl; is_positioned = refl; there = λ r found. absurd (none-some r found) }
-  IsAt-row_behind (At stamp) rise = record {
+  pub FindsChosen-row_behind : (place : Place) → Rises stamp_of contents.rows → FindsChosen (row_behind place (chosen contents c)) (least_behind (place_shown (Some contents) place) chooses (values_of contents.rows))
+  FindsChosen-row_behind NotOpen rise = record { row = None; is_cut = refl; is_positioned = refl; there = λ r found. absurd (none-some r found) }
+  FindsChosen-row_behind End rise = record { row = None; is_cut = refl; is_positioned = refl; there = λ r found. absurd (none-some r found) }
+  FindsChosen-row_behind (At stamp) rise = record {
     row = first_from (suc stamp) chooses contents.rows;
     is_cut = find-map_filter (λ (r : StampedRow). nat_lt stamp r.stamp) cut_row (λ (r : StampedRow). chooses r.values) contents.rows;
     is_positioned = first_is_least (suc stamp) chooses contents.rows rise ∙ ap (λ (k : ℕ). least_from k chooses (values_of contents.rows)) (before_next stamp contents.rows rise);

@@ -22,7 +22,7 @@ use Rattle.scql_model.specs.Shown.{ShownTable, ShownObject, ShownPlace, not_open
 use Rattle.scql_model.specs.Reads.{PositionedRow, table_under, is_opened_place, opened_cursor, meets_cursor, least_from, least_behind, stands_at, gives_at, goes_to, gives_next, gives_row, gives_more, read, read_move, read_reply, read_next}
 use Rattle.scql_model.specs.ReadingLaws.{IsReadable, replies_to, reading_after, read_replies, shown_after}
 use Rattle.scql_model.proofs.Positions.{values_of, at_position}
-use Rattle.scql_model.proofs.ChosenRows.{chooses, cut_row, IsAt, IsAt-first_row, IsAt-row_behind, row_at-chosen}
+use Rattle.scql_model.proofs.ChosenRows.{chooses, cut_row, FindsChosen, FindsChosen-first_row, FindsChosen-row_behind, row_at-chosen}
 use Rattle.scql_model.proofs.FoundAgain.{seen_stamped-named, seen_named-stamped, name-seen_named, find-objects_shown}
 use Rattle.scql_model.proofs.ContentsRise.{Rises-contents_of}
 
@@ -134,7 +134,7 @@ module _ (db : Database) (actor : Actor) (reading : Reading) where
 
   -- under a cursor whose object is seen and may be selected from
   module _ (c : Cursor) (o : Object) (is : seen_stamped db actor c.object ≡ Some o) (may : holds db actor o select_privilege ≡ true) where
-    went_to-shown : (found : Option StampedRow) (positioned : Option PositionedRow) → IsAt (here o) c found positioned → move_shown db actor (went_to c found) ≡ goes_to before (as_shown c) positioned
+    went_to-shown : (found : Option StampedRow) (positioned : Option PositionedRow) → FindsChosen (here o) c found positioned → move_shown db actor (went_to c found) ≡ goes_to before (as_shown c) positioned
     went_to-shown found positioned at = rw (at.is_cut, ← at.is_positioned) (go at.row at.there)
       where
         go : (row : Option StampedRow) → ((r : StampedRow) → row ≡ Some r → is_there r.stamp (here o).rows ≡ true)
@@ -150,7 +150,7 @@ module _ (db : Database) (actor : Actor) (reading : Reading) where
     given-shown place shown_place le (Ok octets) at =
         ap Ok (gives-shown db actor reading reading.pending c o place le octets is may ∙ ap (λ (p : ShownPlace). gives_at p before (as_shown c) le octets) at)
 
-    gave_next-shown : (le : ℕ) (found : Option StampedRow) (positioned : Option PositionedRow) → IsAt (here o) c found positioned
+    gave_next-shown : (le : ℕ) (found : Option StampedRow) (positioned : Option PositionedRow) → FindsChosen (here o) c found positioned
         → told db actor (gave_next c le found) ≡ gives_next before (without_stamps (here o)) (as_shown c) le positioned
     gave_next-shown le found positioned at = rw (at.is_cut, ← at.is_positioned) (go at.row at.there)
       where
@@ -184,10 +184,10 @@ module _ (db : Database) (actor : Actor) (reading : Reading) where
     place-under = rw (is, may) refl
 
     -- the next row behind the cursor's place
-    behind : IsReadable db → IsAt (here o) c (row_behind c.place (chosen (here o) c)) (least_behind (as_shown c).place (chooses (here o) c) (values_of (here o).rows))
+    behind : IsReadable db → FindsChosen (here o) c (row_behind c.place (chosen (here o) c)) (least_behind (as_shown c).place (chooses (here o) c) (values_of (here o).rows))
     behind readable =
-        subst (λ (p : ShownPlace). IsAt (here o) c (row_behind c.place (chosen (here o) c)) (least_behind p (chooses (here o) c) (values_of (here o).rows))) (sym place-under)
-        (IsAt-row_behind (here o) c c.place (Rises-contents_of db o.stamp readable))
+        subst (λ (p : ShownPlace). FindsChosen (here o) c (row_behind c.place (chosen (here o) c)) (least_behind p (chooses (here o) c) (values_of (here o).rows))) (sym place-under)
+        (FindsChosen-row_behind (here o) c c.place (Rises-contents_of db o.stamp readable))
 
     pending-under : (as_shown c).pending ≡ Some reading.pending
     pending-under = rw (is, may) refl
@@ -213,7 +213,7 @@ module _ (db : Database) (actor : Actor) (reading : Reading) where
   told-moved readable open_cursor =
       told-cursor _ _ (λ (c : Cursor). told-under c _
       (λ (t : ShownTable). Ok (goes_to before (as_shown c) (least_from 0 (meets_cursor t (as_shown c)) t.rows))) readable
-      (λ o is may. ap Ok (went_to-shown c o is may _ _ (IsAt-first_row (here o) c (Rises-contents_of db o.stamp readable)))))
+      (λ o is may. ap Ok (went_to-shown c o is may _ _ (FindsChosen-first_row (here o) c (Rises-contents_of db o.stamp readable)))))
   told-moved readable next =
       told-opened _ _ (λ (c : Cursor). told-under c _
       (λ (t : ShownTable). Ok (goes_to before (as_shown c) (least_behind (as_shown c).place (meets_cursor t (as_shown c)) t.rows))) readable
