@@ -1,14 +1,21 @@
 -- A store outside of a transaction: the database that it holds, and another one that is committed in its place.
-use Rattle.std.specs.Prelude.{◌≡◌, ℕ, false, List, [], ◌∷◌, Result, Err, OnOk}
-use Rattle.eeprom.specs.Chip.{Chip, Becomes, Leaves, MayBeLeftSince, RisesAtMost}
+use Rattle.std.specs.Prelude.{◌≡◌, ℕ, false, List, [], ◌∷◌, Some, Result, Err, IfSome, IsErrOf, OnOk, drop}
+use Rattle.eeprom.specs.Chip.{Chip, Becomes, Keeps, Leaves, MayBeLeftSince, RisesAtMost}
+use Rattle.eeprom.specs.Fault.{CountsFaults}
+use Rattle.eeprom.specs.StoreOf.{image_size}
 use Rattle.record_store.specs.Held.{Held, IsOver}
 use Rattle.record_store.specs.declared.side.Side.TheVariants.{Committed}
 use Rattle.scql_base.specs.declared.words.StatusWord.{StatusWord}
-use Rattle.scql_model.specs.Database.{Database}
+use Rattle.scql_model.specs.Database.{Database, IsValid}
+use Rattle.scql_model.specs.Edits.{applied, changing, lacks_room, octets_for}
 use Rattle.scql_model.specs.Opens.{Opens, OpensToOneOf}
-use Rattle.record_table.specs.Making.{IsHeld}
+use Rattle.scql_model.specs.Records.{AnyRecord}
+use Rattle.catalog_codec.specs.Kinds.{Kind}
+use Rattle.record_table.specs.Changed.{IsChanged}
+use Rattle.record_table.specs.Listed.{at_slot, slots_of}
+use Rattle.record_table.specs.Making.{GoesOn, IsHeld, is_stop_fault}
 use Rattle.record_table.specs.declared.stop.Stop.{Stop}
-use Rattle.record_table.specs.declared.stop.Stop.TheVariants.{Refused}
+use Rattle.record_table.specs.declared.stop.Stop.TheVariants.{Refused, Fault}
 
 -- a store is in no transaction, over its EEPROM
 pub record IsIdleOver (store : Held) (chip : Chip) : Type 0 where
@@ -41,3 +48,17 @@ pub record Replaces {T : Type 0} (db next : Database) (most : ℕ) (result : Res
   pub unrefused : (word : StatusWord) → result ≡ Err (Refused word) → ⊥
   pub moments : LeavesOneOf (db ∷ next ∷ []) old new
   pub octets : OnOk result (Becomes (RisesAtMost most) old.written new.written)
+
+-- How it ends that a record of a kind is committed in a transaction of its own, in the slot of the one of its stamp; `any` says of which kind it is.
+pub record CommitsInPlace {X S T : Type 0} (chip : S → Chip) (faults : S → ℕ) (kind : Kind X) (any : X → AnyRecord) (x : X) (slot : ℕ) (before after : S) (old new : Held) (result : Result T Stop) : Type 0 where
+  -- The database with it takes the place of the one without, where that is valid and there is room;
+  pub replaces : (db : Database) (was : X) → IsAtRest old (chip before) db → IfSome (slots_of old Committed (chip before)) (λ slots. Some was ≡ at_slot kind slot slots)
+      → kind.key was ≡ kind.key x → lacks_room db (changing (any x) ∷ []) ≡ false → IsValid (applied db (changing (any x) ∷ []))
+      → Replaces db (applied db (changing (any x) ∷ [])) (octets_for (changing (any x) ∷ [])) result new (chip before) (chip after)
+  -- and in any case the slot has the record then, or where that is refused each slot has what it had.
+  pub changed : OnOk result (Becomes (IsChanged kind x slot) (slots_of old Committed (chip before)) (slots_of new Committed (chip after)))
+  pub refused : (word : StatusWord) → IsErrOf result (Refused word) → slots_of new Committed (chip after) ≡ slots_of old Committed (chip before)
+  -- The store goes on, and nothing is written behind its image. A fault of the EEPROM was counted.
+  pub goes_on : ¬ IsErrOf result Fault → GoesOn old new (chip before) (chip after)
+  pub behind : Keeps (drop (image_size old.chains.cells)) (chip before) (chip after)
+  pub cause : CountsFaults is_stop_fault (faults before) (faults after) result

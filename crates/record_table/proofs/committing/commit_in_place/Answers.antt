@@ -32,57 +32,72 @@ ended g c db was rest there key valid =
     c.change_in_place.ensures.ends db was (held-begun c.args.store.now c.begin.new.self old old db rest refl c.begin.ensures.begun c.begin.ensures.starts)
     (rw (begun_slots g c) at there) key (λ room. valid)
 
-pub returns-in_ok-commit-in-Ok-clause-replaces : goal.returns-in_ok-commit-in-Ok-clause-replaces
-returns-in_ok-commit-in-Ok-clause-replaces g c = λ db was rest there key room valid.
-    let w = (goal.at.returns-in_ok-commit-in-Ok-clause-replaces g c).After-change_in_place in
+pub returns-in_ok-commit-in-Ok : goal.returns-in_ok-commit-in-Ok
+returns-in_ok-commit-in-Ok g c =
+    let w = (goal.at.returns-in_ok-commit-in-Ok g c).After-change_in_place in
     let old = g.B.Eeprom.chip c.args.bench.now in
     let mid = g.B.Eeprom.chip c.change_in_place.new.bench in
-    let edits = changing (g.R.Editable.any c.args.value.now) ∷ [] in
-    let makes = made-edits db edits (Ok edits) c.begin.new.self c.change_in_place.new.store old mid refl (rw c.in-Ok.is at (ended g w db was rest there key valid)) in
-    Replaces-done _ db edits c.args.store.now c.begin.new.self c.change_in_place.new.store old mid c.requires.rests.over rest c.begin.ensures.begun c.begin.ensures.committed c.change_in_place.ensures.leaves.moments makes
-    (c.in-Ok.ensures.leaves.goes_on (λ wrong. cc)) (g.B.Eeprom.chip c.commit.new.bench) c.commit.ensures.moments _ c.commit.new.self c.in_ok-commit-in-Ok.ensures.done c.in_ok-commit-in-Ok.ensures.told c.in_ok-commit-in-Ok.ensures.cells
-    c.in_ok-commit-in-Ok.ensures.rows c.begin.ensures.no_entries c.in_ok-commit-in-Ok.ensures.octets_written
+    let new = g.B.Eeprom.chip c.commit.new.bench in
+    let changed = c.in-Ok.ensures.leaves.goes_on (λ wrong. cc) in
+    let done = c.in_ok-commit-in-Ok.ensures in
+    record {
+      replaces = λ db was rest there key room valid.
+          let edits = changing (g.R.Editable.any c.args.value.now) ∷ [] in
+          let makes = made-edits db edits (Ok edits) c.begin.new.self c.change_in_place.new.store old mid refl (rw c.in-Ok.is at (ended g w db was rest there key valid)) in
+          Replaces-done _ db edits c.args.store.now c.begin.new.self c.change_in_place.new.store old mid c.requires.rests.over rest c.begin.ensures.begun c.begin.ensures.committed c.change_in_place.ensures.leaves.moments makes
+          changed new c.commit.ensures.moments _ c.commit.new.self done.done done.told done.cells done.rows c.begin.ensures.no_entries done.octets_written;
+      changed = rw (begun_slots g w, slots-committed c.change_in_place.new.store c.commit.new.self mid new changed.over done.done done.told) (c.in-Ok.ensures.changed);
+      refused = λ word is. absurd cc;
+      goes_on = search rules;
+      behind = behind-changed old old mid new c.args.store.now c.begin.new.self c.change_in_place.new.store refl c.begin.ensures.begun changed.cells c.change_in_place.ensures.leaves.behind c.commit.ensures.behind;
+      cause = search rules;
+    }
 
-pub returns-in_err-commit-in-Ok-clause-replaces : goal.returns-in_err-commit-in-Ok-clause-replaces
-returns-in_err-commit-in-Ok-clause-replaces g c = λ db was rest there key room valid.
-    let w = (goal.at.returns-in_err-commit-in-Ok-clause-replaces g c).After-change_in_place in
+pub returns-in_err-commit-in-Ok : goal.returns-in_err-commit-in-Ok
+returns-in_err-commit-in-Ok g c =
+    let w = (goal.at.returns-in_err-commit-in-Ok g c).After-change_in_place in
     let old = g.B.Eeprom.chip c.args.bench.now in
     let mid = g.B.Eeprom.chip c.change_in_place.new.bench in
-    let edits = changing (g.R.Editable.any c.args.value.now) ∷ [] in
-    let makes = made-edits db edits (Ok edits) c.begin.new.self c.change_in_place.new.store old mid refl (rw c.in-Ok.is at (ended g w db was rest there key valid)) in
-    Replaces-fault db (applied db edits) (octets_for edits) c.from_residual.result c.commit.new.self old (g.B.Eeprom.chip c.commit.new.bench) c.from_residual.ensures.1
-    (Replaces-half _ db edits c.args.store.now c.begin.new.self c.change_in_place.new.store old mid c.requires.rests.over rest c.begin.ensures.begun c.begin.ensures.committed c.change_in_place.ensures.leaves.moments makes
-    (c.in-Ok.ensures.leaves.goes_on (λ wrong. cc)) (g.B.Eeprom.chip c.commit.new.bench) c.commit.ensures.moments c.commit.new.self)
+    let new = g.B.Eeprom.chip c.commit.new.bench in
+    let changed = c.in-Ok.ensures.leaves.goes_on (λ wrong. cc) in
+    record {
+      replaces = λ db was rest there key room valid.
+          let edits = changing (g.R.Editable.any c.args.value.now) ∷ [] in
+          let makes = made-edits db edits (Ok edits) c.begin.new.self c.change_in_place.new.store old mid refl (rw c.in-Ok.is at (ended g w db was rest there key valid)) in
+          Replaces-fault db (applied db edits) (octets_for edits) c.from_residual.result c.commit.new.self old new c.from_residual.ensures.1
+          (Replaces-half _ db edits c.args.store.now c.begin.new.self c.change_in_place.new.store old mid c.requires.rests.over rest c.begin.ensures.begun c.begin.ensures.committed c.change_in_place.ensures.leaves.moments makes
+          changed new c.commit.ensures.moments c.commit.new.self);
+      changed = search rules;
+      refused = search rules;
+      goes_on = search rules;
+      behind = behind-changed old old mid new c.args.store.now c.begin.new.self c.change_in_place.new.store refl c.begin.ensures.begun changed.cells c.change_in_place.ensures.leaves.behind c.commit.ensures.behind;
+      cause = search rules;
+    }
 
-pub returns-in-Err-Refused-clause-replaces : goal.returns-in-Err-Refused-clause-replaces
-returns-in-Err-Refused-clause-replaces g c = λ db was rest there key room valid.
-    let w = (goal.at.returns-in-Err-Refused-clause-replaces g c).After-change_in_place in
-    absurd (not-refused db (changing (g.R.Editable.any c.args.value.now) ∷ []) c.in-Err-Refused.word room (rw (c.in-Err-Refused.is, c.in-Err-Refused.field-0-is) at (ended g w db was rest there key valid)).0)
-
-pub returns-in-Err-Fault-clause-replaces : goal.returns-in-Err-Fault-clause-replaces
-returns-in-Err-Fault-clause-replaces g c = λ db was rest there key room valid.
-    Replaces-failed _ db (changing (g.R.Editable.any c.args.value.now) ∷ []) c.args.store.now c.begin.new.self c.change_in_place.new.store (g.B.Eeprom.chip c.args.bench.now) (g.B.Eeprom.chip c.change_in_place.new.bench) c.requires.rests.over rest
-    c.begin.ensures.begun c.begin.ensures.committed c.change_in_place.ensures.leaves.moments c.change_in_place.new.store
-
-pub returns-in_ok-commit-in-Ok-clause-changed : goal.returns-in_ok-commit-in-Ok-clause-changed
-returns-in_ok-commit-in-Ok-clause-changed g c =
-    let w = (goal.at.returns-in_ok-commit-in-Ok-clause-changed g c).After-change_in_place in
-    let stays = slots-committed c.change_in_place.new.store c.commit.new.self (g.B.Eeprom.chip c.change_in_place.new.bench) (g.B.Eeprom.chip c.commit.new.bench) (c.in-Ok.ensures.leaves.goes_on (λ wrong. cc)).over
-    c.in_ok-commit-in-Ok.ensures.done c.in_ok-commit-in-Ok.ensures.told in
-    rw (begun_slots g w, stays) (c.in-Ok.ensures.changed)
-
-pub returns-in-Err-Refused-clause-refused : goal.returns-in-Err-Refused-clause-refused
-returns-in-Err-Refused-clause-refused g c = λ word is.
+pub returns-in-Err-Refused : goal.returns-in-Err-Refused
+returns-in-Err-Refused g c =
+    let w = (goal.at.returns-in-Err-Refused g c).After-change_in_place in
     let old = g.B.Eeprom.chip c.args.bench.now in
-    same-slots c.rollback.new.self c.change_in_place.new.store Committed Committed (g.B.Eeprom.chip c.change_in_place.new.bench) c.rollback.ensures.committed
-    ∙ (c.in-Err-Refused.ensures.leaves.committed (λ wrong. cc) ∙ same-slots c.begin.new.self c.args.store.now Committed Committed old c.begin.ensures.committed)
+    record {
+      replaces = λ db was rest there key room valid.
+          absurd (not-refused db (changing (g.R.Editable.any c.args.value.now) ∷ []) c.in-Err-Refused.word room (rw (c.in-Err-Refused.is, c.in-Err-Refused.field-0-is) at (ended g w db was rest there key valid)).0);
+      changed = search rules;
+      refused = λ word is.
+          same-slots c.rollback.new.self c.change_in_place.new.store Committed Committed (g.B.Eeprom.chip c.change_in_place.new.bench) c.rollback.ensures.committed
+          ∙ (c.in-Err-Refused.ensures.leaves.committed (λ wrong. cc) ∙ same-slots c.begin.new.self c.args.store.now Committed Committed old c.begin.ensures.committed);
+      goes_on = search rules;
+      behind = search rules;
+      cause = search rules;
+    }
 
-pub returns-in_err-commit-in-Ok-clause-behind : goal.returns-in_err-commit-in-Ok-clause-behind
-returns-in_err-commit-in-Ok-clause-behind g c =
-    behind-changed (g.B.Eeprom.chip c.args.bench.now) (g.B.Eeprom.chip c.args.bench.now) (g.B.Eeprom.chip c.change_in_place.new.bench) (g.B.Eeprom.chip c.commit.new.bench) c.args.store.now c.begin.new.self c.change_in_place.new.store
-    refl c.begin.ensures.begun (c.in-Ok.ensures.leaves.goes_on (λ wrong. cc)).cells c.change_in_place.ensures.leaves.behind c.commit.ensures.behind
-
-pub returns-in_ok-commit-in-Ok-clause-behind : goal.returns-in_ok-commit-in-Ok-clause-behind
-returns-in_ok-commit-in-Ok-clause-behind g c =
-    behind-changed (g.B.Eeprom.chip c.args.bench.now) (g.B.Eeprom.chip c.args.bench.now) (g.B.Eeprom.chip c.change_in_place.new.bench) (g.B.Eeprom.chip c.commit.new.bench) c.args.store.now c.begin.new.self c.change_in_place.new.store
-    refl c.begin.ensures.begun (c.in-Ok.ensures.leaves.goes_on (λ wrong. cc)).cells c.change_in_place.ensures.leaves.behind c.commit.ensures.behind
+pub returns-in-Err-Fault : goal.returns-in-Err-Fault
+returns-in-Err-Fault g c = record {
+  replaces = λ db was rest there key room valid.
+      Replaces-failed _ db (changing (g.R.Editable.any c.args.value.now) ∷ []) c.args.store.now c.begin.new.self c.change_in_place.new.store (g.B.Eeprom.chip c.args.bench.now) (g.B.Eeprom.chip c.change_in_place.new.bench) c.requires.rests.over rest
+      c.begin.ensures.begun c.begin.ensures.committed c.change_in_place.ensures.leaves.moments c.change_in_place.new.store;
+  changed = search rules;
+  refused = search rules;
+  goes_on = search rules;
+  behind = search rules;
+  cause = search rules;
+}
