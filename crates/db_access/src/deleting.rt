@@ -19,7 +19,7 @@ ghost use Rattle.db_access.specs.Depending.{is_for, is_object_of, is_user_of};
 use eeprom::{Eeprom, EepromFault};
 use privilege_table::is_owned_by;
 use record_store::{Found, Side, SideReader, Tag};
-use record_table::{Stop, Wanted, find_by, refused, remove, remove_each};
+use record_table::{Stop, Wanted, find_by, refused};
 use row_table::Tables;
 use scql_base::{Actor, Grant, Name, Object, Profile, StatusWord, User};
 use user_table::find_name;
@@ -41,8 +41,7 @@ pub fn delete_user<B: Eeprom>(
         side: Side::Working,
     };
     let user = find_to_delete(&mut reader, actor, name)?;
-    remove(&mut tables.store, user.slot);
-    remove_each(&mut tables.store, bench, &GrantedTo(user.value.stamp))?;
+    tables.remove_with_grants(bench, user.slot, &GrantedTo(user.value.stamp))?;
     Ok(user.value.stamp)
 }
 

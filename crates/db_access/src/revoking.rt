@@ -9,7 +9,7 @@ use crate::pairs::{find_named, with_privileges};
 use eeprom::Eeprom;
 use privilege_table::find_pair;
 use record_store::{Side, SideReader};
-use record_table::{Stop, refused, take_out};
+use record_table::{Stop, refused};
 use row_table::Tables;
 use scql_base::{Actor, Grant, Name, Privileges, StatusWord};
 
@@ -40,7 +40,7 @@ pub fn revoke<B: Eeprom>(
             tables.change_in_place(bench, found.slot, &less)
         }
         None => {
-            take_out::<Grant>(&mut tables.store, found.slot);
+            tables.take_out::<Grant>(found.slot);
             Ok(())
         }
     }

@@ -1,28 +1,24 @@
 // What the operations have in common that drop objects.
-ghost use Rattle.std.specs.Prelude.{◌≡◌, ◌<◌, ◌≤◌, ◌+◌, ◌==◌, ◌||◌, Some, None, Err, IfOk, IfErr, IfSome, OnOk, count_by, slice_index_or, slice_set};
+ghost use Rattle.std.specs.Prelude.{◌≡◌, ◌<◌, ◌==◌, Some, None, Err, IfOk, IfErr, IfSome};
 ghost use Rattle.std.specs.List.{list_any};
 ghost use Rattle.eeprom.specs.Fault.{each_error};
 ghost use Rattle.eeprom.specs.Frame.{Reads};
 ghost use Rattle.record_store.specs.Held.{IsOver};
-ghost use Rattle.record_store.specs.Transaction.{ChangesWhere, entries};
-ghost use Rattle.record_store.specs.declared.side.Side.TheVariants.{Committed, Working};
+ghost use Rattle.record_store.specs.declared.side.Side.TheVariants.{Working};
 ghost use Rattle.scql_model.specs.Database.{Database};
 ghost use Rattle.scql_base.specs.declared.records.Object.{Object};
-ghost use Rattle.catalog_codec.specs.Catalog.{grant_kind};
 ghost use Rattle.record_table.specs.Asking.{Asks};
-ghost use Rattle.record_table.specs.Changed.{IsBegunOver};
 ghost use Rattle.record_table.specs.Listed.{slots_of};
 ghost use Rattle.record_table.specs.Making.{Ends, IsHeld, is_stop_fault};
 ghost use Rattle.db_define.specs.Dependent.{is_on, is_view_on};
 ghost use Rattle.db_define.specs.Dropped as specs;
 ghost use Rattle.db_define.specs.Dropped.{IsToDrop};
-ghost use Rattle.record_table.specs.Swept.{all_without, has_passing};
 
 use crate::dropped::{Dropped, ToDrop};
 use eeprom::{Eeprom, EepromFault};
 use privilege_table::{find_seen_into, is_owned_by};
 use record_store::{Side, SideReader, Store, Tag};
-use record_table::{Stop, Wanted, find_into, refused, remove, remove_each};
+use record_table::{Stop, Wanted, find_into, refused};
 use scql_base::{Actor, Grant, Name, Object, ObjectKind, StatusWord};
 
 /// Finds the object of a name that is dropped so: one that the actor owns, and on which no view rests; or the first refusal. It isn't inlined,
@@ -69,33 +65,6 @@ pub(crate) fn find_to_drop<B: Eeprom>(
     })
 }
 
-/// Removes the object of a slot, which has this stamp, and the grants on it.
-pub(crate) fn remove_object<B: Eeprom>(
-    store: &mut Store,
-    bench: &mut B,
-    slot: u16,
-    stamp: u32,
-) -> Result<(), EepromFault>
-    requires open { IsBegunOver store.old (B.chip bench.old) }
-    requires there { slot < store.old.chains.cells }
-    ensures removed { OnOk result (IfSome (slots_of store.old Working (B.chip bench.old))
-        (λ slots. slots_of store.new Working (B.chip bench.new) ≡ Some (all_without grant_kind (is_on stamp) (slice_set slots slot None)))) }
-    ensures committed { OnOk result (slots_of store.new Committed (B.chip bench.new) ≡ slots_of store.old Committed (B.chip bench.old)) }
-    ensures over { OnOk result (IsOver store.new (B.chip bench.new)) }
-    ensures begun { OnOk result (store.new.begun ≡ store.old.begun) }
-    ensures cells { OnOk result (store.new.chains.cells ≡ store.old.chains.cells) }
-    ensures rows { OnOk result (store.new.row_limit ≡ store.old.row_limit) }
-    ensures only { OnOk result (IfSome (slots_of store.old Working (B.chip bench.old))
-        (λ slots. ChangesWhere (λ each. each == slot || has_passing grant_kind (is_on stamp) (slice_index_or slots each None)) store.old store.new)) }
-    ensures entries { OnOk result (IfSome (slots_of store.old Working (B.chip bench.old))
-        (λ slots. entries store.new ≤ entries store.old + 1 + count_by (has_passing grant_kind (is_on stamp)) (slice_set slots slot None))) }
-    ensures frame { Reads each_error B.chip B.faults bench.old bench.new result }
-{
-    remove(store, slot);
-    remove_each(store, bench, &OnObject(stamp))?;
-    Ok(())
-}
-
 // Whether a view rests on the object of a stamp. It isn't inlined, so that the place of that view stands in no other frame.
 #[inline(never)]
 fn is_viewed<B: Eeprom>(reader: &mut SideReader<'_, '_, B>, stamp: u32) -> Result<bool, EepromFault>
@@ -136,9 +105,9 @@ impl Wanted<Object> for ViewOn {
     }
 }
 
-// The grants on the object of a stamp.
+/// The grants on the object of a stamp.
 #[derive(Clone, Copy)]
-struct OnObject(u32);
+pub(crate) struct OnObject(pub(crate) u32);
 
 impl Wanted<Grant> for OnObject {
     ghost wants = { λ wanted grant. is_on wanted.0 grant };

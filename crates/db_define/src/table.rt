@@ -14,7 +14,7 @@ ghost use Rattle.record_table.specs.Making.{KeepsRows};
 ghost use Rattle.row_table.specs.Tables.{Ended, InTransaction};
 
 use crate::dropped::Dropped;
-use crate::dropping::{find_to_drop, remove_object};
+use crate::dropping::{OnObject, find_to_drop};
 use crate::making::{find_new_stamp, makes_objects};
 use eeprom::Eeprom;
 use privilege_table::actor_stamp;
@@ -57,7 +57,7 @@ pub fn drop_table<B: Eeprom>(
     ensures { Ended B.chip B.faults (λ _. Unit {0}) (λ db. table_dropped db actor name) bench.old bench.new tables.old tables.new result }
 {
     let table = find_to_drop(&tables.store, bench, actor, name, Dropped::Table)?;
-    remove_object(&mut tables.store, bench, table.slot, table.stamp)?;
+    tables.remove_with_grants(bench, table.slot, &OnObject(table.stamp))?;
     tables.remove_rows(table.stamp);
     Ok(())
 }

@@ -22,7 +22,7 @@ ghost use Rattle.row_table.specs.Tables.{Ended, InTransaction};
 
 use crate::base::{Base, find_base, is_shallow};
 use crate::dropped::Dropped;
-use crate::dropping::{find_to_drop, remove_object};
+use crate::dropping::{OnObject, find_to_drop};
 use crate::making::{find_new_stamp, makes_objects};
 use eeprom::Eeprom;
 use privilege_table::actor_stamp;
@@ -72,7 +72,7 @@ pub fn drop_view<B: Eeprom>(
     ensures { Ended B.chip B.faults (λ _. Unit {0}) (λ db. view_dropped db actor name) bench.old bench.new tables.old tables.new result }
 {
     let view = find_to_drop(&tables.store, bench, actor, name, Dropped::View)?;
-    remove_object(&mut tables.store, bench, view.slot, view.stamp)?;
+    tables.remove_with_grants(bench, view.slot, &OnObject(view.stamp))?;
     Ok(())
 }
 

@@ -1,6 +1,7 @@
 pub mod Endings
 pub mod Followed
 pub mod FoundRows
+pub mod GrantsLeft
 pub mod RemovedRows
 pub mod RowsChanged
 pub mod RowsLeft

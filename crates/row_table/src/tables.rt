@@ -5,18 +5,21 @@ ghost use Rattle.scql_model.specs.Edits.{changing, making};
 ghost use Rattle.scql_model.specs.Records.{of_row};
 ghost use Rattle.catalog_codec.specs.Catalog.{row_kind};
 ghost use Rattle.catalog_codec.specs.Kinds.{FitsChain, HaveOtherMarks};
+ghost use Rattle.record_table.specs.Changed.{IsBegunOver};
 ghost use Rattle.record_table.specs.Listed.{at_slot, slots_of};
 ghost use Rattle.record_table.specs.Making.{IsValidWith, KeepsRows};
-ghost use Rattle.record_table.specs.OneRecord.{IsCounter};
+ghost use Rattle.record_table.specs.OneRecord.{IsCounter, TakesOut};
+ghost use Rattle.record_table.specs.Swept.{Sweeps};
 ghost use Rattle.row_table.specs.Found.{HasRowLike};
 ghost use Rattle.row_table.specs.Tables.{Begins, Commits, Ended, InTransaction, RemovesRow, RemovesRows, RollsBack};
+ghost use Rattle.row_table.specs.WithGrants.{goes_with_grants, left_with_grants, most_with_grants};
 
 use catalog_codec::Counter;
 use eeprom::{Eeprom, EepromFault};
 use record_store::{Found, Side, Store};
-use record_table::{Editable, Stop};
+use record_table::{Editable, Stop, Wanted, remove_each};
 use row_index::RowIndex;
-use scql_base::RowRecord;
+use scql_base::{Grant, RowRecord};
 
 /// A store, and the index of its rows.
 #[derive(Drop)]
@@ -126,6 +129,34 @@ impl Tables {
         ensures index_same { self.new.index ≡ self.old.index }
     {
         record_table::change_in_place(&mut self.store, bench, slot, row)
+    }
+
+    /// Takes a record of a kind, but no row, out of the slot that has it.
+    pub fn take_out<R: Editable>(&mut self, slot: u16)
+        requires begun { IsTrue self.old.store.begun }
+        requires there { slot < self.old.store.chains.cells }
+        ensures takes { TakesOut R.kind R.any slot self.old.store self.new.store }
+        ensures index_same { self.new.index ≡ self.old.index }
+    {
+        record_table::take_out::<R>(&mut self.store, slot);
+    }
+
+    /// Takes a record, but no row, out of its slot, and with it each grant that is wanted.
+    pub fn remove_with_grants<W: Wanted<Grant>, B: Eeprom>(
+        &mut self,
+        bench: &mut B,
+        slot: u16,
+        grants: &W,
+    ) -> Result<(), EepromFault>
+        requires open { IsBegunOver self.old.store (B.chip bench.old) }
+        requires there { slot < self.old.store.chains.cells }
+        ensures sweeps { Sweeps B.chip B.faults (left_with_grants slot (W.wants grants.now)) (goes_with_grants slot (W.wants grants.now)) (most_with_grants slot (W.wants grants.now))
+            bench.old bench.new self.old.store self.new.store result }
+        ensures index_same { self.new.index ≡ self.old.index }
+    {
+        record_table::remove(&mut self.store, slot);
+        remove_each(&mut self.store, bench, grants)?;
+        Ok(())
     }
 
     /// Takes the row out of a slot, and its place out of the index.

@@ -1,13 +1,9 @@
 -- The user goes, and then the grants to it.
-use Rattle.std.proofs.Common.{rules, ◌≡◌, refl, sym, ap, subst, ◌∙◌}
-use Rattle.std.specs.Prelude.{IfSome, option_map}
-use Rattle.record_store.specs.Held.{StandsFor}
+use Rattle.std.proofs.Common.{rules, ◌≡◌, refl, sym, ap, ◌∙◌}
+use Rattle.std.specs.Prelude.{option_map}
 use Rattle.record_store.specs.declared.found.Found.{Found}
 use Rattle.scql_base.specs.declared.records.User.{User}
 use Rattle.scql_model.specs.Users.{removing_user, user_deleted}
-use Rattle.record_table.specs.Changed.{IsEmptied}
-use Rattle.record_table.proofs.Steps.{committed-stays}
-use Rattle.record_table.proofs.SweptSlots.{emptied-told}
 use Rattle.row_table.proofs.Endings.{Ended-before, Ended-in_memory}
 use Rattle.db_access.proofs.PairsFound.{Ends-unfound}
 use Rattle.db_access.proofs.UserDeleted.{KeepsRows-user_deleted, Makes-user_deleted}
@@ -21,27 +17,24 @@ returns-in_err-user-clause-ended g c = Ended-before c.requires.open.stand (searc
 pub returns-clause-ended : goal.returns-clause-ended
 returns-clause-ended g c =
     let old = c.args.tables.now.store in
+    let new = c.remove_with_grants.new.self.store in
     let chip = g.B.Eeprom.chip c.args.bench.now in
     let u = c.in_ok-user.user.value in
     let slot = c.in_ok-user.user.slot in
     let stands = c.requires.open.stand.over.stands in
-    let grants = c.in_ok-remove_each.ensures in
-    let still : g.B.Eeprom.chip c.remove_each.new.bench ≡ chip = search rules in
-    let found = sym grants.frame.same ∙ still in
-    let removed = rw (grants.frame.same, found) at grants.removed in
-    let stays = committed-stays (IsEmptied slot) old c.remove.new.store chip chip refl (λ image told. (image, told, c.remove.ensures.removed image (subst (λ o. IfSome o (StandsFor old)) told stands))) in
-    let committed = (rw (grants.frame.same, found) at grants.committed) ∙ stays in
-    let emptied = emptied-told old c.remove.new.store chip slot stands c.remove.ensures.removed in
-    Ended-in_memory c.requires.open.stand still (search rules) refl (λ db held any.
+    let gone = c.in_ok-remove_with_grants.ensures.sweeps in
+    let still : g.B.Eeprom.chip c.remove_with_grants.new.bench ≡ chip = search rules in
+    let found = sym gone.frame.same ∙ still in
+    let left = rw (gone.frame.same, found) at gone.removed in
+    let committed = rw (gone.frame.same, found) at gone.committed in
+    Ended-in_memory c.requires.open.stand still (search rules) c.in_ok-remove_with_grants.ensures.index_same (λ db held any.
     let is = c.in_ok-user.ensures.asks.answers db held in (
       removing_user db u,
       is,
-      Makes-user_deleted db c.args.actor c.args.name u slot old c.remove.new.store c.remove_each.new.store chip held is c.in_ok-user.ensures.at emptied removed
-          (grants.cells ∙ c.remove.ensures.cells) (grants.rows ∙ c.remove.ensures.rows) committed c.remove.ensures.entries (rw found at grants.entries) c.remove.ensures.only (rw found at grants.only),
+      Makes-user_deleted db c.args.actor c.args.name u slot old new chip held is c.in_ok-user.ensures.at left gone.cells gone.rows committed (rw found at gone.entries) (rw found at gone.only),
     ))
-    (record { begun = grants.begun ∙ c.remove.ensures.begun; cells = grants.cells ∙ c.remove.ensures.cells; rows = grants.rows ∙ c.remove.ensures.rows; told = refl; over = rw (grants.frame.same, found) at grants.over })
-    (KeepsRows-user_deleted u slot u.stamp old c.remove.new.store c.remove_each.new.store chip stands c.in_ok-user.ensures.at emptied removed)
-    committed
+    (record { begun = gone.begun; cells = gone.cells; rows = gone.rows; told = refl; over = rw (gone.frame.same, found) at gone.over })
+    (KeepsRows-user_deleted u slot old new chip stands c.in_ok-user.ensures.at left) committed
 
 pub returns-clause-gone : goal.returns-clause-gone
 returns-clause-gone g c = λ db held. ap (option_map (λ user. user.stamp)) (c.in_ok-user.ensures.named db held)

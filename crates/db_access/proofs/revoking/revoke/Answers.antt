@@ -86,15 +86,15 @@ returns-in-None g c =
     let chip = g.B.Eeprom.chip c.args.bench.now in
     let given = c.in-Some.found.value in
     let at = rw (same-slots c.in_ok-pair.ensures.goes_on c.in_ok-pair.ensures.frame.same) at (rw c.in-Some.is at c.in_ok-found.ensures.at) in
-    Ended-in_memory c.requires.open.stand (search rules) (search rules) refl (λ db held any.
+    Ended-in_memory c.requires.open.stand (search rules) (search rules) c.take_out.ensures.index_same (λ db held any.
     let pair = c.in_ok-pair.pair in
     let found = pair-held c.args.tables.now.store Working chip db pair.object.stamp pair.grantee (Some given) held (rw (same-slots c.in_ok-pair.ensures.goes_on c.in_ok-pair.ensures.frame.same) at (rw c.in-Some.is at c.in_ok-found.ensures.found)) in
     let is = found-edits db c.args.actor c.args.privileges c.args.object c.args.grantee pair given (c.in_ok-pair.ensures.answers db held) found
     ∙ ap Ok (left-none given c.args.privileges c.left_of.result c.left_of.ensures c.in-None.is) in
-    (removing (of_grant given) ∷ [], is, c.take_out.ensures.makes db given chip held at c.requires.open.stand.over (valid-revoked db c.args.actor c.args.privileges c.args.object c.args.grantee (removing (of_grant given) ∷ []) held.valid is)))
-    (c.take_out.ensures.goes_on chip c.requires.open.stand.over)
-    (c.take_out.ensures.rows given chip (HaveOtherMarks-sym row_kind grant_kind HaveOtherMarks-row-grant) at c.requires.open.stand.over)
-    (c.take_out.ensures.committed chip c.requires.open.stand.over)
+    (removing (of_grant given) ∷ [], is, c.take_out.ensures.takes.makes db given chip held at c.requires.open.stand.over (valid-revoked db c.args.actor c.args.privileges c.args.object c.args.grantee (removing (of_grant given) ∷ []) held.valid is)))
+    (c.take_out.ensures.takes.goes_on chip c.requires.open.stand.over)
+    (c.take_out.ensures.takes.rows given chip (HaveOtherMarks-sym row_kind grant_kind HaveOtherMarks-row-grant) at c.requires.open.stand.over)
+    (c.take_out.ensures.takes.committed chip c.requires.open.stand.over)
 
 pub returns-in-Some-left_of : goal.returns-in-Some-left_of
 returns-in-Some-left_of g c = Ended-after c.change_in_place.ensures (search rules) (search rules) (λ db held any.

@@ -11,14 +11,14 @@ use Rattle.db_define.proofs.view.drop_view.Goals as goal
 pub returns : goal.returns
 returns g c =
     let old = c.args.tables.now.store in
-    let new = c.remove_object.new.store in
+    let new = c.remove_with_grants.new.self.store in
     let chip = g.B.Eeprom.chip c.args.bench.now in
     let view = c.in_ok-view.view in
     let found = c.in_ok-view.ensures in
-    let gone = c.in_ok-remove_object.ensures in
+    let gone = c.in_ok-remove_with_grants.ensures.sweeps in
     let left = rw (gone.frame.same, found.frame.same) at gone.removed in
     let committed = rw (gone.frame.same, found.frame.same) at gone.committed in
-    Ended-in_memory c.requires.open.stand (gone.frame.same ∙ found.frame.same) (search rules) refl (λ db held any.
+    Ended-in_memory c.requires.open.stand (gone.frame.same ∙ found.frame.same) (search rules) c.in_ok-remove_with_grants.ensures.index_same (λ db held any.
     let there = of-told old chip held.slots (IsToDrop View old chip c.args.actor c.args.name view) held.told found.found in (
       removing_object db there.object,
       there.drops db held,
