@@ -6,6 +6,7 @@ use Rattle.std.specs.Str.{bytes_eq}
 use Rattle.std.proofs.lemmas.Bool.{cases_Bool, eq-eqb, le-ltb}
 use Rattle.eeprom.specs.Chip.{Chip, Still}
 use Rattle.eeprom.specs.Slots.{Rises, replaced}
+use Rattle.eeprom.specs.declared.fault.EepromFault.{EepromFault}
 use Rattle.eeprom.proofs.Moments.{throughout-then, throughout-weaker}
 use Rattle.eeprom.proofs.Leaves.{Keeps-none}
 use Rattle.record_store.specs.Held.{Held}
@@ -24,11 +25,11 @@ use Rattle.scql_model.specs.Step.{Answer, secret_right, secret_wrong, with_tries
 use Rattle.catalog_codec.specs.Catalog.{user_kind}
 use Rattle.record_table.specs.AtRest.{IsAtRest, LeavesOneOf, Replaces}
 use Rattle.record_table.specs.Listed.{at_slot, listed, slots_of}
-use Rattle.record_table.specs.Making.{IsHeld}
+use Rattle.record_table.specs.Making.{IsHeld, stop_answer}
 use Rattle.record_table.specs.declared.stop.Stop.{Stop}
 use Rattle.record_table.specs.declared.stop.Stop.TheVariants.{Refused, Fault}
 use Rattle.record_table.proofs.AtRest.{leaves-kept}
-use Rattle.db_access.specs.Verifying.{Verifies, octets_for_verdict, presenting, verdict}
+use Rattle.db_access.specs.Verifying.{Verifies, VerifiesUnrefused, octets_for_verdict, presenting, verdict}
 
 -- the user of a stamp that was found on a side is the database's
 pub stamped-held : (store : Held) (side : Side) (chip : Chip) (db : Database) (stamp : ℕ) (found : Option User) → IsHeld store side chip db
@@ -124,74 +125,90 @@ leaves-both a b c old mid new still first second =
 -- How VERIFY ends, where the store held the database, and where this is the model's answer.
 module _ (db : Database) (answer : Answer) (most : ℕ) (old : Chip) where
   -- nothing is written
-  pub Verifies-unwritten : (stamp : ℕ) (word : StatusWord) (store : Held) (new : Chip) → answer ≡ record { reply = said word; machine = presenting db stamp; commits = [] } → IsAtRest store new db → new ≡ old
-      → ((was : List ℕ) → old.image ≡ Some was → Opens was db) → Verifies db answer most (Ok word) store old new
-  Verifies-unwritten stamp word store new is rest same opens = record {
-    word = ap (λ (a : Answer). a.reply.word) (sym is);
-    rests = subst (λ (a : Answer). IsAtRest store new a.machine.committed) (sym is) rest;
+  pub Unrefused-unwritten : (stamp : ℕ) (word : StatusWord) (store : Held) (new : Chip) → answer ≡ record { reply = said word; machine = presenting db stamp; commits = [] } → IsAtRest store new db → new ≡ old
+      → ((was : List ℕ) → old.image ≡ Some was → Opens was db) → VerifiesUnrefused db answer most (Ok word) store old new
+  Unrefused-unwritten stamp word store new is rest same opens = record {
+    verifies = record {
+      word = ap (λ (a : Answer). a.reply.word) (sym is);
+      rests = subst (λ (a : Answer). IsAtRest store new a.machine.committed) (sym is) rest;
+      moments = leaves-kept old new db answer.commits opens (Keeps-none _ old new same);
+      unwritten = λ none. same;
+      octets = λ after told. (after, subst (λ (chip : Chip). chip.written ≡ Some after) same told, omega arith);
+    };
     unrefused = λ word refused. cc;
-    moments = leaves-kept old new db answer.commits opens (Keeps-none _ old new same);
-    unwritten = λ none. same;
-    octets = λ after told. (after, subst (λ (chip : Chip). chip.written ≡ Some after) same told, omega arith);
   }
 
   -- it stopped
   stopped : (result : Result StatusWord Stop) (stop : Stop) (store : Held) (new : Chip) → IsErrAnd result (λ given. given ≡ stop) → ((word : StatusWord) → stop ≡ Refused word → ⊥)
-      → LeavesOneOf (db ∷ answer.commits) old new → Verifies db answer most result store old new
+      → LeavesOneOf (db ∷ answer.commits) old new → VerifiesUnrefused db answer most result store old new
   stopped (Ok word) stop store new gives unrefused leaves = absurd gives
   stopped (Err given) stop store new gives unrefused leaves = record {
-    word = tt;
-    rests = tt;
+    verifies = record { word = tt; rests = tt; moments = leaves; unwritten = tt; octets = tt };
     unrefused = λ word refused. unrefused word (sym gives ∙ (let same : given ≡ Refused word = cc in same));
-    moments = leaves;
-    unwritten = tt;
-    octets = tt;
   }
 
   -- a device failed before anything was written
-  pub Verifies-failed : (result : Result StatusWord Stop) (store : Held) (new : Chip) → IsErrAnd result (λ given. given ≡ Fault) → new ≡ old → ((was : List ℕ) → old.image ≡ Some was → Opens was db) → Verifies db answer most result store old new
-  Verifies-failed result store new gives same opens = stopped result Fault store new gives (λ word refused. cc) (leaves-kept old new db answer.commits opens (Keeps-none _ old new same))
+  pub Unrefused-failed : (result : Result StatusWord Stop) (store : Held) (new : Chip) → IsErrAnd result (λ given. given ≡ Fault) → new ≡ old → ((was : List ℕ) → old.image ≡ Some was → Opens was db) → VerifiesUnrefused db answer most result store old new
+  Unrefused-failed result store new gives same opens = stopped result Fault store new gives (λ word refused. cc) (leaves-kept old new db answer.commits opens (Keeps-none _ old new same))
 
   module _ (lowered : Database) (few : ℕ) where
     -- in the first commit
-    pub Verifies-stopped : {T : Type 0} (part : Result T Stop) (stop : Stop) (result : Result StatusWord Stop) (store : Held) (new : Chip) (more : List Database) → answer.commits ≡ lowered ∷ more → part ≡ Err stop
-        → IsErrAnd result (λ given. given ≡ stop) → Replaces db lowered few part store old new → Verifies db answer most result store old new
-    Verifies-stopped part stop result store new more commits is gives first =
+    pub Unrefused-stopped : {T : Type 0} (part : Result T Stop) (stop : Stop) (result : Result StatusWord Stop) (store : Held) (new : Chip) (more : List Database) → answer.commits ≡ lowered ∷ more → part ≡ Err stop
+        → IsErrAnd result (λ given. given ≡ stop) → Replaces db lowered few part store old new → VerifiesUnrefused db answer most result store old new
+    Unrefused-stopped part stop result store new more commits is gives first =
         stopped result stop store new gives (λ word refused. first.unrefused word (is ∙ ap (λ stop. Err stop) refused))
         (subst (λ (dbs : List Database). LeavesOneOf (db ∷ dbs) old new) (sym commits) (leaves-more db lowered more old new first.moments))
 
     -- behind it, for the secret is wrong
-    pub Verifies-wrong : {T : Type 0} (x : T) (stamp : ℕ) (u : User) (word : StatusWord) (store : Held) (new : Chip) → answer ≡ secret_wrong (presenting db stamp) u → lowered ≡ with_tries db u (u.tries - 1) → word ≡ tries_left (u.tries - 1)
-        → most ≡ 1 * few → Replaces db lowered few (Ok x) store old new → Verifies db answer most (Ok word) store old new
-    Verifies-wrong x stamp u word store new is lower says octets first = record {
-      word = says ∙ ap (λ (a : Answer). a.reply.word) (sym is);
-      rests = subst (λ (a : Answer). IsAtRest store new a.machine.committed) (sym is) (subst (λ (d : Database). IsAtRest store new d) lower first.rests);
+    pub Unrefused-wrong : {T : Type 0} (x : T) (stamp : ℕ) (u : User) (word : StatusWord) (store : Held) (new : Chip) → answer ≡ secret_wrong (presenting db stamp) u → lowered ≡ with_tries db u (u.tries - 1) → word ≡ tries_left (u.tries - 1)
+        → most ≡ 1 * few → Replaces db lowered few (Ok x) store old new → VerifiesUnrefused db answer most (Ok word) store old new
+    Unrefused-wrong x stamp u word store new is lower says octets first = record {
+      verifies = record {
+        word = says ∙ ap (λ (a : Answer). a.reply.word) (sym is);
+        rests = subst (λ (a : Answer). IsAtRest store new a.machine.committed) (sym is) (subst (λ (d : Database). IsAtRest store new d) lower first.rests);
+        moments = subst (λ (dbs : List Database). LeavesOneOf (db ∷ dbs) old new) (ap (λ (d : Database). d ∷ []) lower ∙ ap (λ (a : Answer). a.commits) (sym is)) first.moments;
+        unwritten = λ none. absurd (let wrong : with_tries db u (u.tries - 1) ∷ [] ≡ [] = ap (λ (a : Answer). a.commits) (sym is) ∙ none in cc);
+        octets = λ after told. (let wrote = first.octets after told in (wrote.0, wrote.1, omega (arith, wrote.2, octets)));
+      };
       unrefused = λ word refused. cc;
-      moments = subst (λ (dbs : List Database). LeavesOneOf (db ∷ dbs) old new) (ap (λ (d : Database). d ∷ []) lower ∙ ap (λ (a : Answer). a.commits) (sym is)) first.moments;
-      unwritten = λ none. absurd (let wrong : with_tries db u (u.tries - 1) ∷ [] ≡ [] = ap (λ (a : Answer). a.commits) (sym is) ∙ none in cc);
-      octets = λ after told. (let wrote = first.octets after told in (wrote.0, wrote.1, omega (arith, wrote.2, octets)));
     }
 
     module _ (restored : Database) {S T : Type 0} (x : S) (mid_store : Held) (mid : Chip) (first : Replaces db lowered few (Ok x) mid_store old mid) (still : mid.still ≡ old.still) where
       -- in the second commit
-      pub Verifies-stopped_again : (part : Result T Stop) (stop : Stop) (result : Result StatusWord Stop) (store : Held) (new : Chip) → answer.commits ≡ lowered ∷ restored ∷ [] → part ≡ Err stop
-          → IsErrAnd result (λ given. given ≡ stop) → Replaces lowered restored few part store mid new → Verifies db answer most result store old new
-      Verifies-stopped_again part stop result store new commits is gives second =
+      pub Unrefused-stopped_again : (part : Result T Stop) (stop : Stop) (result : Result StatusWord Stop) (store : Held) (new : Chip) → answer.commits ≡ lowered ∷ restored ∷ [] → part ≡ Err stop
+          → IsErrAnd result (λ given. given ≡ stop) → Replaces lowered restored few part store mid new → VerifiesUnrefused db answer most result store old new
+      Unrefused-stopped_again part stop result store new commits is gives second =
           stopped result stop store new gives (λ word refused. second.unrefused word (is ∙ ap (λ stop. Err stop) refused))
           (subst (λ (dbs : List Database). LeavesOneOf (db ∷ dbs) old new) (sym commits) (leaves-both db lowered restored old mid new still first.moments second.moments))
 
       -- behind it
-      pub Verifies-right : (y : T) (stamp : ℕ) (u : User) (store : Held) (new : Chip) → answer ≡ secret_right (presenting db stamp) 0 u → lowered ≡ with_tries db u (u.tries - 1) → restored ≡ with_tries db u ALL_TRIES
-          → most ≡ 2 * few → Replaces lowered restored few (Ok y) store mid new → Verifies db answer most (Ok done) store old new
-      Verifies-right y stamp u store new is lower restore octets second = record {
-        word = ap (λ (a : Answer). a.reply.word) (sym is);
-        rests = subst (λ (a : Answer). IsAtRest store new a.machine.committed) (sym is) (subst (λ (d : Database). IsAtRest store new d) restore second.rests);
+      pub Unrefused-right : (y : T) (stamp : ℕ) (u : User) (store : Held) (new : Chip) → answer ≡ secret_right (presenting db stamp) 0 u → lowered ≡ with_tries db u (u.tries - 1) → restored ≡ with_tries db u ALL_TRIES
+          → most ≡ 2 * few → Replaces lowered restored few (Ok y) store mid new → VerifiesUnrefused db answer most (Ok done) store old new
+      Unrefused-right y stamp u store new is lower restore octets second = record {
+        verifies = record {
+          word = ap (λ (a : Answer). a.reply.word) (sym is);
+          rests = subst (λ (a : Answer). IsAtRest store new a.machine.committed) (sym is) (subst (λ (d : Database). IsAtRest store new d) restore second.rests);
+          moments = subst (λ (dbs : List Database). LeavesOneOf (db ∷ dbs) old new) (ap (λ (d : Database). d ∷ restored ∷ []) lower ∙ (ap (λ (d : Database). with_tries db u (u.tries - 1) ∷ d ∷ []) restore ∙ ap (λ (a : Answer). a.commits) (sym is)))
+              (leaves-both db lowered restored old mid new still first.moments second.moments);
+          unwritten = λ none. absurd (let wrong : with_tries db u (u.tries - 1) ∷ with_tries db u ALL_TRIES ∷ [] ≡ [] = ap (λ (a : Answer). a.commits) (sym is) ∙ none in cc);
+          octets = λ after told.
+              let later = second.octets after told in
+              let sooner = first.octets later.0 later.1 in
+              (sooner.0, sooner.1, omega (arith, later.2, sooner.2, octets));
+        };
         unrefused = λ word refused. cc;
-        moments = subst (λ (dbs : List Database). LeavesOneOf (db ∷ dbs) old new) (ap (λ (d : Database). d ∷ restored ∷ []) lower ∙ (ap (λ (d : Database). with_tries db u (u.tries - 1) ∷ d ∷ []) restore ∙ ap (λ (a : Answer). a.commits) (sym is)))
-            (leaves-both db lowered restored old mid new still first.moments second.moments);
-        unwritten = λ none. absurd (let wrong : with_tries db u (u.tries - 1) ∷ with_tries db u ALL_TRIES ∷ [] ≡ [] = ap (λ (a : Answer). a.commits) (sym is) ∙ none in cc);
-        octets = λ after told.
-            let later = second.octets after told in
-            let sooner = first.octets later.0 later.1 in
-            (sooner.0, sooner.1, omega (arith, later.2, sooner.2, octets));
       }
+
+-- What is tried is answered so: the word, or that a device failed, for nothing was refused.
+abbrev pub answer_to : Result StatusWord Stop → Result StatusWord EepromFault
+answer_to (Ok word) = Ok word
+answer_to (Err stop) = stop_answer stop
+
+pub Verifies-answered : (db : Database) (answer : Answer) (most : ℕ) (tried : Result StatusWord Stop) (result : Result StatusWord EepromFault) (store : Held) (old new : Chip) → result ≡ answer_to tried → VerifiesUnrefused db answer most tried store old new
+    → Verifies db answer most result store old new
+Verifies-answered db answer most tried result store old new is tries = subst (λ (result : Result StatusWord EepromFault). Verifies db answer most result store old new) (sym is) (of tried tries)
+  where
+    of : (tried : Result StatusWord Stop) → VerifiesUnrefused db answer most tried store old new → Verifies db answer most (answer_to tried) store old new
+    of (Ok word) tries = (let v = tries.verifies in record { word = v.word; rests = v.rests; moments = v.moments; unwritten = v.unwritten; octets = v.octets })
+    of (Err (Refused word)) tries = absurd (tries.unrefused word refl)
+    of (Err Fault) tries = record { word = tt; rests = tt; moments = tries.verifies.moments; unwritten = tt; octets = tt }

@@ -1,15 +1,22 @@
 -- VERIFY over a database.
-use Rattle.std.specs.Prelude.{◌≡◌, ℕ, false, List, [], ◌∷◌, Some, Result, Err, IfOk, IfSome, OnOk}
-use Rattle.eeprom.specs.Chip.{Chip, Becomes, RisesAtMost}
+use Rattle.std.specs.Prelude.{◌≡◌, ℕ, ◌-◌, false, List, [], ◌∷◌, Some, Result, Err, IfOk, IfSome, OnOk, drop}
+use Rattle.eeprom.specs.Chip.{Chip, Becomes, Keeps, RisesAtMost}
+use Rattle.eeprom.specs.Fault.{Counts}
+use Rattle.eeprom.specs.StoreOf.{image_size}
 use Rattle.record_store.specs.Held.{Held}
+use Rattle.record_store.specs.declared.side.Side.{Side}
+use Rattle.scql_base.specs.Words.{done}
+use Rattle.scql_base.specs.declared.records.User.{User}
 use Rattle.scql_base.specs.declared.words.StatusWord.{StatusWord}
 use Rattle.scql_model.specs.Bound.{octets_verified, or_nothing}
 use Rattle.scql_model.specs.Database.{Database, user_stamped}
 use Rattle.scql_model.specs.Machine.{Machine, session_for, start}
 use Rattle.scql_model.specs.Sessions.{with_session}
-use Rattle.scql_model.specs.Step.{Answer, answered, verified}
+use Rattle.scql_model.specs.Step.{Answer, answered, verified, with_tries}
 use Rattle.scql_model.specs.ValidMachine.{HasSecret}
-use Rattle.record_table.specs.AtRest.{IsAtRest, LeavesOneOf}
+use Rattle.record_table.specs.AtRest.{IsAtRest, LeavesOnce, LeavesOneOf}
+use Rattle.record_table.specs.Listed.{slots_of}
+use Rattle.record_table.specs.Making.{GoesOn, KeepsRows}
 use Rattle.record_table.specs.declared.stop.Stop.{Stop}
 use Rattle.record_table.specs.declared.stop.Stop.TheVariants.{Refused}
 
@@ -31,10 +38,32 @@ abbrev pub octets_for_verdict : Database → ℕ → List ℕ → ℕ
 octets_for_verdict db stamp secret = or_nothing (octets_verified (presenting db stamp) 0 secret)
 
 -- What comes of a secret where the store held the database: it is answered so, or a device failed.
-pub record Verifies (db : Database) (answer : Answer) (most : ℕ) (result : Result StatusWord Stop) (store : Held) (old new : Chip) : Type 0 where
+pub record Verifies {E : Type 0} (db : Database) (answer : Answer) (most : ℕ) (result : Result StatusWord E) (store : Held) (old new : Chip) : Type 0 where
+  -- The word is the answer's, and the database that of its machine.
   pub word : IfOk result (λ word. word ≡ answer.reply.word)
   pub rests : OnOk result (IsAtRest store new answer.machine.committed)
-  pub unrefused : (word : StatusWord) → result ≡ Err (Refused word) → ⊥
+  -- A power loss leaves the database from before, or one of those that are committed.
   pub moments : LeavesOneOf (db ∷ answer.commits) old new
+  -- What commits nothing writes nothing, and else at most so many octets are written.
   pub unwritten : OnOk result (answer.commits ≡ [] → new ≡ old)
   pub octets : OnOk result (Becomes (RisesAtMost most) old.written new.written)
+
+-- and nothing refused it
+pub record VerifiesUnrefused (db : Database) (answer : Answer) (most : ℕ) (result : Result StatusWord Stop) (store : Held) (old new : Chip) : Type 0 where
+  pub verifies : Verifies db answer most result store old new
+  pub unrefused : (word : StatusWord) → result ≡ Err (Refused word) → ⊥
+
+-- How it ends that a secret is compared with that of the user of a stamp, outside of a transaction.
+pub record VerifiesSecret {S E : Type 0} (chip : S → Chip) (faults : S → ℕ) (user : ℕ) (secret : List ℕ) (before after : S) (old new : Held) (result : Result StatusWord E) : Type 0 where
+  -- Where the user has one, it is answered as the model does,
+  pub verifies : (db : Database) → HoldsSecret old (chip before) db user → Verifies db (verdict db user secret) (octets_for_verdict db user secret) result new (chip before) (chip after)
+  -- and where it is done, there was a moment at which a power loss may leave one try less.
+  pub lowered : (db : Database) (holder : User) → HoldsSecret old (chip before) db user → user_stamped db.users user ≡ Some holder
+      → IfOk result (λ word. word ≡ done → LeavesOnce (with_tries db holder (holder.tries - 1)) (chip before) (chip after))
+  -- Whatever the user has, some database is held, the store is idle again, and every row is in its slot still.
+  pub holds : (db : Database) → IsAtRest old (chip before) db → OnOk result ((next : Database) × IsAtRest new (chip after) next)
+  pub goes_on : OnOk result (GoesOn old new (chip before) (chip after))
+  pub rows : (side : Side) → OnOk result (KeepsRows (slots_of old side (chip before)) (slots_of new side (chip after)))
+  -- Nothing is written behind the image. A fault of the EEPROM was counted.
+  pub behind : Keeps (drop (image_size old.chains.cells)) (chip before) (chip after)
+  pub cause : Counts (faults before) (faults after) result

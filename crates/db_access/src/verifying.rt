@@ -1,9 +1,9 @@
 // VERIFY.
-ghost use Rattle.std.specs.Prelude.{◌≡◌, ◌+◌, ◌-◌, ◌<◌, [], ◌∷◌, Some, drop, IfOk, IfSome, IsErrOf, OnOk, option_map};
+ghost use Rattle.std.specs.Prelude.{◌≡◌, ◌+◌, ◌-◌, ◌<◌, Some, drop, IfOk, IfSome, IsErrOf, option_map};
 ghost use Rattle.std.specs.List.{find};
 ghost use Rattle.std.specs.Str.{bytes_eq};
-ghost use Rattle.eeprom.specs.Chip.{Becomes, Keeps, RisesAtMost};
-ghost use Rattle.eeprom.specs.Fault.{Counts, CountsFaults, each_error};
+ghost use Rattle.eeprom.specs.Chip.{Keeps};
+ghost use Rattle.eeprom.specs.Fault.{CountsFaults, each_error};
 ghost use Rattle.eeprom.specs.Frame.{Reads};
 ghost use Rattle.eeprom.specs.Slots.{Rises, has};
 ghost use Rattle.eeprom.specs.StoreOf.{image_size};
@@ -15,10 +15,10 @@ ghost use Rattle.scql_base.specs.declared.records.User.{User};
 ghost use Rattle.scql_model.specs.Database.{Database, user_stamped};
 ghost use Rattle.scql_model.specs.Step.{with_tries};
 ghost use Rattle.catalog_codec.specs.Catalog.{user_kind};
-ghost use Rattle.record_table.specs.AtRest.{IsAtRest, IsIdleOver, LeavesOnce, LeavesOneOf};
+ghost use Rattle.record_table.specs.AtRest.{IsAtRest, IsIdleOver, LeavesOnce};
 ghost use Rattle.record_table.specs.Listed.{at_slot, listed, slots_of};
 ghost use Rattle.record_table.specs.Making.{GoesOn, KeepsRows, is_stop_fault};
-ghost use Rattle.db_access.specs.Verifying.{HoldsSecret, Verifies, octets_for_verdict, verdict};
+ghost use Rattle.db_access.specs.Verifying.{HoldsSecret, VerifiesSecret, VerifiesUnrefused, octets_for_verdict, verdict};
 
 use eeprom::{Eeprom, EepromFault};
 use record_store::{Found, Side, SideReader, Store};
@@ -34,23 +34,7 @@ pub fn verify<B: Eeprom>(
     secret: &[u8],
 ) -> Result<StatusWord, EepromFault>
     requires rests { IsIdleOver store.old (B.chip bench.old) }
-    ensures word { (db : Database) → HoldsSecret store.old (B.chip bench.old) db user → IfOk result (λ word. word ≡ (verdict db user secret.now).reply.word) }
-    ensures rests { (db : Database) → HoldsSecret store.old (B.chip bench.old) db user → OnOk result (IsAtRest store.new (B.chip bench.new) (verdict db user secret.now).machine.committed) }
-    // Whatever the user has, some database is held.
-    ensures holds { (db : Database) → IsAtRest store.old (B.chip bench.old) db → OnOk result ((next : Database) × IsAtRest store.new (B.chip bench.new) next) }
-    // A power loss leaves the database from before, or one of those that are committed.
-    ensures moments { (db : Database) → HoldsSecret store.old (B.chip bench.old) db user → LeavesOneOf (db ∷ (verdict db user secret.now).commits) (B.chip bench.old) (B.chip bench.new) }
-    // Where it is done, there was a moment at which a power loss may leave one try less.
-    ensures lowered { (db : Database) (holder : User) → HoldsSecret store.old (B.chip bench.old) db user → user_stamped db.users user ≡ Some holder
-        → IfOk result (λ word. word ≡ done → LeavesOnce (with_tries db holder (holder.tries - 1)) (B.chip bench.old) (B.chip bench.new)) }
-    ensures unwritten { (db : Database) → HoldsSecret store.old (B.chip bench.old) db user → (verdict db user secret.now).commits ≡ [] → OnOk result (B.chip bench.new ≡ B.chip bench.old) }
-    ensures octets_written { (db : Database) → HoldsSecret store.old (B.chip bench.old) db user
-        → OnOk result (Becomes (RisesAtMost (octets_for_verdict db user secret.now)) (B.chip bench.old).written (B.chip bench.new).written) }
-    // The store is idle again.
-    ensures goes_on { OnOk result (GoesOn store.old store.new (B.chip bench.old) (B.chip bench.new)) }
-    ensures rows { (side : Side) → OnOk result (KeepsRows (slots_of store.old side (B.chip bench.old)) (slots_of store.new side (B.chip bench.new))) }
-    ensures behind { Keeps (drop (image_size store.old.chains.cells)) (B.chip bench.old) (B.chip bench.new) }
-    ensures cause { Counts (B.faults bench.old) (B.faults bench.new) result }
+    ensures { VerifiesSecret B.chip B.faults user secret.now bench.old bench.new store.old store.new result }
 {
     match try_secret(store, bench, user, secret) {
         Ok(word) => Ok(word),
@@ -68,7 +52,7 @@ fn try_secret<B: Eeprom>(
 ) -> Result<StatusWord, Stop>
     requires rests { IsIdleOver store.old (B.chip bench.old) }
     ensures verifies { (db : Database) → HoldsSecret store.old (B.chip bench.old) db user
-        → Verifies db (verdict db user secret.now) (octets_for_verdict db user secret.now) result store.new (B.chip bench.old) (B.chip bench.new) }
+        → VerifiesUnrefused db (verdict db user secret.now) (octets_for_verdict db user secret.now) result store.new (B.chip bench.old) (B.chip bench.new) }
     ensures lowered { (db : Database) (holder : User) → HoldsSecret store.old (B.chip bench.old) db user → user_stamped db.users user ≡ Some holder
         → IfOk result (λ word. word ≡ done → LeavesOnce (with_tries db holder (holder.tries - 1)) (B.chip bench.old) (B.chip bench.new)) }
     ensures holds { (db : Database) → IsAtRest store.old (B.chip bench.old) db → ¬ IsErrOf result Stop.Fault → (next : Database) × IsAtRest store.new (B.chip bench.new) next }

@@ -26,7 +26,7 @@ use Rattle.record_table.proofs.Ending.{KeepsRows-same, refused-on}
 use Rattle.record_store.proofs.Fronts.{Keeps-then}
 use Rattle.db_access.specs.Verifying.{octets_for_verdict, verdict}
 use Rattle.db_access.proofs.Tries.{fewer_tries, fits-tries, valid-tries}
-use Rattle.db_access.proofs.Verdicts.{Verifies-failed, Verifies-right, Verifies-stopped, Verifies-stopped_again, Verifies-unwritten, Verifies-wrong, commits-first, octets-right, octets-wrong, restores, room-changed, stamped-held, verdict-blocked, verdict-none, verdict-right, verdict-wrong}
+use Rattle.db_access.proofs.Verdicts.{Unrefused-failed, Unrefused-right, Unrefused-stopped, Unrefused-stopped_again, Unrefused-unwritten, Unrefused-wrong, commits-first, octets-right, octets-wrong, restores, room-changed, stamped-held, verdict-blocked, verdict-none, verdict-right, verdict-wrong}
 use Rattle.db_access.proofs.verifying.try_secret.Given.{Over}
 use Rattle.db_access.proofs.verifying.try_secret.Goals as goal
 use Rattle.db_access.proofs.verifying.try_secret.Goals.{After-commit_in_place}
@@ -80,7 +80,7 @@ valid_restored g c db rest = valid-tries db c.args.user c.in-Some.field-0.value 
 
 pub returns-in_err-slot-clause-verifies : goal.returns-in_err-slot-clause-verifies
 returns-in_err-slot-clause-verifies g c = λ db holds.
-    Verifies-failed db (verdict db c.args.user c.args.secret.now) (octets_for_verdict db c.args.user c.args.secret.now) (g.B.Eeprom.chip c.args.bench.now) c.from_residual.result c.args.store.now (g.B.Eeprom.chip c.find_committed.new.bench)
+    Unrefused-failed db (verdict db c.args.user c.args.secret.now) (octets_for_verdict db c.args.user c.args.secret.now) (g.B.Eeprom.chip c.args.bench.now) c.from_residual.result c.args.store.now (g.B.Eeprom.chip c.find_committed.new.bench)
     c.from_residual.ensures.1 c.in_err-slot.ensures.frame.same (opens-rest c.args.store.now (g.B.Eeprom.chip c.args.bench.now) db c.requires.rests.over holds.rest)
 
 pub returns-in_default-clause-verifies : goal.returns-in_default-clause-verifies
@@ -88,7 +88,7 @@ returns-in_default-clause-verifies g c = λ db holds.
     let old = g.B.Eeprom.chip c.args.bench.now in
     let same = c.in_ok-slot.ensures.frame.same in
     let none = stamped-held c.args.store.now Committed old db c.args.user _ holds.rest c.in_ok-slot.ensures.found ∙ ap (option_map (λ found. found.value)) c.in_default.is in
-    Verifies-unwritten db (verdict db c.args.user c.args.secret.now) (octets_for_verdict db c.args.user c.args.secret.now) old c.args.user _ c.args.store.now (g.B.Eeprom.chip c.find_committed.new.bench)
+    Unrefused-unwritten db (verdict db c.args.user c.args.secret.now) (octets_for_verdict db c.args.user c.args.secret.now) old c.args.user _ c.args.store.now (g.B.Eeprom.chip c.find_committed.new.bench)
     (verdict-none db c.args.user c.args.secret.now none) (subst (λ (chip : Chip). IsAtRest c.args.store.now chip db) (sym same) holds.rest) same (opens-rest c.args.store.now old db c.requires.rests.over holds.rest)
 
 pub returns-then-is_empty-clause-verifies : goal.returns-then-is_empty-clause-verifies
@@ -102,7 +102,7 @@ returns-then-holder-eq0-clause-verifies g c = λ db holds.
     let old = g.B.Eeprom.chip c.args.bench.now in
     let same = c.in_ok-slot.ensures.frame.same in
     let found = stamped-held c.args.store.now Committed old db c.args.user _ holds.rest c.in_ok-slot.ensures.found ∙ ap (option_map (λ found. found.value)) c.in-Some.is in
-    Verifies-unwritten db (verdict db c.args.user c.args.secret.now) (octets_for_verdict db c.args.user c.args.secret.now) old c.args.user _ c.args.store.now (g.B.Eeprom.chip c.find_committed.new.bench)
+    Unrefused-unwritten db (verdict db c.args.user c.args.secret.now) (octets_for_verdict db c.args.user c.args.secret.now) old c.args.user _ c.args.store.now (g.B.Eeprom.chip c.find_committed.new.bench)
     (verdict-blocked db c.args.user c.args.secret.now c.in-Some.field-0.value found c.if-holder-eq0.true) (subst (λ (chip : Chip). IsAtRest c.args.store.now chip db) (sym same) holds.rest) same
     (opens-rest c.args.store.now old db c.requires.rests.over holds.rest)
 
@@ -111,7 +111,7 @@ pub returns-in_err-commit_in_place-clause-verifies : goal.returns-in_err-commit_
 returns-in_err-commit_in_place-clause-verifies g c = λ db holds.
     let w = (goal.at.returns-in_err-commit_in_place-clause-verifies g c).After-commit_in_place in
     let commits = commits-first db c.args.user c.args.secret.now c.in-Some.field-0.value (stamped g w db holds.rest) (some g w) in
-    Verifies-stopped db (verdict db c.args.user c.args.secret.now) (octets_for_verdict db c.args.user c.args.secret.now) (g.B.Eeprom.chip c.args.bench.now) (lowered g w db) (one_change g w) c.commit_in_place.result
+    Unrefused-stopped db (verdict db c.args.user c.args.secret.now) (octets_for_verdict db c.args.user c.args.secret.now) (g.B.Eeprom.chip c.args.bench.now) (lowered g w db) (one_change g w) c.commit_in_place.result
     c.in_err-commit_in_place.field-0.0 c.from_residual-in_err-commit_in_place.result c.commit_in_place.new.store (g.B.Eeprom.chip c.commit_in_place.new.bench) commits.0 commits.1 c.in_err-commit_in_place.was
     c.from_residual-in_err-commit_in_place.ensures.1 (first g w db holds.rest)
 
@@ -142,7 +142,7 @@ returns-then-not-is_same-clause-verifies g c = λ db holds.
     let w = (goal.at.returns-then-not-is_same-clause-verifies g c).After-commit_in_place in
     let found = stamped g w db holds.rest in
     let wrong : bytes_eq c.args.secret.now c.in-Some.field-0.value.secret ≡ false = rw (c.is_same.ensures, c.as_slice-2.ensures.octets) at c.if-not-is_same.true in
-    Verifies-wrong db (verdict db c.args.user c.args.secret.now) (octets_for_verdict db c.args.user c.args.secret.now) (g.B.Eeprom.chip c.args.bench.now) (lowered g w db) (one_change g w) c.in_ok-commit_in_place.field-0 c.args.user c.in-Some.field-0.value
+    Unrefused-wrong db (verdict db c.args.user c.args.secret.now) (octets_for_verdict db c.args.user c.args.secret.now) (g.B.Eeprom.chip c.args.bench.now) (lowered g w db) (one_change g w) c.in_ok-commit_in_place.field-0 c.args.user c.in-Some.field-0.value
     c.wrong_secret.result c.commit_in_place.new.store (g.B.Eeprom.chip c.commit_in_place.new.bench) (verdict-wrong db c.args.user c.args.secret.now c.in-Some.field-0.value found (some g w) wrong) refl c.wrong_secret.ensures
     (octets-wrong db c.args.user c.args.secret.now c.in-Some.field-0.value found (some g w) wrong) (rw c.in_ok-commit_in_place.was at (first g w db holds.rest))
 
@@ -166,7 +166,7 @@ returns-in_err-commit_in_place-2-clause-verifies g c = λ db holds.
     let found = stamped g w db rest in
     let right : bytes_eq c.args.secret.now c.in-Some.field-0.value.secret ≡ true = rw (c.is_same.ensures, c.as_slice-2.ensures.octets) at c.if-not-is_same.false in
     let is = verdict-right db c.args.user c.args.secret.now c.in-Some.field-0.value found (some g w) right in
-    Verifies-stopped_again db (verdict db c.args.user c.args.secret.now) (octets_for_verdict db c.args.user c.args.secret.now) (g.B.Eeprom.chip c.args.bench.now) (lowered g w db) (one_change g w) (with_tries db c.in-Some.field-0.value ALL_TRIES)
+    Unrefused-stopped_again db (verdict db c.args.user c.args.secret.now) (octets_for_verdict db c.args.user c.args.secret.now) (g.B.Eeprom.chip c.args.bench.now) (lowered g w db) (one_change g w) (with_tries db c.in-Some.field-0.value ALL_TRIES)
     c.in_ok-commit_in_place.field-0 c.commit_in_place.new.store (g.B.Eeprom.chip c.commit_in_place.new.bench) one still c.commit_in_place-2.result c.in_err-commit_in_place-2.field-0.0 c.from_residual-in_err-commit_in_place-2.result
     c.commit_in_place-2.new.store (g.B.Eeprom.chip c.commit_in_place-2.new.bench) (ap (λ (a : Answer). a.commits) is) c.in_err-commit_in_place-2.was c.from_residual-in_err-commit_in_place-2.ensures.1 two
 
@@ -204,7 +204,7 @@ returns-clause-verifies g c = λ db holds.
     let found = stamped g w db rest in
     let right : bytes_eq c.args.secret.now c.in-Some.field-0.value.secret ≡ true = rw (c.is_same.ensures, c.as_slice-2.ensures.octets) at c.if-not-is_same.false in
     let is = verdict-right db c.args.user c.args.secret.now c.in-Some.field-0.value found (some g w) right in
-    Verifies-right db (verdict db c.args.user c.args.secret.now) (octets_for_verdict db c.args.user c.args.secret.now) (g.B.Eeprom.chip c.args.bench.now) (lowered g w db) (one_change g w) (with_tries db c.in-Some.field-0.value ALL_TRIES)
+    Unrefused-right db (verdict db c.args.user c.args.secret.now) (octets_for_verdict db c.args.user c.args.secret.now) (g.B.Eeprom.chip c.args.bench.now) (lowered g w db) (one_change g w) (with_tries db c.in-Some.field-0.value ALL_TRIES)
     c.in_ok-commit_in_place.field-0 c.commit_in_place.new.store (g.B.Eeprom.chip c.commit_in_place.new.bench) one still c.in_ok-commit_in_place-2.field-0 c.args.user c.in-Some.field-0.value c.commit_in_place-2.new.store
     (g.B.Eeprom.chip c.commit_in_place-2.new.bench) is refl refl (octets-right db c.args.user c.args.secret.now c.in-Some.field-0.value found (some g w) right) (rw c.in_ok-commit_in_place-2.was at two)
 

@@ -1,12 +1,14 @@
 -- What VERIFY does over the database of the card's machine, it does on the channel.
-use Rattle.std.proofs.Common.{rules, ◌≡◌, ◌∙◌, ◌==◌, ℕ, Bool, [], Ok, if◌then◌else◌, sym, ap, subst}
-use Rattle.std.specs.Prelude.{IfOk}
+use Rattle.std.proofs.Common.{rules, ◌≡◌, ◌∙◌, ◌==◌, ℕ, Bool, [], Result, Ok, Err, if◌then◌else◌, sym, ap, subst}
+use Rattle.std.specs.Prelude.{IfOk, OnOk}
+use Rattle.eeprom.specs.declared.fault.EepromFault.{EepromFault}
 use Rattle.scql_base.specs.Words.{done}
+use Rattle.scql_base.specs.declared.words.StatusWord.{StatusWord}
 use Rattle.scql_model.specs.Bound.{octets_verified, or_nothing}
 use Rattle.scql_model.specs.Machine.{Machine}
 use Rattle.scql_model.specs.Sessions.{proving}
 use Rattle.scql_model.specs.Step.{answered, verified}
-use Rattle.db_access.specs.Verifying.{HoldsSecret}
+use Rattle.db_access.specs.Verifying.{HoldsSecret, verdict}
 use Rattle.card.specs.Answering.{Performs, changing_session, settled}
 use Rattle.card.specs.Card.{Kept, StandsOver, IsAt}
 use Rattle.card.specs.Sessions.{sessions_of}
@@ -34,13 +36,19 @@ holds g c m from =
     subst (λ (kept : Kept). HoldsSecret kept.store (g.B.Eeprom.chip c.args.bench.now) m.committed c.in-Some.user) (sym c.self.view_is)
     (secret-held c.args.self.now (g.B.Eeprom.chip c.args.bench.now) m c.args.channel.number c.in-Some.user c.args.secret.now c.requires.ready from c.requires.closed (user g c m from))
 
+-- what commits nothing and is answered writes nothing
+unwritten : (P Q : Type 0) (result : Result StatusWord EepromFault) → OnOk result (P → Q) → P → OnOk result Q
+unwritten P Q (Ok word) on p = on p
+unwritten P Q (Err fault) on p = tt
+
 performs : (g : _) (c : After-verify g) (m : Machine) (after : Kept) → IsAt c.args.self.now (g.B.Eeprom.chip c.args.bench.now) m
     → IfOk c.verify.result (λ word. let next : Kept = record c.args.self.now { store = c.verify.new.store } in after ≡ settled word (if word.word == done.word then changing_session proving next c.args.channel.number else next) c.args.channel.number)
     → Performs m (answered m (verified m c.args.channel.number c.args.secret.now)) (or_nothing (octets_verified m c.args.channel.number c.args.secret.now)) [] c.verify.result after (g.B.Eeprom.chip c.args.bench.now) (g.B.Eeprom.chip c.verify.new.bench)
 performs g c m after from set =
-    let held = holds g c m from in
+    let v = c.verify.ensures.verifies m.committed (holds g c m from) in
     Performs-verified c.args.self.now (g.B.Eeprom.chip c.args.bench.now) m c.args.channel.number c.in-Some.user c.args.secret.now c.requires.ready from c.requires.closed (user g c m from) c.verify.new.store (g.B.Eeprom.chip c.verify.new.bench) c.verify.result after
-    (c.verify.ensures.word m.committed held) (c.verify.ensures.rests m.committed held) (c.verify.ensures.moments m.committed held) (c.verify.ensures.unwritten m.committed held) (c.verify.ensures.octets_written m.committed held) set
+    v.word v.rests v.moments
+    (unwritten ((verdict m.committed c.in-Some.user c.args.secret.now).commits ≡ []) (g.B.Eeprom.chip c.verify.new.bench ≡ g.B.Eeprom.chip c.args.bench.now) c.verify.result v.unwritten) v.octets set
 
 pub returns-in_err-word-clause-carries : goal.returns-in_err-word-clause-carries
 returns-in_err-word-clause-carries g c = record {
@@ -72,9 +80,9 @@ pub returns-clause-carries : goal.returns-clause-carries
 returns-clause-carries g c = record {
   performs = λ m from.
       let w = (goal.at.returns-clause-carries g c).After-verify in
-      let held = holds g w m from in
+      let v = c.in_ok-word.ensures.verifies m.committed (holds g w m from) in
       Performs-verified c.args.self.now (g.B.Eeprom.chip c.args.bench.now) m c.args.channel.number c.in-Some.user c.args.secret.now c.requires.ready from c.requires.closed (user g w m from) c.verify.new.store (g.B.Eeprom.chip c.verify.new.bench) (Ok c.in_ok-word.word) c.settle.new.self
-      (c.in_ok-word.ensures.word m.committed held) (c.in_ok-word.ensures.rests m.committed held) (c.in_ok-word.ensures.moments m.committed held) (c.in_ok-word.ensures.unwritten m.committed held) (c.in_ok-word.ensures.octets_written m.committed held) (settles g c);
+      v.word v.rests v.moments v.unwritten v.octets (settles g c);
   ready = (let old = g.B.Eeprom.chip c.args.bench.now in
       let new = g.B.Eeprom.chip c.verify.new.bench in
       let before : Kept = record { store = c.self.inside.tables.store; index = c.self.inside.tables.index; sessions = sessions_of c.self.inside.sessions.value c.self.inside.chains.value; transaction = c.self.inside.transaction; found = c.self.inside.found.value; live = c.self.inside.live } in
@@ -93,4 +101,4 @@ returns-clause-lowered g c = λ m from.
     let w = (goal.at.returns-clause-lowered g c).After-verify in
     let held = holds g w m from in
     lowered-first c.args.self.now (g.B.Eeprom.chip c.args.bench.now) m c.args.channel.number c.in-Some.user c.args.secret.now c.requires.ready from c.requires.closed (user g w m from) c.verify.new.store (g.B.Eeprom.chip c.verify.new.bench) (Ok c.in_ok-word.word)
-    (c.in_ok-word.ensures.word m.committed held) (λ holder stored. c.in_ok-word.ensures.lowered m.committed holder held stored)
+    (c.in_ok-word.ensures.verifies m.committed held).word (λ holder stored. c.in_ok-word.ensures.lowered m.committed holder held stored)
