@@ -1,16 +1,11 @@
 // A cursor moves: OPEN, NEXT, FETCH and FETCH NEXT.
-ghost use Rattle.std.specs.Prelude.{◌≡◌, ℕ, List, IfOk, IfSome, IsTrue, OnErr};
-ghost use Rattle.eeprom.specs.Chip.{Becomes, RisesAtMost};
+ghost use Rattle.std.specs.Prelude.{◌≡◌, IfSome, OnErr};
 ghost use Rattle.eeprom.specs.Fault.{each_error};
 ghost use Rattle.scql_model.specs.Cursors.{IsCursorOf};
 ghost use Rattle.scql_model.specs.Database.{Database};
-ghost use Rattle.scql_model.specs.Moves.{moved};
-ghost use Rattle.scql_model.specs.ReadBound.{IsOnTableOrView, RisesAtLeast};
-ghost use Rattle.cursor.specs.Moved.{refuses};
-ghost use Rattle.db_read.specs.Motion.{answer_of, command_of, least_by};
+ghost use Rattle.db_read.specs.Advanced.{AnswersMotion};
 ghost use Rattle.db_read.specs.Reader.{read_so_far, ReadsFrom, ReadsOn};
 ghost use Rattle.db_read.specs.Scan.{IsRightFor};
-ghost use Rattle.db_read.specs.Searched.{octets_for_operation};
 
 use crate::choosing::choose;
 use crate::going::go;
@@ -30,19 +25,12 @@ pub fn advance<B: Eeprom>(
     out: &mut Row,
     scan: &mut Scan,
 ) -> Result<StatusWord, EepromFault>
-    ensures moved { (db : Database) → ReadsFrom reader.old db → IfSome cursor.old (IsCursorOf db) → IsRightFor db actor scan.old cursor.old → (pending : List ℕ)
-        → IfOk result (λ word. moved db actor (record { cursor = cursor.old; pending = pending }) (command_of motion) ≡ answer_of motion word cursor.new out.new) }
-    // A refusal and a fault leave the cursor.
-    ensures refused { (db : Database) → ReadsFrom reader.old db → IfSome cursor.old (IsCursorOf db) → IsRightFor db actor scan.old cursor.old
-        → IfOk result (λ word. IsTrue (refuses word) → cursor.new ≡ cursor.old) }
+    ensures answers { (db : Database) → ReadsFrom reader.old db → IfSome cursor.old (IsCursorOf db) → IsRightFor db actor scan.old cursor.old
+        → AnswersMotion db actor motion cursor.old cursor.new out.new (read_so_far reader.old) (read_so_far reader.new) result }
+    // A fault leaves the cursor.
     ensures fault { OnErr result (cursor.new ≡ cursor.old) }
     // The scan stays right: for the cursor as it is afterwards.
     ensures right { (db : Database) → ReadsFrom reader.old db → IsRightFor db actor scan.old cursor.old → IsRightFor db actor scan.new cursor.new }
-    ensures octets_read { (db : Database) → ReadsFrom reader.old db → IfSome cursor.old (IsCursorOf db) → IsRightFor db actor scan.old cursor.old → IfSome cursor.old (IsOnTableOrView db)
-        → IfOk result (λ _. Becomes (RisesAtMost (octets_for_operation db actor cursor.old (command_of motion))) (read_so_far reader.old) (read_so_far reader.new)) }
-    // A row that is handed out was read.
-    ensures least { (db : Database) → ReadsFrom reader.old db → IfSome cursor.old (IsCursorOf db) → IsRightFor db actor scan.old cursor.old → IfSome cursor.old (IsOnTableOrView db)
-        → IfOk result (λ word. Becomes (RisesAtLeast (least_by motion word out.new)) (read_so_far reader.old) (read_so_far reader.new)) }
     ensures reads { ReadsOn each_error reader.old reader.new result }
 {
     let Some(held) = cursor else {

@@ -53,9 +53,9 @@ pub returns-in_ok-word-in-OpenCursor-clause-moves : goal.returns-in_ok-word-in-O
 returns-in_ok-word-in-OpenCursor-clause-moves g c = λ db held cursor right.
     let before = reading_in c.args.session.now in
     let word = c.in_ok-word-in-OpenCursor.word in
-    let reads = c.in_ok-word-in-OpenCursor.ensures in
+    let reads = c.in_ok-word-in-OpenCursor.ensures.answers db held cursor right in
     rw (c.settle-in-OpenCursor.ensures.body, c.settle-in-OpenCursor.ensures.word) (as-said (λ (command : ReadingCommand). move_of db c.args.actor before command ≡ move_to [] word c.advance.new.cursor c.settle-in-OpenCursor.new.pending) c.args.command.now asks.OpenCursor open_cursor (λ le. refl) c.in-OpenCursor.is
-    (move-answered db c.args.actor before open_cursor word c.advance.new.cursor c.settle-in-OpenCursor.new.pending (reads.moved db held cursor right before.pending) (reads.refused db held cursor right) c.settle-in-OpenCursor.ensures.pending))
+    (move-answered db c.args.actor before open_cursor word c.advance.new.cursor c.settle-in-OpenCursor.new.pending (reads.moved before.pending) reads.refused c.settle-in-OpenCursor.ensures.pending))
 
 pub returns-in_ok-word-in-OpenCursor-clause-octets_read : goal.returns-in_ok-word-in-OpenCursor-clause-octets_read
 returns-in_ok-word-in-OpenCursor-clause-octets_read g c = λ db held cursor right.
@@ -63,15 +63,15 @@ returns-in_ok-word-in-OpenCursor-clause-octets_read g c = λ db held cursor righ
     let a : Option ℕ = g.B.Eeprom.octets_read c.args.reader.now.bench.now in
     let b : Option ℕ = g.B.Eeprom.octets_read c.advance.new.reader.bench.now in
     as-said (λ (command : ReadingCommand). ReadsOctets (octets_for_operation db c.args.actor before.cursor command) db c.args.actor before command a b) c.args.command.now asks.OpenCursor open_cursor (λ le. refl) c.in-OpenCursor.is
-    (record { within = λ on. c.in_ok-word-in-OpenCursor.ensures.octets_read db held cursor right (on refl); row = λ asks. absurd cc })
+    (record { within = λ on. (c.in_ok-word-in-OpenCursor.ensures.answers db held cursor right).octets_read (on refl); row = λ asks. absurd cc })
 
 pub returns-in_ok-word-in-Next-clause-moves : goal.returns-in_ok-word-in-Next-clause-moves
 returns-in_ok-word-in-Next-clause-moves g c = λ db held cursor right.
     let before = reading_in c.args.session.now in
     let word = c.in_ok-word-in-Next.word in
-    let reads = c.in_ok-word-in-Next.ensures in
+    let reads = c.in_ok-word-in-Next.ensures.answers db held cursor right in
     rw (c.settle-in-Next.ensures.body, c.settle-in-Next.ensures.word) (as-said (λ (command : ReadingCommand). move_of db c.args.actor before command ≡ move_to [] word c.advance-in-Next.new.cursor c.settle-in-Next.new.pending) c.args.command.now asks.Next next (λ le. refl) c.in-Next.is
-    (move-answered db c.args.actor before next word c.advance-in-Next.new.cursor c.settle-in-Next.new.pending (reads.moved db held cursor right before.pending) (reads.refused db held cursor right) c.settle-in-Next.ensures.pending))
+    (move-answered db c.args.actor before next word c.advance-in-Next.new.cursor c.settle-in-Next.new.pending (reads.moved before.pending) reads.refused c.settle-in-Next.ensures.pending))
 
 pub returns-in_ok-word-in-Next-clause-octets_read : goal.returns-in_ok-word-in-Next-clause-octets_read
 returns-in_ok-word-in-Next-clause-octets_read g c = λ db held cursor right.
@@ -79,15 +79,15 @@ returns-in_ok-word-in-Next-clause-octets_read g c = λ db held cursor right.
     let a : Option ℕ = g.B.Eeprom.octets_read c.args.reader.now.bench.now in
     let b : Option ℕ = g.B.Eeprom.octets_read c.advance-in-Next.new.reader.bench.now in
     as-said (λ (command : ReadingCommand). ReadsOctets (octets_for_operation db c.args.actor before.cursor command) db c.args.actor before command a b) c.args.command.now asks.Next next (λ le. refl) c.in-Next.is
-    (record { within = λ on. c.in_ok-word-in-Next.ensures.octets_read db held cursor right (on refl); row = λ asks. absurd cc })
+    (record { within = λ on. (c.in_ok-word-in-Next.ensures.answers db held cursor right).octets_read (on refl); row = λ asks. absurd cc })
 
 pub returns-in_ok-word-in-Fetch-clause-moves : goal.returns-in_ok-word-in-Fetch-clause-moves
 returns-in_ok-word-in-Fetch-clause-moves g c = λ db held cursor right.
     let before = reading_in c.args.session.now in
     let le = c.unwrap_or-most.result in
-    let reads = c.in_ok-word-in-Fetch.ensures in
+    let reads = c.in_ok-word-in-Fetch.ensures.answers db held cursor right in
     MovesSo-fetch db c.args.actor c.args.command.now before le _ c.in-Fetch.is c.unwrap_or-most.ensures
-    (move-given db c.args.actor before (fetch le) le c.in_ok-word-in-Fetch.word c.advance-in-Fetch.new.cursor c.advance-in-Fetch.new.out _ (reads.moved db held cursor right before.pending) (reads.refused db held cursor right) (rw c.new-le.ensures at (c.give.ensures c.advance-in-Fetch.new.cursor)))
+    (move-given db c.args.actor before (fetch le) le c.in_ok-word-in-Fetch.word c.advance-in-Fetch.new.cursor c.advance-in-Fetch.new.out _ (reads.moved before.pending) reads.refused (rw c.new-le.ensures at (c.give.ensures c.advance-in-Fetch.new.cursor)))
 
 pub returns-in_ok-word-in-Fetch-clause-octets_read : goal.returns-in_ok-word-in-Fetch-clause-octets_read
 returns-in_ok-word-in-Fetch-clause-octets_read g c = λ db held cursor right.
@@ -95,20 +95,20 @@ returns-in_ok-word-in-Fetch-clause-octets_read g c = λ db held cursor right.
     let le = c.unwrap_or-most.result in
     let a : Option ℕ = g.B.Eeprom.octets_read c.args.reader.now.bench.now in
     let b : Option ℕ = g.B.Eeprom.octets_read c.advance-in-Fetch.new.reader.bench.now in
-    let reads = c.in_ok-word-in-Fetch.ensures in
-    let moves = move-given db c.args.actor before (fetch le) le c.in_ok-word-in-Fetch.word c.advance-in-Fetch.new.cursor c.advance-in-Fetch.new.out _ (reads.moved db held cursor right before.pending) (reads.refused db held cursor right) (rw c.new-le.ensures at (c.give.ensures c.advance-in-Fetch.new.cursor)) in
+    let reads = c.in_ok-word-in-Fetch.ensures.answers db held cursor right in
+    let moves = move-given db c.args.actor before (fetch le) le c.in_ok-word-in-Fetch.word c.advance-in-Fetch.new.cursor c.advance-in-Fetch.new.out _ (reads.moved before.pending) reads.refused (rw c.new-le.ensures at (c.give.ensures c.advance-in-Fetch.new.cursor)) in
     as-fetch (λ (command : ReadingCommand). ReadsOctets (octets_for_operation db c.args.actor before.cursor command) db c.args.actor before command a b) c.args.command.now le c.in-Fetch.is c.unwrap_or-most.ensures (record {
-      within = λ on. reads.octets_read db held cursor right (on refl);
-      row = λ asks on. row-read db c.args.actor before (fetch le) le c.in_ok-word-in-Fetch.word c.advance-in-Fetch.new.cursor c.advance-in-Fetch.new.out _ a b moves (rw c.new-le.ensures at (c.give.ensures c.advance-in-Fetch.new.cursor)) (reads.least db held cursor right on);
+      within = λ on. reads.octets_read (on refl);
+      row = λ asks on. row-read db c.args.actor before (fetch le) le c.in_ok-word-in-Fetch.word c.advance-in-Fetch.new.cursor c.advance-in-Fetch.new.out _ a b moves (rw c.new-le.ensures at (c.give.ensures c.advance-in-Fetch.new.cursor)) (reads.least on);
     })
 
 pub returns-in_ok-word-in-FetchNext-clause-moves : goal.returns-in_ok-word-in-FetchNext-clause-moves
 returns-in_ok-word-in-FetchNext-clause-moves g c = λ db held cursor right.
     let before = reading_in c.args.session.now in
     let le = c.unwrap_or-most.result in
-    let reads = c.in_ok-word-in-FetchNext.ensures in
+    let reads = c.in_ok-word-in-FetchNext.ensures.answers db held cursor right in
     MovesSo-fetch_next db c.args.actor c.args.command.now before le _ c.in-FetchNext.is c.unwrap_or-most.ensures
-    (move-given db c.args.actor before (fetch_next le) le c.in_ok-word-in-FetchNext.word c.advance-in-FetchNext.new.cursor c.advance-in-FetchNext.new.out _ (reads.moved db held cursor right before.pending) (reads.refused db held cursor right) (rw c.new-le.ensures at (c.give-in-FetchNext.ensures c.advance-in-FetchNext.new.cursor)))
+    (move-given db c.args.actor before (fetch_next le) le c.in_ok-word-in-FetchNext.word c.advance-in-FetchNext.new.cursor c.advance-in-FetchNext.new.out _ (reads.moved before.pending) reads.refused (rw c.new-le.ensures at (c.give-in-FetchNext.ensures c.advance-in-FetchNext.new.cursor)))
 
 pub returns-in_ok-word-in-FetchNext-clause-octets_read : goal.returns-in_ok-word-in-FetchNext-clause-octets_read
 returns-in_ok-word-in-FetchNext-clause-octets_read g c = λ db held cursor right.
@@ -116,9 +116,9 @@ returns-in_ok-word-in-FetchNext-clause-octets_read g c = λ db held cursor right
     let le = c.unwrap_or-most.result in
     let a : Option ℕ = g.B.Eeprom.octets_read c.args.reader.now.bench.now in
     let b : Option ℕ = g.B.Eeprom.octets_read c.advance-in-FetchNext.new.reader.bench.now in
-    let reads = c.in_ok-word-in-FetchNext.ensures in
-    let moves = move-given db c.args.actor before (fetch_next le) le c.in_ok-word-in-FetchNext.word c.advance-in-FetchNext.new.cursor c.advance-in-FetchNext.new.out _ (reads.moved db held cursor right before.pending) (reads.refused db held cursor right) (rw c.new-le.ensures at (c.give-in-FetchNext.ensures c.advance-in-FetchNext.new.cursor)) in
+    let reads = c.in_ok-word-in-FetchNext.ensures.answers db held cursor right in
+    let moves = move-given db c.args.actor before (fetch_next le) le c.in_ok-word-in-FetchNext.word c.advance-in-FetchNext.new.cursor c.advance-in-FetchNext.new.out _ (reads.moved before.pending) reads.refused (rw c.new-le.ensures at (c.give-in-FetchNext.ensures c.advance-in-FetchNext.new.cursor)) in
     as-fetch_next (λ (command : ReadingCommand). ReadsOctets (octets_for_operation db c.args.actor before.cursor command) db c.args.actor before command a b) c.args.command.now le c.in-FetchNext.is c.unwrap_or-most.ensures (record {
-      within = λ on. reads.octets_read db held cursor right (on refl);
-      row = λ asks on. row-read db c.args.actor before (fetch_next le) le c.in_ok-word-in-FetchNext.word c.advance-in-FetchNext.new.cursor c.advance-in-FetchNext.new.out _ a b moves (rw c.new-le.ensures at (c.give-in-FetchNext.ensures c.advance-in-FetchNext.new.cursor)) (reads.least db held cursor right on);
+      within = λ on. reads.octets_read (on refl);
+      row = λ asks on. row-read db c.args.actor before (fetch_next le) le c.in_ok-word-in-FetchNext.word c.advance-in-FetchNext.new.cursor c.advance-in-FetchNext.new.out _ a b moves (rw c.new-le.ensures at (c.give-in-FetchNext.ensures c.advance-in-FetchNext.new.cursor)) (reads.least on);
     })

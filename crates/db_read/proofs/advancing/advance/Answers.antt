@@ -1,5 +1,5 @@
 -- What was found is gone over, or else looked for first.
-use Rattle.std.proofs.Common.{◌≡◌, ◌*◌, Option, Some, is_some, true, sym, ap, subst, ◌∙◌}
+use Rattle.std.proofs.Common.{rules, ◌≡◌, ◌*◌, Option, Some, is_some, true, sym, ap, subst, ◌∙◌}
 use Rattle.eeprom.specs.Chip.{Becomes}
 use Rattle.eeprom.specs.StoreOf.{cell_size}
 use Rattle.scql_base.specs.declared.cursor.Place.{Place}
@@ -43,23 +43,21 @@ read g c db held cursor =
       | else-not-has_found w ↦ rw w.reader-is (nothing-chosen _ _)
     ]
 
-pub returns-clause-moved : goal.returns-clause-moved
-returns-clause-moved g c = λ db held cursor right pending.
+pub returns-clause-answers : goal.returns-clause-answers
+returns-clause-answers g c = λ db held cursor right.
+    let w = (goal.at.returns-clause-answers g c).After-go in
     let on = c.in-Some.held in
     let own : IsCursorOf db on = rw c.in-Some.is at cursor in
     let own_right : IsRight db c.args.actor c.args.scan.now on = rw c.in-Some.is at right in
-    let found = chosen g (goal.at.returns-clause-moved g c).After-go db held own_right in
-    let advances = c.in_ok-word.ensures.advances db c.args.actor on (still g (goal.at.returns-clause-moved g c).After-go db held) own (found-chosen db c.args.actor on c.scan-2.inside.is_found c.scan-2.inside.choice _ c.scan-2.view_is found.0 found.1) in
-    rw c.in-Some.is (moved-by c.args.motion db c.args.actor on c.go.new.place c.in_ok-word.word c.go.new.out pending advances.rows advances.under (sym c.goes_from.ensures ∙ c.if-not-goes_from.false) (advances.goes on) c.in_ok-word.ensures.stays)
-
-pub returns-clause-refused : goal.returns-clause-refused
-returns-clause-refused g c = λ db held cursor right refusing.
-    let on = c.in-Some.held in
-    let own : IsCursorOf db on = rw c.in-Some.is at cursor in
-    let own_right : IsRight db c.args.actor c.args.scan.now on = rw c.in-Some.is at right in
-    let found = chosen g (goal.at.returns-clause-refused g c).After-go db held own_right in
-    let advances = c.in_ok-word.ensures.advances db c.args.actor on (still g (goal.at.returns-clause-refused g c).After-go db held) own (found-chosen db c.args.actor on c.scan-2.inside.is_found c.scan-2.inside.choice _ c.scan-2.view_is found.0 found.1) in
-    ap (λ (place : Place). Some (record on { place = place })) (refused-stays c.args.motion on.place c.go.new.place c.in_ok-word.word c.go.new.out advances.rows on (advances.goes on) c.in_ok-word.ensures.stays refusing) ∙ sym c.in-Some.is
+    let found = chosen g w db held own_right in
+    let advances = c.in_ok-word.ensures.advances db c.args.actor on (still g w db held) own (found-chosen db c.args.actor on c.scan-2.inside.is_found c.scan-2.inside.choice _ c.scan-2.view_is found.0 found.1) in
+    record {
+      moved = λ pending. rw c.in-Some.is (moved-by c.args.motion db c.args.actor on c.go.new.place c.in_ok-word.word c.go.new.out pending advances.rows advances.under (sym c.goes_from.ensures ∙ c.if-not-goes_from.false) (advances.goes on) c.in_ok-word.ensures.stays);
+      refused = λ refusing.
+          ap (λ (place : Place). Some (record on { place = place })) (refused-stays c.args.motion on.place c.go.new.place c.in_ok-word.word c.go.new.out advances.rows on (advances.goes on) c.in_ok-word.ensures.stays refusing) ∙ sym c.in-Some.is;
+      octets_read = λ kind. rw c.in-Some.is (advanced-most db c.args.actor on c.args.motion c.go.new.place c.in_ok-word.word c.go.new.out _ _ _ (rw c.in-Some.is at kind) (read g w db held own) advances);
+      least = λ kind. advanced-least db c.args.actor on c.args.motion c.go.new.place c.in_ok-word.word c.go.new.out _ _ _ (rw c.in-Some.is at kind) (read g w db held own) advances;
+    }
 
 pub returns-clause-right : goal.returns-clause-right
 returns-clause-right g c = λ db held right.
@@ -67,40 +65,14 @@ returns-clause-right g c = λ db held right.
     let found = chosen g (goal.at.returns-clause-right g c).After-go db held own_right in
     right-moved db c.args.actor c.in-Some.held c.go.new.place _ (subst (λ (o : Option Found). IsRight db c.args.actor o c.in-Some.held) (sym c.scan-2.view_is) found.1)
 
-pub returns-clause-octets_read : goal.returns-clause-octets_read
-returns-clause-octets_read g c = λ db held cursor right kind.
+pub returns-in-Err-clause-answers : goal.returns-in-Err-clause-answers
+returns-in-Err-clause-answers g c = λ db held cursor right.
     let on = c.in-Some.held in
-    let reader = c.args.reader.now in
     let own : IsCursorOf db on = rw c.in-Some.is at cursor in
-    let own_right : IsRight db c.args.actor c.args.scan.now on = rw c.in-Some.is at right in
-    let found = chosen g (goal.at.returns-clause-octets_read g c).After-go db held own_right in
-    let advances = c.in_ok-word.ensures.advances db c.args.actor on (still g (goal.at.returns-clause-octets_read g c).After-go db held) own (found-chosen db c.args.actor on c.scan-2.inside.is_found c.scan-2.inside.choice _ c.scan-2.view_is found.0 found.1) in
-    rw c.in-Some.is (advanced-most db c.args.actor on c.args.motion c.go.new.place c.in_ok-word.word c.go.new.out _ _ _ (rw c.in-Some.is at kind)
-    (read g (goal.at.returns-clause-octets_read g c).After-go db held own) advances)
-
-pub returns-clause-least : goal.returns-clause-least
-returns-clause-least g c = λ db held cursor right kind.
-    let on = c.in-Some.held in
-    let reader = c.args.reader.now in
-    let own : IsCursorOf db on = rw c.in-Some.is at cursor in
-    let own_right : IsRight db c.args.actor c.args.scan.now on = rw c.in-Some.is at right in
-    let found = chosen g (goal.at.returns-clause-least g c).After-go db held own_right in
-    let advances = c.in_ok-word.ensures.advances db c.args.actor on (still g (goal.at.returns-clause-least g c).After-go db held) own (found-chosen db c.args.actor on c.scan-2.inside.is_found c.scan-2.inside.choice _ c.scan-2.view_is found.0 found.1) in
-    advanced-least db c.args.actor on c.args.motion c.go.new.place c.in_ok-word.word c.go.new.out _ _ _ (rw c.in-Some.is at kind)
-    (read g (goal.at.returns-clause-least g c).After-go db held own) advances
-
-pub returns-in-Err-clause-octets_read : goal.returns-in-Err-clause-octets_read
-returns-in-Err-clause-octets_read g c = λ db held cursor right kind.
-    let on = c.in-Some.held in
-    let reader = c.args.reader.now in
-    let own : IsCursorOf db on = rw c.in-Some.is at cursor in
-    rw c.in-Some.is (where-read _ _ c.in-Err.stop c.answer.result c.answer.ensures (c.in-Err.ensures.octets_read db held own)
-    (chosen-most db c.args.actor on c.args.motion _ _))
-
-pub returns-in-Err-clause-least : goal.returns-in-Err-clause-least
-returns-in-Err-clause-least g c = λ db held cursor right kind.
-    let on = c.in-Some.held in
-    let reader = c.args.reader.now in
-    let own : IsCursorOf db on = rw c.in-Some.is at cursor in
-    stopped-least c.args.motion c.args.out.now (rows_under db c.args.actor on) c.in-Err.stop c.answer.result _ _ c.answer.ensures (c.in-Err.ensures.refused db held own)
-    (chosen-least _ c.in-Err.stop _ _ (c.in-Err.ensures.octets_read db held own))
+    record {
+      moved = search rules;
+      refused = search rules;
+      octets_read = λ kind. rw c.in-Some.is (where-read _ _ c.in-Err.stop c.answer.result c.answer.ensures (c.in-Err.ensures.octets_read db held own) (chosen-most db c.args.actor on c.args.motion _ _));
+      least = λ kind. stopped-least c.args.motion c.args.out.now (rows_under db c.args.actor on) c.in-Err.stop c.answer.result _ _ c.answer.ensures (c.in-Err.ensures.refused db held own)
+          (chosen-least _ c.in-Err.stop _ _ (c.in-Err.ensures.octets_read db held own));
+    }
